@@ -1,0 +1,10 @@
+pub mod Both
+pub mod Finite
+pub mod Frac
+pub mod Compare
+pub mod Rounding
+pub mod Order
+pub mod Near
+pub mod Mix
+pub mod Reach
+pub mod Laws

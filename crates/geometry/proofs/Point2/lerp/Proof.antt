@@ -1,0 +1,21 @@
+-- `geometry::Point2::lerp` meets its contract. Assumes nothing.
+use Rattle.geometry.specs.Point.{lerp2}
+use borrow.Author.Needs.{needs}
+use Rattle.geometry.proofs.Point2.lerp.Statement.{statement}
+use Rattle.geometry.proofs.Point2.lerp.Tie as tie
+
+sub-requires : tie.Need-sub-requires
+sub-requires c κs = search needs
+
+mul-requires : tie.Need-mul-requires
+mul-requires c κs = search needs
+
+add-requires : tie.Need-add-requires
+add-requires c κs = search needs
+
+returns : tie.Need-returns
+unfolding lerp2
+returns c = cc
+
+pub lerp-spec : {M : Type 1} → statement M
+lerp-spec = tie.close (tie.spec sub-requires mul-requires add-requires returns)

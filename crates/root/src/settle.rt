@@ -1,0 +1,113 @@
+// The whole number nearest the root of a * 2 ^ 52, from any guess q at it, in 64-bit integers.
+ghost use mathlib.Core.Path.{_≡_};
+ghost use Prim.Native.Nat.{_+_, _*_, _-_, _≤_, _<_, _^_};
+ghost use mathlib.Core.Bool.{cond};
+ghost use lib.Dec.{ltb};
+ghost use Rattle.root.specs.Steps.{Rounded};
+use super::HIDDEN;
+
+// q is taken in two halves of this size: high * HALF + low.
+const HALF: u64 = 0x400_0000;
+
+// What is added to the rest a * 2 ^ 52 - q * q, so that it is never negative: BIAS * 2 ^ 27 + HIDDEN.
+const BIAS: u64 = 0x2000_0000;
+
+const MIDDLE: u64 = 0x110_0000_0000_0000;
+
+// The rest is taken a half at a time, and followed as long as it is small. A far guess is dropped.
+pub fn settle(a: u64, q: u64) -> u64
+    requires { ⌜ (2 ^ 52 ≤ a) × ((a ≤ 2 ^ 54 - 2) × ((2 ^ 52 ≤ q) × (q < 2 ^ 53))) ⌝ }
+    ensures { λ r. ⌜ Rounded a r ⌝ }
+{
+    let high = q / HALF;
+    let low = q % HALF;
+    let square = high * high;
+    if a < square {
+        return bisect(a);
+    }
+    if 0x4000_0000 <= a - square {
+        return bisect(a);
+    }
+    let upper = (a - square) * (HALF / 2) + BIAS;
+    let cross = high * low;
+    if upper < cross {
+        return bisect(a);
+    }
+    if 0x8000_0000 <= upper - cross {
+        return bisect(a);
+    }
+    mend(a, q, (upper - cross) * (HALF * 2) + HIDDEN - low * low)
+}
+
+// rest is a * 2 ^ 52 - q * q, with MIDDLE added: q, a neighbour, or, further off, a search.
+fn mend(a: u64, q: u64, rest: u64) -> u64
+    requires { ⌜ (2 ^ 52 ≤ a) × ((a ≤ 2 ^ 54 - 2) × ((2 ^ 52 ≤ q) × ((q < 2 ^ 53) × ((rest < 2 ^ 60) × (rest + q * q ≡ a * 2 ^ 52 + 76561193665298432))))) ⌝ }
+    ensures { λ r. ⌜ Rounded a r ⌝ }
+{
+    if MIDDLE + 3 * q < rest {
+        return bisect(a);
+    }
+    if rest + 3 * q <= MIDDLE + 2 {
+        return bisect(a);
+    }
+    q + above(MIDDLE + q, rest) - above(rest + q, MIDDLE + 1)
+}
+
+// 1 where x is below y, else 0.
+fn above(x: u64, y: u64) -> u64
+    ensures { λ r. ⌜ (r ≡ cond (ltb x y) 1 0) × (r ≤ 1) ⌝ }
+{
+    if x < y { 1 } else { 0 }
+}
+
+// The search by halves, a digit a turn: `low` reaches below the root of a * 2 ^ 52 rounded up, `high` does not.
+fn bisect(a: u64) -> u64
+    requires { ⌜ (2 ^ 52 ≤ a) × (a ≤ 2 ^ 54 - 2) ⌝ }
+    ensures { λ r. ⌜ Rounded a r ⌝ }
+{
+    let mut low = HIDDEN;
+    let mut high = HIDDEN * 2;
+    while 1 < high - low {
+        let middle = low + (high - low) / 2;
+        if reaches(a, middle) {
+            low = middle;
+        } else {
+            high = middle;
+        }
+    }
+    low
+}
+
+// Whether q * q < a * 2 ^ 52 + q.
+fn reaches(a: u64, q: u64) -> bool
+    requires { ⌜ (a < 2 ^ 54) × (q < 2 ^ 54) ⌝ }
+    ensures { λ r. ⌜ r ≡ ltb (q * q) (a * 2 ^ 52 + q) ⌝ }
+{
+    let s = square(q);
+    let high = a + q / HIDDEN;
+    if s.high == high {
+        return s.low < q % HIDDEN;
+    }
+    s.high < high
+}
+
+// high * 2 ^ 52 + low.
+struct Product {
+    high: u64,
+    low: u64,
+}
+
+// q * q in two digits.
+fn square(q: u64) -> Product
+    requires { ⌜ q < 2 ^ 54 ⌝ }
+    ensures { λ r. ⌜ (r .high * 2 ^ 52 + r .low ≡ q * q) × (r .low < 2 ^ 52) ⌝ }
+{
+    let high = q / HALF;
+    let low = q % HALF;
+    let cross = high * low;
+    let tail = cross % (HALF / 2) * (HALF * 2) + low * low;
+    Product {
+        high: high * high + cross / (HALF / 2) + tail / HIDDEN,
+        low: tail % HIDDEN,
+    }
+}

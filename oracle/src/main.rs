@@ -1,0 +1,133 @@
+//! The Rust of docs/src as a judge that runs. README.md says what each command does.
+
+// A table's length is written as the layout has it: one count and so many rows.
+#![allow(clippy::int_plus_one)]
+
+mod against;
+mod bench;
+mod cases;
+mod claims;
+mod damage;
+mod ffi;
+mod format;
+mod generate;
+mod lines;
+mod rng;
+mod rows;
+mod sound;
+mod step;
+mod tables;
+mod tally;
+
+use std::io::{self, Write};
+
+use format::Out;
+use generate::Profile;
+use tally::Tally;
+
+const USAGE: &str = "\
+oracle cases                       the ten cases of document 01
+oracle make SEED COUNT [small]     a stream of maps, calls and answers to standard output
+oracle lines SEED COUNT            the same for the line functions
+oracle check SEED COUNT            make them, keep nothing, and try document 01's claims on each call
+oracle against SEED COUNT          call by call beside the editor's library (feature against)
+oracle try SEED COUNT              the comparison, tried on the oracle itself with faults planted
+oracle bench                       times of the Rust, with and without a test of soundness
+oracle replay FILE                 read a stored stream and make its calls again
+oracle rows SEED COUNT DIR         COUNT calls as theorems about the definitions of the crate rules";
+
+fn make(seed: u64, count: usize, profile: Profile) -> io::Result<bool> {
+    let mut to = io::BufWriter::new(io::stdout().lock());
+    let mut out = Out::default();
+    let mut tally = Tally::default();
+    out.number(format::EDITS);
+    out.number(count as u64);
+    for index in 0..count {
+        let case = generate::case(seed, index, profile);
+        out.case(&case);
+        out.flush(&mut to)?;
+        tally.case(&case);
+        case.play(|t| {
+            tally.turn(&t);
+            true
+        });
+    }
+    to.flush()?;
+    tally.print();
+    Ok(true)
+}
+
+/// Every call keeps what document 01 claims of it.
+fn check(seed: u64, count: usize) -> bool {
+    let mut tally = Tally::default();
+    let mut broken = 0;
+    for index in 0..count {
+        let case = generate::case(seed, index, Profile::Full);
+        tally.case(&case);
+        case.play(|t| {
+            tally.turn(&t);
+            if let Err(claim) = claims::hold(&t) {
+                println!("map {index}: {:?}: {claim}", t.call);
+                broken += 1;
+            }
+            true
+        });
+    }
+    tally.print();
+    println!("{broken} claims broken");
+    broken == 0
+}
+
+fn replay(bytes: &[u8]) -> bool {
+    let said = if bytes.first() == Some(&(format::LINES as u8)) {
+        lines::replay(bytes)
+            .map(|(groups, calls)| format!("{groups} groups, {calls} calls, all as stored"))
+    } else {
+        format::replay(bytes).map(|(lent, maps, calls)| {
+            let mut text = format!("{maps} maps, {calls} calls, all as stored");
+            for (name, n) in tables::NAMES.iter().zip(lent) {
+                text += &format!("\n{name}: at most {n} lent");
+            }
+            text
+        })
+    };
+    let good = said.is_ok();
+    println!("{}", said.unwrap_or_else(|e| e));
+    good
+}
+
+fn main() {
+    let words: Vec<String> = std::env::args().skip(1).collect();
+    let words: Vec<&str> = words.iter().map(String::as_str).collect();
+    let number = |w: &str| -> u64 {
+        w.parse().unwrap_or_else(|_| {
+            eprintln!("{w} is not a number");
+            std::process::exit(2);
+        })
+    };
+    let good = match words[..] {
+        ["cases"] => cases::run(),
+        ["bench"] => bench::run(),
+        ["make", seed, count] => {
+            make(number(seed), number(count) as usize, Profile::Full).expect("standard output")
+        }
+        ["make", seed, count, "small"] => {
+            make(number(seed), number(count) as usize, Profile::Small).expect("standard output")
+        }
+        ["lines", seed, count] => {
+            lines::make(number(seed), number(count) as usize).expect("standard output")
+        }
+        ["check", seed, count] => check(number(seed), number(count) as usize),
+        ["against", seed, count] => against::run(number(seed), number(count) as usize),
+        ["try", seed, count] => against::try_out(number(seed), number(count) as usize),
+        ["rows", seed, count, dir] => {
+            rows::make(number(seed), number(count) as usize, dir.as_ref()).expect("a folder")
+        }
+        ["replay", file] => replay(&std::fs::read(file).expect("a file")),
+        _ => {
+            eprintln!("{USAGE}");
+            std::process::exit(2);
+        }
+    };
+    std::process::exit(!good as i32);
+}
