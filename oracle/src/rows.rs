@@ -20,8 +20,10 @@ const FILE: usize = 40;
 /// Rows of a map at most, spread over its calls.
 const SPREAD: usize = 4;
 
-/// Points of a map at most: beyond, a row takes more steps than a declaration may.
-const MOST: usize = 400;
+/// Points of a map at most, and of a line of it where a lane is split: beyond, a row can take more
+/// steps than a declaration may.
+const MOST: usize = 1500;
+const LONGEST: usize = 60;
 
 const SHAPES: &str = "\
 -- What the rows are written with.
@@ -127,7 +129,11 @@ fn float(x: f64) -> String {
 
 fn line(t: &Tables, start: u64, length: u64) -> String {
     let (a, n) = (start as usize, length as usize);
-    let points = if n == 0 { &[] } else { &t.xyz[3 * a..3 * (a + n)] };
+    let points = if n == 0 {
+        &[]
+    } else {
+        &t.xyz[3 * a..3 * (a + n)]
+    };
     list(
         points
             .chunks(3)
@@ -184,7 +190,13 @@ pub fn state(t: &Tables, counter: u64) -> String {
         )
     });
     out += &rows(t, BOUNDARIES, |r| {
-        format!("boundary {} {} {} {}", r[0], r[1], line(t, r[2], r[3]), r[4])
+        format!(
+            "boundary {} {} {} {}",
+            r[0],
+            r[1],
+            line(t, r[2], r[3]),
+            r[4]
+        )
     });
     out += &rows(t, ROADS, |r| {
         format!("road {} {} {} {}", r[0], r[1], r[2], ids(&r[3..]))
@@ -250,37 +262,40 @@ pub fn legible(t: &Tables) -> bool {
         && t.rows(RULES).all(|r| {
             r[rule::LANES].max(r[rule::CONTROLLED]) <= ids
                 && (r[1] >= kind::OTHER || r[rule::STOP_LINES] <= ids)
-                && (r[1] != kind::RIGHT_OF_WAY
-                    || r[rule::PRIORITY].max(r[rule::YIELDING]) <= ids)
+                && (r[1] != kind::RIGHT_OF_WAY || r[rule::PRIORITY].max(r[rule::YIELDING]) <= ids)
         });
     if !rows {
         return false;
     }
     let points = (t.xyz.len() / 3) as u64;
-    let mut spans: Vec<(u64, u64)> = t.rows(BOUNDARIES).map(|r| (r[2], r[3])).collect();
-    let explicit = t.rows(LANES).filter(|r| r[lane::CENTRE] == 1);
-    spans.extend(explicit.map(|r| (r[lane::START], r[lane::LENGTH])));
-    spans.extend(t.rows(STOP_LINES).map(|r| (r[1], r[2])));
-    spans.extend(
-        t.rows(CROSSWALKS)
-            .flat_map(|r| [(r[1], r[2]), (r[3], r[4])]),
-    );
-    spans.retain(|s| s.1 > 0);
+    let mut spans = spans(t);
     spans.sort();
     let stored = |s: &(u64, u64)| s.0 <= points && s.1 <= points - s.0;
     spans.iter().all(stored) && spans.windows(2).all(|w| w[0].0 + w[0].1 <= w[1].0)
 }
 
-/// How many points the lines of legible tables have.
-fn size(t: &Tables) -> usize {
-    let n: u64 = t.rows(BOUNDARIES).map(|r| r[3]).sum::<u64>()
-        + t.rows(LANES)
-            .filter(|r| r[lane::CENTRE] == 1)
-            .map(|r| r[lane::LENGTH])
-            .sum::<u64>()
-        + t.rows(STOP_LINES).map(|r| r[2]).sum::<u64>()
-        + t.rows(CROSSWALKS).map(|r| r[2] + r[4]).sum::<u64>();
-    n as usize
+/// Where the lines of the map lie: start and length.
+fn spans(t: &Tables) -> Vec<(u64, u64)> {
+    let mut out: Vec<(u64, u64)> = t.rows(BOUNDARIES).map(|r| (r[2], r[3])).collect();
+    let explicit = t.rows(LANES).filter(|r| r[lane::CENTRE] == 1);
+    out.extend(explicit.map(|r| (r[lane::START], r[lane::LENGTH])));
+    out.extend(t.rows(STOP_LINES).map(|r| (r[1], r[2])));
+    out.extend(
+        t.rows(CROSSWALKS)
+            .flat_map(|r| [(r[1], r[2]), (r[3], r[4])]),
+    );
+    out.retain(|s| s.1 > 0);
+    out
+}
+
+/// The row can be computed in the steps that a declaration may take.
+fn small(t: &Turn) -> bool {
+    let split = matches!(t.call, Call::SplitLane { .. });
+    [t.before, t.after].iter().all(|s| {
+        let lines = spans(&s.tables);
+        lines.iter().map(|s| s.1 as usize).sum::<usize>() <= MOST
+            && (!split || lines.iter().all(|s| s.1 as usize <= LONGEST))
+    })
 }
 
 fn side(s: Side) -> &'static str {
@@ -484,7 +499,7 @@ pub fn make(seed: u64, count: usize, dir: &Path) -> io::Result<bool> {
             case.play(|t| {
                 if call % every != every / 2 {
                     // Between two rows.
-                } else if size(&t.before.tables).max(size(&t.after.tables)) <= MOST {
+                } else if small(&t) {
                     file.row(index, call, at, &t);
                     tally.turn(&t);
                     if file.rows >= FILE {
@@ -508,6 +523,6 @@ pub fn make(seed: u64, count: usize, dir: &Path) -> io::Result<bool> {
     fs::write(dir.join("Lib.antt"), list)?;
     tally.print();
     eprintln!("{hidden:>8} maps left out: not sound as tables alone");
-    eprintln!("{long:>8} calls left out: more than {MOST} points");
+    eprintln!("{long:>8} calls left out: too many points");
     Ok(true)
 }

@@ -1,0 +1,204 @@
+-- connect, disconnect and set_neighbor obey the law, so demand 3 holds of every list of them.
+use mathlib.Core.Path.{_≡_, refl, sym, ap, _∙_, subst}
+use mathlib.Core.Bool.{Bool, true, false, not, _&&_, _||_, cond, true≢false}
+use mathlib.Core.List.{List, [], _∷_, _++_, map}
+use mathlib.Core.Option.{Option, none, some}
+use Prim.{Unit, tt}
+use Prim.Native.Nat.{ℕ}
+use native.Mathlib.Omega.{arith}
+use lib.Dec.{eqb, leb}
+use borrow.Author.Tests.{eqb-true, eqb-false, eq-eqb}
+use Rattle.entities.specs.Types.{reciprocal-side, laneEntity}
+use Rattle.entities.specs.declared.Tolerance.{Tolerance}
+use Rattle.entities.specs.declared.Side.{Side}
+use Rattle.entities.specs.declared.Neighbor.{Neighbor}
+use Rattle.entities.specs.declared.Refusal.{Refusal}
+use Rattle.entities.specs.declared.Refusal.the-variants as R
+use Rattle.entities.specs.declared.IssueCode.the-variants as C
+use Rattle.entities.specs.Records.{Lane, Map, Issue, ChangeSet}
+use Rattle.rules.specs.Map.{lane, leads-to, neighborOn, names}
+use Rattle.rules.specs.Sound.{sound, Room, withinLimits, lastCounter}
+use Rattle.rules.specs.Edit.{Res, refuse, yield, _>>=_, Passed, passed, check, require, Edited, require-lane, relinking, withLanes, lanesWhere, either, linkIn, linkOut, gapped, warning, no-op, when, connect, disconnect, set-neighbor, require-neighbor, sameSlot, slotIn, slotAfter, reslotted, relinked, unshared}
+use Rattle.rules.specs.Ops.{Command, SplitLane, MergeLanes, ConnectLanes, DisconnectLanes, SetNeighbor, RemoveLane, State, Call, edit, counterAfter}
+use Rattle.rules.specs.Demand.{Exact, Demand3}
+use Rattle.laws.proofs.Links.{connect-leads, disconnect-leads}
+use Rattle.laws.proofs.Connect.{connect-sound, disconnect-sound}
+use Rattle.laws.proofs.Still.{connect-exact, disconnect-exact, ids-up}
+use Rattle.laws.proofs.Exact.{relink-exact}
+use Rattle.laws.proofs.Slots.{heldAt}
+use Rattle.laws.proofs.Neighbors.{slotsOf, slotFound, Named}
+use Rattle.laws.proofs.SetNeighbor.{set-sound, set-exact, reslot-leads}
+use Rattle.laws.proofs.Law.{Law, Lawful, AllLawful, demand-3}
+
+-- ---- what a yielding step yields
+
+yields : {A : Type 0} {x y : A} → yield x ≡ yield y → x ≡ y
+yields e = cc
+
+no-yield : {A : Type 0} (r : Refusal) (y : A) → refuse r ≡ yield y → ⊥
+no-yield r y e = let z : _≡_ {A = ℕ} 0 1 = cc in nothing z
+  where
+    nothing : _≡_ {A = ℕ} 0 1 → ⊥
+    nothing z = omega arith
+
+-- a lane that is required and found
+required : {B : Type 0} (m : Map) (i : ℕ) (k : Lane → Res B) (e : B) → (require-lane m i >>= k) ≡ yield e → (l : Lane) × (lane m i ≡ some l) × (k l ≡ yield e)
+required m i k e h = go (lane m i) refl
+  where
+    go : (o : Option Lane) → lane m i ≡ o → (l : Lane) × (lane m i ≡ some l) × (k l ≡ yield e)
+    go none q = absurd (no-yield (R.LaneAbsent i) e (ap (λ o. require o (R.LaneAbsent i) >>= k) (sym q) ∙ h))
+    go (some l) q = (l, q, ap (λ o. require o (R.LaneAbsent i) >>= k) (sym q) ∙ h)
+
+-- a test that is passed
+checked : {B : Type 0} (b : Bool) (r : Refusal) (k : Passed → Res B) (e : B) → (check b r >>= k) ≡ yield e → (b ≡ true) × (k passed ≡ yield e)
+checked true r k e h = (refl, h)
+checked false r k e h = absurd (no-yield r e h)
+
+-- ---- connect
+
+module _ (tol : Tolerance) (a b : ℕ) where
+  pub connect-lawful : Lawful tol (ConnectLanes a b)
+  unfolding edit connect
+  connect-lawful s sane e h =
+      let m = s .map in
+      let (from, ea, h1) = required m a (λ from. require-lane m b >>= (λ to. check (not (eqb a b)) (R.OwnPartner a) >>= (λ ok. outcome m from to))) e h in
+      let (to, eb, h2) = required m b (λ to. check (not (eqb a b)) (R.OwnPartner a) >>= (λ ok. outcome m from to)) e h1 in
+      let (distinct, h3) = checked (not (eqb a b)) (R.OwnPartner a) (λ ok. outcome m from to) e h2 in
+      subst (λ x. Law (ConnectLanes a b) s x) (yields h3)
+      (record {
+        stays-sound = λ ids limits. connect-sound (s .counter) m a b from to ea eb sane limits;
+        books = connect-leads m a b from ea;
+        lists-exact = connect-exact (s .counter) m sane a b (warnings m from to);
+      })
+    where
+      warnings : Map → Lane → Lane → List Issue
+      warnings m from to =
+          when (gapped (tol .gap) m from to) (warning C.GeometricGap (laneEntity a) (laneEntity b ∷ [])) ++ when (leads-to m a b) (no-op a)
+
+      outcome : Map → Lane → Lane → Res Edited
+      outcome m from to =
+          yield (relinking (withLanes (map (linkIn a b) (m .lanes)) m) (lanesWhere (λ l. not (leads-to m a b) && either a b l) (m .lanes)) (warnings m from to))
+
+  -- ---- disconnect
+
+  pub disconnect-lawful : Lawful tol (DisconnectLanes a b)
+  unfolding edit disconnect
+  disconnect-lawful s sane e h =
+      let m = s .map in
+      let (from, ea, h1) = required m a (λ from. require-lane m b >>= (λ to. outcome m)) e h in
+      let (to, eb, h2) = required m b (λ to. outcome m) e h1 in
+      subst (λ x. Law (DisconnectLanes a b) s x) (yields h2)
+      (record {
+        stays-sound = λ ids limits. disconnect-sound (s .counter) m a b sane limits;
+        books = disconnect-leads m a b;
+        lists-exact = disconnect-exact (s .counter) m sane a b (when (not (leads-to m a b)) (no-op a));
+      })
+    where
+      outcome : Map → Res Edited
+      outcome m =
+          yield (relinking (withLanes (map (linkOut a b) (m .lanes)) m) (lanesWhere (λ l. leads-to m a b && either a b l) (m .lanes)) (when (not (leads-to m a b)) (no-op a)))
+
+-- ---- set_neighbor
+
+-- what the definition reads of the map is its slots
+old-slot : (m : Map) (a : ℕ) (l : Lane) → lane m a ≡ some l → (side : Side) → slotsOf m a side ≡ neighborOn side l
+unfolding slotsOf
+old-slot m a l e side = ap (λ o. slotFound o side) e
+
+other-slot : (m : Map) (side : Side) (new : Option Neighbor) → heldAt (slotsOf m) side new ≡ slotIn m side new
+unfolding slotsOf
+other-slot m side none = refl
+other-slot m side (some n) = go (lane m (n .lane))
+  where
+    go : (o : Option Lane) → slotFound o (reciprocal-side side (n .direction)) ≡ elim o [ none ↦ none | some l ↦ neighborOn (reciprocal-side side (n .direction)) l ]
+    go none = refl
+    go (some l) = refl
+
+named : (m : Map) (a : ℕ) (new : Option Neighbor) {B : Type 0} (k : Passed → Res B) (e : B) → (require-neighbor m a new >>= k) ≡ yield e → Named m a new × (k passed ≡ yield e)
+named m a none k e h = (tt, h)
+named m a (some n) k e h = go (lane m (n .lane)) refl
+  where
+    go : (o : Option Lane) → lane m (n .lane) ≡ o → Named m a (some n) × (k passed ≡ yield e)
+    go none q = absurd (no-yield (R.LaneAbsent (n .lane)) e (ap (λ o. require o (R.LaneAbsent (n .lane)) >>= (λ l. check (not (eqb (n .lane) a)) (R.OwnPartner a)) >>= k) (sym q) ∙ h))
+    go (some l) q =
+        let h1 = ap (λ o. require o (R.LaneAbsent (n .lane)) >>= (λ l. check (not (eqb (n .lane) a)) (R.OwnPartner a)) >>= k) (sym q) ∙ h in
+        let (t, h2) = checked (not (eqb (n .lane) a)) (R.OwnPartner a) k e h1 in
+        ((l, q, (λ u. true≢false (sym t ∙ ap not (eq-eqb (n .lane) a u)))), h2)
+
+map-same : {A : Type 0} (xs : List A) → map (λ x. x) xs ≡ xs
+map-same [] = refl
+map-same (x ∷ xs) = ap (λ ys. x ∷ ys) (map-same xs)
+
+-- a slot that is set to what it holds: nothing changes
+same-lanes : (m : Map) → withLanes (map (reslotted (λ i s was. was)) (m .lanes)) m ≡ m
+same-lanes m = ap (λ ls. withLanes ls m) (map-same (m .lanes))
+
+module _ (tol : Tolerance) (a : ℕ) (side : Side) (new : Option Neighbor) where
+  -- the definition's outcome, by what the slots held and whether they are the same
+  abbrev outcomeOf : Map → Lane → Option Neighbor → Option Neighbor → Bool → Edited
+  outcomeOf m l old other same =
+      relinking (withLanes (map (reslotted (λ i s was. cond same was (slotAfter a side new old other i s was))) (m .lanes)) m)
+      (lanesWhere (λ x. not same && (eqb (x .id) a || names old (x .id) || names new (x .id) || names other (x .id))) (m .lanes))
+      (when same (no-op a) ++ unshared m l side new)
+
+  law-of : (s : State) → sound (s .counter) (s .map) ≡ true → (l : Lane) → lane (s .map) a ≡ some l → Named (s .map) a new → (same : Bool)
+      → Law (SetNeighbor a side new) s (outcomeOf (s .map) l (slotsOf (s .map) a side) (heldAt (slotsOf (s .map)) side new) same)
+  law-of s sane l ea nm true =
+      record {
+        stays-sound = λ ids limits. subst (λ n. sound (s .counter) n ≡ true) (sym (same-lanes (s .map))) sane;
+        books = reslot-leads (s .map) (λ i s was. was);
+        lists-exact =
+            relink-exact (s .map) (reslotted (λ i s was. was)) (λ l. refl) (λ x. false) (ids-up (s .counter) (s .map) sane) (λ i l e t. refl)
+            (no-op a ∷ unshared (s .map) l side new);
+      }
+  law-of s sane l ea nm false =
+      record {
+        stays-sound = λ ids limits. set-sound (s .counter) (s .map) sane a l ea side new nm limits;
+        books = reslot-leads (s .map) (slotAfter a side new (slotsOf (s .map) a side) (heldAt (slotsOf (s .map)) side new));
+        lists-exact = set-exact (s .counter) (s .map) sane a l ea side new nm (unshared (s .map) l side new);
+      }
+
+  pub set-neighbor-lawful : Lawful tol (SetNeighbor a side new)
+  unfolding edit set-neighbor
+  set-neighbor-lawful s sane e h =
+      let m = s .map in
+      let (l, ea, h1) = required m a (λ l. require-neighbor m a new >>= (λ ok. outcome m l)) e h in
+      let (nm, h2) = named m a new (λ ok. outcome m l) e h1 in
+      subst (λ x. Law (SetNeighbor a side new) s x)
+      (ap (λ old. outcomeOf m l old (heldAt (slotsOf m) side new) (sameSlot (neighborOn side l) new)) (old-slot m a l ea side)
+      ∙ (ap (λ other. outcomeOf m l (neighborOn side l) other (sameSlot (neighborOn side l) new)) (other-slot m side new) ∙ yields h2))
+      (law-of s sane l ea nm (sameSlot (neighborOn side l) new))
+    where
+      outcome : Map → Lane → Res Edited
+      outcome m l = yield (outcomeOf m l (neighborOn side l) (slotIn m side new) (sameSlot (neighborOn side l) new))
+
+-- ---- demand 3 for lists of these three
+
+-- a call of one of the three
+abbrev pub Relinks : Command → Type 0
+Relinks (SplitLane i at n) = ⊥
+Relinks (MergeLanes i j) = ⊥
+Relinks (ConnectLanes i j) = Unit
+Relinks (DisconnectLanes i j) = Unit
+Relinks (SetNeighbor i side n) = Unit
+Relinks (RemoveLane i) = ⊥
+
+relinks-lawful : (tol : Tolerance) (c : Command) → Relinks c → Lawful tol c
+relinks-lawful tol (SplitLane i at n) h = absurd h
+relinks-lawful tol (MergeLanes i j) h = absurd h
+relinks-lawful tol (ConnectLanes i j) h = connect-lawful tol i j
+relinks-lawful tol (DisconnectLanes i j) h = disconnect-lawful tol i j
+relinks-lawful tol (SetNeighbor i side n) h = set-neighbor-lawful tol i side n
+relinks-lawful tol (RemoveLane i) h = absurd h
+
+abbrev pub AllRelink : List Call → Type 0
+AllRelink [] = Unit
+AllRelink (c ∷ cs) = Relinks (c .command) × AllRelink cs
+
+all-lawful : (tol : Tolerance) (calls : List Call) → AllRelink calls → AllLawful tol calls
+all-lawful tol [] h = tt
+all-lawful tol (c ∷ cs) h = (relinks-lawful tol (c .command) (h .0), all-lawful tol cs (h .1))
+
+-- Every list of connect, disconnect and set_neighbor, refused calls included, from any sound map, with any tolerances and any room.
+pub demand-3-relinking : (tol : Tolerance) (room : Room) (s : State) → sound (s .counter) (s .map) ≡ true → (calls : List Call) → AllRelink calls → Demand3 tol room s calls
+demand-3-relinking tol room s sane calls h = demand-3 tol room s sane calls (all-lawful tol calls h)

@@ -1,0 +1,10 @@
+pub mod Links
+pub mod Exact
+pub mod Keeps
+pub mod Connect
+pub mod Still
+pub mod Slots
+pub mod Neighbors
+pub mod SetNeighbor
+pub mod Law
+pub mod Lawful

@@ -1,0 +1,146 @@
+-- connect and disconnect: the lanes that are not reported are as they were, so the lists are exact.
+use mathlib.Core.Path.{_≡_, refl, sym, ap, _∙_}
+use mathlib.Core.Bool.{Bool, true, false, not, _&&_, _||_, cond, true≢false}
+use mathlib.Core.List.{List, [], _∷_, _++_, map}
+use mathlib.Core.Option.{Option, none, some}
+use Prim.Native.Nat.{ℕ, _<_, _≤_}
+use native.Mathlib.Omega.{arith}
+use lib.Dec.{eqb, ltb}
+use borrow.Author.Tests.{eqb-true, eqb-false, eq-eqb, ne-eqb, ltb-true, lt-ltb, le-ltb}
+use Rattle.lists.specs.Every.{all}
+use Rattle.lists.specs.Select.{keep, any, find, has, place, without, above, ascending}
+use Rattle.lists.proofs.Select.{all-weaken, all-has, above-all, ascending-tail, and-both, and-fst, and-snd, onFound, keep-all, keep-none}
+use Rattle.entities.specs.Records.{Lane, Map, Issue, ChangeSet}
+use Rattle.rules.specs.Map.{lane, leads-to, comes-from, laneIds}
+use Rattle.rules.specs.Sound.{linksAscend, idsAscend, sound}
+use Rattle.rules.specs.Edit.{linkIn, linkOut, either, lanesWhere, withLanes, withLinks, relinked}
+use Rattle.rules.specs.Demand.{Exact}
+use Rattle.rules.proofs.Facts.{Sound, sound-facts}
+use Rattle.rules.proofs.Reciprocal.{links-agree}
+use Rattle.rules.proofs.Relations.{leads-found, comes-found}
+use Rattle.laws.proofs.Links.{lane-id}
+use Rattle.laws.proofs.Exact.{relink-exact, listed}
+use Rattle.laws.proofs.Connect.{found-all}
+
+-- ---- placing what is there, and taking out what is not
+
+pub place-present : (x : ℕ) (ys : List ℕ) → ascending ys ≡ true → has x ys ≡ true → place x ys ≡ ys
+unfolding place has keep ascending
+place-present x [] up h = absurd (true≢false (sym h))
+place-present x (y ∷ ys) up h = go (eqb x y) refl (place-present x ys (ascending-tail y ys up))
+  where
+    go : (b : Bool) → eqb x y ≡ b → (has x ys ≡ true → keep (λ z. ltb z x) ys ++ (x ∷ keep (λ z. ltb x z) ys) ≡ ys)
+        → cond (ltb y x) (y ∷ keep (λ z. ltb z x) ys) (keep (λ z. ltb z x) ys) ++ (x ∷ cond (ltb x y) (y ∷ keep (λ z. ltb x z) ys) (keep (λ z. ltb x z) ys)) ≡ y ∷ ys
+    go true t r =
+        let e : x ≡ y = eqb-true x y t in
+        let a : all (ltb x) ys ≡ true = rw e (above-all y ys up) in
+        let n : keep (λ z. ltb z x) ys ≡ [] = keep-none (λ z. ltb z x) ys (all-weaken (ltb x) (λ z. not (ltb z x)) ys (λ z u.
+        let v : x < z = ltb-true x z u in ap not (le-ltb z x (omega arith))) a) in
+        let s : ltb y x ≡ false = le-ltb y x (omega arith) in
+        let w : ltb x y ≡ false = le-ltb x y (omega arith) in
+        rw (s, w, n, keep-all (λ z. ltb x z) ys a, e)
+    go false t r =
+        let inside : has x ys ≡ true = rw t at h in
+        let l : y < x = ltb-true y x (all-has (ltb y) x ys (above-all y ys up) inside) in
+        let s : ltb y x ≡ true = lt-ltb y x l in
+        let w : ltb x y ≡ false = le-ltb x y (omega arith) in
+        rw (s, w) (ap (λ zs. y ∷ zs) (r inside))
+
+pub without-absent : (x : ℕ) (ys : List ℕ) → has x ys ≡ false → without x ys ≡ ys
+unfolding without has keep
+without-absent x [] h = refl
+without-absent x (y ∷ ys) h = go (eqb x y) refl (without-absent x ys)
+  where
+    go : (b : Bool) → eqb x y ≡ b → (has x ys ≡ false → keep (λ z. not (eqb x z)) ys ≡ ys)
+        → cond (not (eqb x y)) (y ∷ keep (λ z. not (eqb x z)) ys) (keep (λ z. not (eqb x z)) ys) ≡ y ∷ ys
+    go true t r = absurd (true≢false (rw t at h))
+    go false t r = rw t (ap (λ zs. y ∷ zs) (r (rw t at h)))
+
+-- ---- the lanes that are not reported
+
+head-of : (a b c d e f g : Bool) → (a && b && c && d && e && f && g) ≡ true → a ≡ true
+head-of true b c d e f g t = refl
+head-of false b c d e f g t = t
+
+pub ids-up : (c : ℕ) (m : Map) → sound c m ≡ true → ascending (laneIds m) ≡ true
+unfolding idsAscend
+ids-up c m h =
+    head-of (ascending (laneIds m)) (ascending (map (λ b. b .id) (m .boundaries))) (ascending (map (λ r. r .id) (m .roads)))
+    (ascending (map (λ j. j .id) (m .junctions))) (ascending (map (λ r. r .id) (m .rules))) (ascending (map (λ s. s .id) (m .stop-lines)))
+    (ascending (map (λ c. c .id) (m .crosswalks))) (sound-facts c m h .ids)
+
+module _ (c : ℕ) (m : Map) (sane : sound c m ≡ true) where
+  lists-up : (i : ℕ) (l : Lane) → lane m i ≡ some l → (ascending (l .predecessors) && ascending (l .successors)) ≡ true
+  unfolding lane linksAscend
+  lists-up i l e = found-all (λ k. eqb (k .id) i) (λ k. ascending (k .predecessors) && ascending (k .successors)) (m .lanes) l e (sound-facts c m sane .links-ascend)
+
+  -- a link of a lane that is found
+  succ-of : (i b : ℕ) (l : Lane) → lane m i ≡ some l → leads-to m i b ≡ has b (l .successors)
+  succ-of i b l e = leads-found m i b (ids-up c m sane) ∙ ap (onFound (λ k. has b (k .successors))) e
+
+  pred-of : (a i : ℕ) (l : Lane) → lane m i ≡ some l → leads-to m a i ≡ has a (l .predecessors)
+  pred-of a i l e = links-agree m (sound-facts c m sane .links) a i ∙ comes-found m a i (ids-up c m sane) ∙ ap (onFound (λ k. has a (k .predecessors))) e
+
+  placed-still : (g : Bool) (x : ℕ) (ys : List ℕ) → ascending ys ≡ true → (g ≡ true → has x ys ≡ true) → cond g (place x ys) ys ≡ ys
+  placed-still true x ys up h = place-present x ys up (h refl)
+  placed-still false x ys up h = refl
+
+  taken-still : (g : Bool) (x : ℕ) (ys : List ℕ) → (g ≡ true → has x ys ≡ false) → cond g (without x ys) ys ≡ ys
+  taken-still true x ys h = without-absent x ys (h refl)
+  taken-still false x ys h = refl
+
+  neither : (p q : Bool) → (p || q) ≡ false → (p ≡ false) × (q ≡ false)
+  neither true q t = absurd (true≢false t)
+  neither false q t = (refl, t)
+
+  -- Where a and b are linked, and in every lane but a and b, connecting changes nothing.
+  connect-still : (a b i : ℕ) (l : Lane) → lane m i ≡ some l → (not (leads-to m a b) && either a b l) ≡ false → linkIn a b l ≡ l
+  connect-still a b i l e t = go (leads-to m a b) refl
+    where
+      j : l .id ≡ i
+      j = lane-id m i l e
+
+      up : (ascending (l .predecessors) && ascending (l .successors)) ≡ true
+      up = lists-up i l e
+
+      go : (k : Bool) → leads-to m a b ≡ k → linkIn a b l ≡ l
+      go true h =
+          let p = placed-still (eqb (l .id) b) a (l .predecessors) (and-fst (ascending (l .predecessors)) (ascending (l .successors)) up) (λ g.
+          let u : i ≡ b = sym j ∙ eqb-true (l .id) b g in sym (pred-of a i l e) ∙ rw u h) in
+          let q = placed-still (eqb (l .id) a) b (l .successors) (and-snd (ascending (l .predecessors)) (ascending (l .successors)) up) (λ g.
+          let u : i ≡ a = sym j ∙ eqb-true (l .id) a g in sym (succ-of i b l e) ∙ rw u h) in
+          ap (λ ps. withLinks ps (cond (eqb (l .id) a) (place b (l .successors)) (l .successors)) l) p ∙ ap (λ ss. withLinks (l .predecessors) ss l) q
+      go false h =
+          let n = neither (eqb (l .id) a) (eqb (l .id) b) (rw h at t) in
+          ap (λ g. withLinks (cond g (place a (l .predecessors)) (l .predecessors)) (cond (eqb (l .id) a) (place b (l .successors)) (l .successors)) l) (n .1)
+          ∙ ap (λ g. withLinks (l .predecessors) (cond g (place b (l .successors)) (l .successors)) l) (n .0)
+
+  disconnect-still : (a b i : ℕ) (l : Lane) → lane m i ≡ some l → (leads-to m a b && either a b l) ≡ false → linkOut a b l ≡ l
+  disconnect-still a b i l e t = go (leads-to m a b) refl
+    where
+      j : l .id ≡ i
+      j = lane-id m i l e
+
+      go : (k : Bool) → leads-to m a b ≡ k → linkOut a b l ≡ l
+      go true h =
+          let n = neither (eqb (l .id) a) (eqb (l .id) b) (rw h at t) in
+          ap (λ g. withLinks (cond g (without a (l .predecessors)) (l .predecessors)) (cond (eqb (l .id) a) (without b (l .successors)) (l .successors)) l) (n .1)
+          ∙ ap (λ g. withLinks (l .predecessors) (cond g (without b (l .successors)) (l .successors)) l) (n .0)
+      go false h =
+          let p = taken-still (eqb (l .id) b) a (l .predecessors) (λ g.
+          let u : i ≡ b = sym j ∙ eqb-true (l .id) b g in sym (pred-of a i l e) ∙ rw u h) in
+          let q = taken-still (eqb (l .id) a) b (l .successors) (λ g.
+          let u : i ≡ a = sym j ∙ eqb-true (l .id) a g in sym (succ-of i b l e) ∙ rw u h) in
+          ap (λ ps. withLinks ps (cond (eqb (l .id) a) (without b (l .successors)) (l .successors)) l) p ∙ ap (λ ss. withLinks (l .predecessors) ss l) q
+
+  -- ---- the lists
+
+  pub connect-exact : (a b : ℕ) (ws : List Issue)
+      → Exact m (record { created = []; modified = lanesWhere (λ l. not (leads-to m a b) && either a b l) (m .lanes); deleted = []; warnings = ws })
+      (withLanes (map (linkIn a b) (m .lanes)) m)
+  connect-exact a b ws = relink-exact m (linkIn a b) (λ l. refl) (λ l. not (leads-to m a b) && either a b l) (ids-up c m sane) (connect-still a b) ws
+
+  pub disconnect-exact : (a b : ℕ) (ws : List Issue)
+      → Exact m (record { created = []; modified = lanesWhere (λ l. leads-to m a b && either a b l) (m .lanes); deleted = []; warnings = ws })
+      (withLanes (map (linkOut a b) (m .lanes)) m)
+  disconnect-exact a b ws = relink-exact m (linkOut a b) (λ l. refl) (λ l. leads-to m a b && either a b l) (ids-up c m sane) (disconnect-still a b) ws

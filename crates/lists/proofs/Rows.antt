@@ -1,0 +1,213 @@
+-- Laws of rows in lent memory, over any elements. Assumes nothing.
+use mathlib.Core.Path.{_≡_, refl, sym, ap, _∙_}
+use Prim.Native.Nat.{ℕ, zero, suc, _+_, _-_, _*_, _≤_, _<_}
+use native.Mathlib.Nat.{le-of-suc-le-suc, not-suc-le-zero, zero-mul, add-zero, mul-le-mul-right}
+use native.Mathlib.Numerals.{add-one}
+use native.Mathlib.Omega.{arith}
+use mathlib.Core.Bool.{Bool, true, false}
+use mathlib.Core.List.{List, [], _∷_, _++_, append-assoc}
+use lib.ListN.{length, getD, set, take, drop, length-append, length-drop, take-append-drop, List·getD-append}
+use lib.Seq.{drop-drop, take-take, take-nil, take-add, length-take-le, take-at, drop-at, sets-eq}
+use lib.Seq.{getD-take, getD-drop, take-suc, drop-cons, append-snoc, set-at}
+use lib.Dec.{ltb}
+use borrow.Author.Tests.{eq-eqb, ne-eqb, ltb-true, ltb-false}
+use Rattle.lists.specs.declared.Found.the-variants.{At, Nothing}
+use Rattle.lists.specs.Select.{ascending}
+use Rattle.lists.specs.Rows.{reads, over, keys, rowWith}
+use Rattle.lists.proofs.Select.{ascending-places}
+
+pub drop-take : {A : Type 0} (m n : ℕ) (l : List A) → drop m (take n l) ≡ take (n - m) (drop m l)
+drop-take zero n l = let e : n - 0 ≡ n = omega arith in rw e
+drop-take (suc m) zero l = let e : 0 - suc m ≡ 0 = omega arith in rw e
+drop-take (suc m) (suc n) [] = sym (take-nil (suc n - suc m))
+drop-take (suc m) (suc n) (x ∷ l) = let e : suc n - suc m ≡ n - m = omega arith in rw e (drop-take m n l)
+
+-- ---- reading
+
+module _ {A B : Type 0} (s : ℕ) (dec : List A → B) where
+  pub length-reads : (k : ℕ) (w : List A) → length (reads s dec k w) ≡ k
+  unfolding reads
+  length-reads zero w = refl
+  length-reads (suc k) w = ap suc (length-reads k (drop s w))
+
+  pub getD-reads : (k i : ℕ) (w : List A) (d : B) → i < k → getD (reads s dec k w) i d ≡ dec (take s (drop (i * s) w))
+  unfolding reads
+  getD-reads zero i w d h = absurd (not-suc-le-zero h)
+  getD-reads (suc k) zero w d h = rw zero-mul
+  getD-reads (suc k) (suc i) w d h =
+      let e : s + i * s ≡ suc i * s = omega arith in
+      rw (getD-reads k i (drop s w) d (le-of-suc-le-suc h), drop-drop, e)
+
+  -- the rows from number n on, and the first n rows
+  pub drop-reads : (n k : ℕ) (w : List A) → drop n (reads s dec k w) ≡ reads s dec (k - n) (drop (n * s) w)
+  unfolding reads
+  drop-reads zero k w = let e : k - 0 ≡ k = omega arith in rw (zero-mul, e)
+  drop-reads (suc n) zero w = let e : 0 - suc n ≡ 0 = omega arith in rw e
+  drop-reads (suc n) (suc k) w =
+      let e : s + n * s ≡ suc n * s = omega arith in
+      let f : suc k - suc n ≡ k - n = omega arith in
+      rw (drop-reads n k (drop s w), drop-drop, e, f)
+
+  pub take-reads : (n k : ℕ) (w : List A) → n ≤ k → take n (reads s dec k w) ≡ reads s dec n w
+  unfolding reads
+  take-reads zero k w h = refl
+  take-reads (suc n) zero w h = absurd (not-suc-le-zero h)
+  take-reads (suc n) (suc k) w h = rw (take-reads n k (drop s w) (le-of-suc-le-suc h))
+
+  -- the first k rows lie in the first k * s words
+  pub reads-take : (k n : ℕ) (w : List A) → k * s ≤ n → reads s dec k (take n w) ≡ reads s dec k w
+  unfolding reads
+  reads-take zero n w h = refl
+  reads-take (suc k) n w h =
+      let l : s ≤ n = omega arith in
+      let m : k * s ≤ n - s = omega arith in
+      rw (take-take s n w l, drop-take s n w, reads-take k (n - s) (drop s w) m)
+
+-- ---- writing
+
+module _ {A : Type 0} where
+  pub over-nil : (w : List A) (a : ℕ) → over w a [] ≡ w
+  unfolding over
+  over-nil w a = rw (add-zero, take-append-drop)
+
+  pub length-over : (w : List A) (a : ℕ) (l : List A) → a + length l ≤ length w → length (over w a l) ≡ length w
+  unfolding over
+  length-over w a l h =
+      let i : a ≤ length w = omega arith in
+      simp (length-append, length-drop, length-take-le a w i) (omega arith)
+
+  front : (w : List A) (a : ℕ) (l : List A) → a + length l ≤ length w → length (take a w ++ l) ≡ a + length l
+  front w a l h = let i : a ≤ length w = omega arith in simp (length-append, length-take-le a w i)
+
+  -- what was written, with all before it; what lies behind
+  pub take-over : (w : List A) (a : ℕ) (l : List A) → a + length l ≤ length w → take (a + length l) (over w a l) ≡ take a w ++ l
+  unfolding over
+  take-over w a l h = rw (← append-assoc, take-at (take a w ++ l) (drop (a + length l) w) (a + length l) (front w a l h))
+
+  pub drop-over : (w : List A) (a : ℕ) (l : List A) → a + length l ≤ length w → drop (a + length l) (over w a l) ≡ drop (a + length l) w
+  unfolding over
+  drop-over w a l h = rw (← append-assoc, drop-at (take a w ++ l) (drop (a + length l) w) (a + length l) (front w a l h))
+
+  -- a list written behind another, at a place that is known by an equation
+  pub over-over : (w : List A) (a n : ℕ) (l m : List A) → a + length l ≡ n → n ≤ length w → over (over w a l) n m ≡ over w a (l ++ m)
+  over-over w a n l m e h =
+      let g : a + length l ≤ length w = omega arith in
+      let t : take n (over w a l) ≡ take a w ++ l = rw (← e) (take-over w a l g) in
+      let s : drop n (over w a l) ≡ drop n w = rw (← e) (drop-over w a l g) in
+      let k : n + length m ≡ a + length (l ++ m) = rw length-append (omega arith) in
+      let d : drop (n + length m) (over w a l) ≡ drop (a + length (l ++ m)) w =
+      sym (drop-drop (length m) n (over w a l)) ∙ rw (s, drop-drop, k) in
+      joined (over w a l) t d
+    where
+      joined : (v : List A) → take n v ≡ take a w ++ l → drop (n + length m) v ≡ drop (a + length (l ++ m)) w → over v n m ≡ over w a (l ++ m)
+      joined v t d = unfold over in rw (t, d, append-assoc (take a w), append-assoc l m)
+
+  -- three stores in a row
+  pub over-three : (w : List A) (a : ℕ) (x y z : A) → a + 3 ≤ length w
+      → set (set (set w a x) (a + 1) y) (a + 2) z ≡ over w a (x ∷ y ∷ z ∷ [])
+  unfolding over
+  over-three w a x y z h =
+      let i : a + 1 ≡ suc a = omega arith in
+      let j : a + 2 ≡ suc (suc a) = omega arith in
+      rw (i, j, ← append-assoc) (sets-eq (x ∷ y ∷ z ∷ []) w a h)
+
+  -- a list written in a part that begins at a
+  pub over-part : (w : List A) (a b : ℕ) (l : List A) → a ≤ length w → take a w ++ over (drop a w) b l ≡ over w (a + b) l
+  unfolding over
+  over-part w a b l h =
+      let e : a + (b + length l) ≡ a + b + length l = omega arith in
+      rw (drop-drop, e, ← append-assoc, ← take-add)
+
+  -- from place a on lies what was written there, and before it what was there
+  pub drop-from-over : (w : List A) (a : ℕ) (l : List A) → a ≤ length w → drop a (over w a l) ≡ l ++ drop (a + length l) w
+  unfolding over
+  drop-from-over w a l h = drop-at (take a w) (l ++ drop (a + length l) w) a (length-take-le a w h)
+
+  pub take-before-over : (w : List A) (a : ℕ) (l : List A) → a ≤ length w → take a (over w a l) ≡ take a w
+  unfolding over
+  take-before-over w a l h = take-at (take a w) (l ++ drop (a + length l) w) a (length-take-le a w h)
+
+  -- a list written at the front
+  pub over-front : (w : List A) (a : ℕ) (l : List A) → a ≤ length w → over w a l ≡ over w 0 (take a w ++ l)
+  unfolding over
+  over-front w a l h =
+      let e : a + length l ≡ 0 + length (take a w ++ l) = rw (length-append, length-take-le a w h) (omega arith) in
+      rw (e, append-assoc)
+
+  -- what is read before the written list, and behind it
+  pub getD-over-before : (w : List A) (a : ℕ) (l : List A) (k : ℕ) (d : A) → k < a → a ≤ length w → getD (over w a l) k d ≡ getD w k d
+  unfolding over
+  getD-over-before w a l k d h i =
+      let j : k < length (take a w) = rw (length-take-le a w i) h in
+      List·getD-append (take a w) (l ++ drop (a + length l) w) d k j ∙ getD-take a w k d h
+
+  pub getD-over-behind : (w : List A) (a : ℕ) (l : List A) (k : ℕ) (d : A) → a + length l ≤ k → a + length l ≤ length w → getD (over w a l) k d ≡ getD w k d
+  getD-over-behind w a l k d h i =
+      let m = a + length l in
+      let e : k ≡ m + (k - m) = omega arith in
+      rw (e, ← getD-drop m (over w a l) (k - m) d, ← getD-drop m w (k - m) d, drop-over w a l i)
+
+  -- a store in front of the written list, and one behind it
+  pub store-before : (w : List A) (a : ℕ) (l : List A) (x : A) → a + 1 + length l ≤ length w → set (over w (a + 1) l) a x ≡ over w a (x ∷ l)
+  unfolding over
+  store-before w a l x h =
+      let i : a < length w = omega arith in
+      let j : a ≤ length w = omega arith in
+      let e : suc a + length l ≡ a + suc (length l) = omega arith in
+      rw (add-one, take-suc w a x i, append-snoc, e, set-at (take a w) (getD w a x) (l ++ drop (a + suc (length l)) w) x a (length-take-le a w j))
+
+  pub store-behind : (w : List A) (a m : ℕ) (l : List A) (x : A) → a + length l ≡ m → m < length w → set (over w a l) m x ≡ over w a (l ++ (x ∷ []))
+  unfolding over
+  store-behind w a m l x q h =
+      let i : a + length l ≤ length w = omega arith in
+      let e : a + length (l ++ (x ∷ [])) ≡ suc m = rw length-append (omega arith) in
+      rw (e, q, drop-cons w m x h, ← append-assoc (take a w) l, set-at (take a w ++ l) (getD w m x) (drop (suc m) w) x m (front w a l i ∙ q), append-assoc (take a w) l, append-snoc l)
+
+-- ---- keys, and the row with a key
+
+-- row i of n lies within the n rows
+pub row-within : (i n s : ℕ) → i < n → i * s + s ≤ n * s
+row-within i n s h =
+    let m : (i + 1) * s ≤ n * s = mul-le-mul-right s (omega arith) in
+    omega arith
+
+pub row-start : (i n s m : ℕ) → 0 < s → n * s ≤ m → i < n → i * s < m
+row-start i n s m p q h = omega (arith, row-within i n s h)
+
+pub length-keys : (s n : ℕ) (w : List ℕ) → length (keys s n w) ≡ n
+unfolding keys
+length-keys s n w = length-reads s (λ (r : List ℕ). getD r 0 0) n w
+
+pub key-at : (s n i : ℕ) (w : List ℕ) → 0 < s → i < n → getD (keys s n w) i 0 ≡ getD w (i * s) 0
+unfolding keys
+key-at s n i w p h =
+    getD-reads s (λ (r : List ℕ). getD r 0 0) n i w 0 h ∙ getD-take s (drop (i * s) w) 0 0 p ∙ rw (getD-drop, add-zero)
+
+-- a number that is no key has no row
+pub row-none : (x : ℕ) (ks : List ℕ) → ((k : ℕ) → k < length ks → getD ks k 0 ≡ x → ⊥) → rowWith x ks ≡ Nothing
+unfolding rowWith
+row-none x [] h = refl
+row-none x (y ∷ ks) h =
+    let r : rowWith x ks ≡ Nothing = row-none x ks (λ k l. let g : suc k < suc (length ks) = omega arith in h (suc k) g) in
+    rw (ne-eqb y x (h 0 (omega arith)), r)
+
+-- the first row with a key
+pub row-first : (x i : ℕ) (ks : List ℕ) → i < length ks → getD ks i 0 ≡ x → ((k : ℕ) → k < i → getD ks k 0 ≡ x → ⊥) → rowWith x ks ≡ At i
+unfolding rowWith
+row-first x i [] l e h = absurd (not-suc-le-zero l)
+row-first x zero (y ∷ ks) l e h = rw (eq-eqb y x e)
+row-first x (suc i) (y ∷ ks) l e h =
+    let r : rowWith x ks ≡ At i = row-first x i ks (le-of-suc-le-suc l) e (λ k g. let g : suc k < suc i = omega arith in h (suc k) g) in
+    rw (ne-eqb y x (h 0 (omega arith)), r)
+
+-- where keys ascend a key has one row
+pub row-at : (x i : ℕ) (ks : List ℕ) → ascending ks ≡ true → i < length ks → getD ks i 0 ≡ x → rowWith x ks ≡ At i
+row-at x i ks a l e = row-first x i ks l e (λ k g q. let p = ascending-places ks k i a g l in omega arith)
+
+-- a number between the keys before a place and those from it on has no row
+pub row-between : (x m : ℕ) (ks : List ℕ) → ((k : ℕ) → k < m → getD ks k 0 < x) → ((k : ℕ) → m ≤ k → k < length ks → x < getD ks k 0) → rowWith x ks ≡ Nothing
+row-between x m ks below above = row-none x ks (λ k l e. side k l e (ltb k m) refl)
+  where
+    side : (k : ℕ) → k < length ks → getD ks k 0 ≡ x → (b : Bool) → ltb k m ≡ b → ⊥
+    side k l e true t = omega (arith, below k (ltb-true k m t))
+    side k l e false t = omega (arith, above k (ltb-false k m t) l)

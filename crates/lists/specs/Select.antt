@@ -1,0 +1,58 @@
+-- Choosing from a list by a test, and lists of numbers.
+use Prim.Native.Nat.{ℕ}
+use mathlib.Core.Bool.{Bool, true, false, not, _&&_, _||_, cond}
+use mathlib.Core.List.{List, [], _∷_, _++_}
+use mathlib.Core.Option.{Option, none, some}
+use lib.Dec.{eqb, ltb}
+
+-- those that pass, in their order
+unfoldable pub keep : {A : Type 0} → (A → Bool) → List A → List A
+keep p [] = []
+keep p (x ∷ xs) = let rest = keep p xs in cond (p x) (x ∷ rest) rest
+
+unfoldable pub any : {A : Type 0} → (A → Bool) → List A → Bool
+any p [] = false
+any p (x ∷ xs) = p x || any p xs
+
+-- the first that passes
+unfoldable pub find : {A : Type 0} → (A → Bool) → List A → Option A
+find p [] = none
+find p (x ∷ xs) = let rest = find p xs in cond (p x) (some x) rest
+
+-- each element's list, one after the other
+unfoldable pub each : {A B : Type 0} → (A → List B) → List A → List B
+each f [] = []
+each f (x ∷ xs) = f x ++ each f xs
+
+-- x stands in the list
+unfoldable pub has : ℕ → List ℕ → Bool
+has x [] = false
+has x (y ∷ ys) = eqb x y || has x ys
+
+-- without x
+unfoldable pub without : ℕ → List ℕ → List ℕ
+without x ys = keep (λ y. not (eqb x y)) ys
+
+-- x in its place in an ascending list, once
+unfoldable pub place : ℕ → List ℕ → List ℕ
+place x ys = keep (λ y. ltb y x) ys ++ (x ∷ keep (λ y. ltb x y) ys)
+
+-- each number is larger than the one before
+unfoldable pub above : ℕ → List ℕ → Bool
+above x [] = true
+above x (y ∷ ys) = ltb x y && above y ys
+
+unfoldable pub ascending : List ℕ → Bool
+ascending [] = true
+ascending (x ∷ xs) = above x xs
+
+-- no number stands twice
+unfoldable pub distinct : List ℕ → Bool
+distinct [] = true
+distinct (x ∷ xs) = not (has x xs) && distinct xs
+
+unfoldable pub sameNumbers : List ℕ → List ℕ → Bool
+sameNumbers [] [] = true
+sameNumbers [] (y ∷ ys) = false
+sameNumbers (x ∷ xs) [] = false
+sameNumbers (x ∷ xs) (y ∷ ys) = eqb x y && sameNumbers xs ys

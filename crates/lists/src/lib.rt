@@ -1,0 +1,151 @@
+// Lists and rows in lent words. A list is a slice whole; a table's rows are cut from it by their length.
+ghost use mathlib.Core.Path.{_≡_};
+ghost use mathlib.Core.Bool.{true, false, cond, _&&_};
+ghost use mathlib.Core.List.{map};
+ghost use Prim.Native.Nat.{_*_, _≤_, _<_};
+ghost use lib.Dec.{leb, eqb};
+ghost use lib.ListN.{length, take};
+ghost use Rattle.lists.specs.Every.{all};
+ghost use Rattle.lists.specs.Select.{has, ascending, place, without};
+ghost use Rattle.lists.specs.Rows.{keys, rowWith, over};
+
+// Both, with no branch.
+pub fn both(a: bool, b: bool) -> bool
+    ensures { λ r. ⌜ r ≡ (a && b) ⌝ }
+{
+    a && b
+}
+
+// Whether an id stands in a list.
+pub fn contains(ids: &[u64], id: u64) -> bool
+    ensures { λ r. ⌜ r ≡ has id (now (ids .entry)) ⌝ }
+{
+    let mut i = 0;
+    while i < ids.len() {
+        if id == ids[i] {
+            return true;
+        }
+        i += 1;
+    }
+    false
+}
+
+// Whether each id is larger than the one before.
+pub fn ascends(ids: &[u64]) -> bool
+    ensures { λ r. ⌜ r ≡ ascending (now (ids .entry)) ⌝ }
+{
+    let mut i = 1;
+    while i < ids.len() {
+        if ids[i] <= ids[i - 1] {
+            return false;
+        }
+        i += 1;
+    }
+    true
+}
+
+// Whether no id of a list passes a bound.
+pub fn all_at_most(ids: &[u64], most: u64) -> bool
+    ensures { λ r. ⌜ r ≡ all (λ i. leb i most) (now (ids .entry)) ⌝ }
+{
+    let mut i = 0;
+    while i < ids.len() {
+        if most < ids[i] {
+            return false;
+        }
+        i += 1;
+    }
+    true
+}
+
+// Whether the first words of n rows of s words ascend.
+pub fn keys_ascend(rows: &[u64], s: usize, n: usize) -> bool
+    requires { ⌜ (0 < s) × (n * s ≤ length (now rows)) ⌝ }
+    ensures { λ r. ⌜ r ≡ ascending (keys s n (now (rows .entry))) ⌝ }
+{
+    let mut i = 1;
+    while i < n {
+        if rows[i * s] <= rows[(i - 1) * s] {
+            return false;
+        }
+        i += 1;
+    }
+    true
+}
+
+// A row's place among the rows of a table.
+pub enum Found {
+    At(usize),
+    Nothing,
+}
+
+// The row of n rows of s words whose first word is id, by halves: the first words ascend.
+pub fn find_row(rows: &[u64], s: usize, n: usize, id: u64) -> Found
+    requires { ⌜ (0 < s) × ((n * s ≤ length (now rows)) × (ascending (keys s n (now rows)) ≡ true)) ⌝ }
+    ensures { λ r. ⌜ r ≡ rowWith id (keys s n (now (rows .entry))) ⌝ }
+{
+    let mut low = 0;
+    let mut high = n;
+    while low < high {
+        let middle = low + (high - low) / 2;
+        let key = rows[middle * s];
+        if key == id {
+            return Found::At(middle);
+        }
+        if key < id {
+            low = middle + 1;
+        } else {
+            high = middle;
+        }
+    }
+    Found::Nothing
+}
+
+// An id put in its place in an ascending list of n ids that lacks it; the slots past the list stay.
+pub fn insert(slots: &mut [u64], n: usize, id: u64)
+    requires { ⌜ (n < length (now slots)) × ((ascending (take n (now slots)) ≡ true) × (has id (take n (now slots)) ≡ false)) ⌝ }
+    ensures { λ _. ⌜ now (slots .exit) ≡ over (now (slots .entry)) 0 (place id (take n (now (slots .entry)))) ⌝ }
+{
+    let mut i = n;
+    while 0 < i {
+        let before = slots[i - 1];
+        if before < id {
+            slots[i] = id;
+            return;
+        }
+        slots[i] = before;
+        i -= 1;
+    }
+    slots[0] = id;
+}
+
+// Every id of a list of n ids taken out; how many are left. The slots past them stay.
+pub fn remove(slots: &mut [u64], n: usize, id: u64) -> usize
+    requires { ⌜ n ≤ length (now slots) ⌝ }
+    ensures { λ r. ⌜ (r ≡ length (without id (take n (now (slots .entry))))) × (now (slots .exit) ≡ over (now (slots .entry)) 0 (without id (take n (now (slots .entry))))) ⌝ }
+{
+    let mut i = 0;
+    let mut left = 0;
+    while i < n {
+        let x = slots[i];
+        if id != x {
+            slots[left] = x;
+            left += 1;
+        }
+        i += 1;
+    }
+    left
+}
+
+// Every `from` in a list becomes `to`.
+pub fn replace(ids: &mut [u64], from: u64, to: u64)
+    ensures { λ _. ⌜ now (ids .exit) ≡ map (λ x. cond (eqb x from) to x) (now (ids .entry)) ⌝ }
+{
+    let mut i = 0;
+    while i < ids.len() {
+        if ids[i] == from {
+            ids[i] = to;
+        }
+        i += 1;
+    }
+}

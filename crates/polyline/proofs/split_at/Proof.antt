@@ -1,0 +1,91 @@
+-- `polyline::split_at` meets its contract: the second piece is written in the part behind the first. Assumes nothing.
+use borrow.Author.Needs.{needs}
+use Rattle.polyline.proofs.split_at.Statement.{statement}
+use Rattle.polyline.proofs.split_at.Tie as tie
+use Rattle.polyline.proofs.split_at.Reads as reads
+use Rattle.polyline.proofs.split_at.Lts as lts
+use Rattle.polyline.proofs.length.Reads as length-reads
+use Rattle.polyline.proofs.slice.Reads as slice-reads
+use Prim.Native.Nat.{_*_}
+use native.Mathlib.Omega.{arith}
+use lib.ListN.{length}
+use Rattle.polyline.proofs.Lines.{writes-part}
+use borrow.Rule.Slice.PartMut.{mid-len}
+use native.Mathlib.Nat.{le-refl}
+use Rattle.geometry.specs.Float.{zeroᶠ}
+use Rattle.polyline.specs.Polyline.{points, lineLength, slice, firstPiece, secondPiece}
+
+-- src/lib.rt:361:9
+slice-requires : tie.Need-slice-requires
+unfolding firstPiece
+slice-requires c κs = omega arith
+
+-- src/lib.rt:362:18
+mul-behind : tie.Need-mul-behind
+unfolding firstPiece
+mul-behind c = omega (arith, c .before .before .slice .ensures .0, c .before .before .before .before .before .before .pre, c .before .before .before .before .before .before .good .1 .1 .0 .0)
+
+-- src/lib.rt:363:39
+length-requires : tie.Need-length-requires
+length-requires c κs = search needs
+
+-- src/lib.rt:363:53
+mul-slice : tie.Need-mul-slice
+unfolding firstPiece
+mul-slice c = omega (arith, c .before .before .before .slice .ensures .0, c .before .before .before .before .before .before .before .pre, c .before .before .before .before .before .before .before .good .1 .1 .0 .1)
+
+-- src/lib.rt:363:53
+sub-slice : tie.Need-sub-slice
+unfolding firstPiece
+sub-slice c = omega (arith, c .before .before .before .slice .ensures .0, c .before .before .before .slice .kept .1 .1 .1 .0, c .before .before .before .before .before .before .before .pre)
+
+-- src/lib.rt:363:53
+part-slice-start : tie.Need-part-slice-start
+unfolding firstPiece
+part-slice-start c = omega (arith, c .before .before .before .slice .ensures .0, c .before .before .before .slice .kept .1 .1 .1 .0, c .before .before .before .before .before .before .before .pre)
+
+-- src/lib.rt:363:53
+part-slice-end : tie.Need-part-slice-end
+part-slice-end c = search needs
+
+-- src/lib.rt:363:9
+slice-requires-2 : tie.Need-slice-requires-2
+unfolding firstPiece secondPiece
+slice-requires-2 c κs =
+    let w = c .before .before .before .before .slice .last .1 .1 .1 .0 in
+    rw (c .before .length .ensures)
+    (omega (arith, mid-len (c .before .before .before .before .slice .result * 3) (length w) w (le-refl (length w)), c .before .before .before .before .slice .ensures .0, c .before .before .before .before .slice .kept .1 .1 .1 .0, c .before .before .before .before .before .before .before .before .pre))
+
+-- src/lib.rt:357:1
+same-length : tie.Need-same-length
+same-length c = search needs
+
+-- src/lib.rt:357:1
+returns : tie.Need-returns
+unfolding firstPiece secondPiece
+returns c =
+    let ps = points (c .before .before .before .before .before .before .before .before .before .before .before .args .line .now) in
+    let s = rw (c .before .before .before .before .length .ensures) at (c .before .before .slice2 .ensures) in
+    let e = c .before .before .before .before .before .before .before .slice .ensures in (
+      e .0,
+      (
+        s .0,
+        writes-part (c .before .before .before .before .before .before .before .before .before .before .before .args .out .now) (c .before .before .before .before .before .before .before .slice .last .1 .1 .1 .0) (c .before .before .slice2 .last .1 .1 .1 .0) (c .before .before .before .before .before .before .before .slice .result)
+            (slice ps zeroᶠ (c .before .before .before .before .before .before .before .before .before .before .before .args .station)) (slice ps (c .before .before .before .before .before .before .before .before .before .before .before .args .station) (lineLength ps)) (e .0) (c .before .before .before .before .before .before .before .before .before .before .before .pre) (e .1) (s .1),
+      ),
+    )
+
+pub split-at-spec : {M : Type 1} → statement M
+split-at-spec =
+    tie.close
+    (tie.spec
+    slice-requires
+    mul-behind
+    length-requires
+    mul-slice
+    sub-slice
+    part-slice-start
+    part-slice-end
+    slice-requires-2
+    same-length
+    returns)

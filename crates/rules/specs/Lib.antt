@@ -1,0 +1,10 @@
+pub mod Names
+pub mod Map
+pub mod Sound
+pub mod Edit
+pub mod Lane
+pub mod Merge
+pub mod Split
+pub mod Ops
+pub mod Book
+pub mod Demand
