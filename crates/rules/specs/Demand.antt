@@ -115,12 +115,12 @@ pub record Demand3 (tol : Tolerance) (room : Room) (s : State) (calls : List Cal
   pub links-booked : (a b : ℕ) → leads-to (after tol room calls s .map) a b ≡ bookAfter tol room calls s (firstBook (s .map)) a b
   pub lists-told : AllTold tol room calls s
 
--- The claim, for every tolerance in range, room, sound map and list of calls.
-abbrev pub Claim3 : (Tolerance → Bool) → Type 0
-Claim3 inRange = (tol : Tolerance) → inRange tol ≡ true → (room : Room) (s : State) → sound (s .counter) (s .map) ≡ true → (calls : List Call) → Demand3 tol room s calls
+-- The claim, for every tolerance, room, sound map and list of calls.
+abbrev pub Claim3 : Type 0
+Claim3 = (tol : Tolerance) (room : Room) (s : State) → sound (s .counter) (s .map) ≡ true → (calls : List Call) → Demand3 tol room s calls
 
 -- "that lists of roads, junctions and rules stay free of repeats is promised only to a host that began so"
-abbrev pub RepeatFreeClaim : (Tolerance → Bool) → Type 0
-RepeatFreeClaim inRange =
-    (tol : Tolerance) → inRange tol ≡ true → (room : Room) (s : State)
+abbrev pub RepeatFreeClaim : Type 0
+RepeatFreeClaim =
+    (tol : Tolerance) (room : Room) (s : State)
     → sound (s .counter) (s .map) ≡ true → repeatFree (s .map) ≡ true → (calls : List Call) → repeatFree (after tol room calls s .map) ≡ true
