@@ -1,0 +1,4 @@
+pub mod Clear
+pub mod Marks
+pub mod Stored
+pub mod Walk

@@ -1,0 +1,49 @@
+-- Links and neighbours that name a lane back, in words of the lane table. Nothing above `sound` rests on this page.
+use Prim.Native.Nat.{ℕ, suc, _+_, _*_}
+use mathlib.Core.Bool.{Bool, true, false, not, _&&_, _||_, cond}
+use mathlib.Core.List.{List, [], _∷_}
+use lib.Dec.{eqb}
+use lib.ListN.{take, drop}
+use Rattle.lists.specs.Every.{all}
+use Rattle.lists.specs.Rows.{keys, rowWith}
+use Rattle.lists.specs.Select.{has, ascending}
+use Rattle.lists.specs.declared.Found.{Found}
+use Rattle.lists.specs.declared.Found.the-variants.{At, Nothing}
+use Rattle.tables.specs.View.{word, idsAt, rows}
+use Rattle.tables.specs.Formed.{counted, laneFormed}
+
+-- a lane table whose rows can be read and searched
+unfoldable pub searchable : List ℕ → Bool
+searchable t = counted 1024 52 t && ascending (keys 52 (word 0 t) (drop 1 t)) && all (λ b. b) (rows 52 laneFormed t)
+
+-- row j of the table
+abbrev pub laneAt : List ℕ → ℕ → List ℕ
+laneAt t j = take 52 (drop (1 + j * 52) t)
+
+abbrev pub onRow : (List ℕ → Bool) → List ℕ → Found → Bool
+onRow q t Nothing = false
+onRow q t (At j) = q (laneAt t j)
+
+-- a test of the row with an id; false where there is none
+unfoldable pub rowTest : (List ℕ → Bool) → List ℕ → ℕ → Bool
+rowTest q t i = onRow q t (rowWith i (keys 52 (word 0 t) (drop 1 t)))
+
+-- lane b is there, and its list at k has id
+abbrev pub namesBack : List ℕ → ℕ → ℕ → ℕ → Bool
+namesBack t k i b = rowTest (λ w. has i (idsAt k w)) t b
+
+-- every successor has the lane among its predecessors, every predecessor among its successors
+unfoldable pub laneReturned : List ℕ → List ℕ → Bool
+laneReturned t w = all (namesBack t 18 (word 0 w)) (idsAt 35 w) && all (namesBack t 35 (word 0 w)) (idsAt 18 w)
+
+-- the slot that answers a slot at place k: 14 is the left one, 16 the right one; mark 1 is the same direction
+abbrev pub answerPlace : ℕ → ℕ → ℕ
+answerPlace k mark = cond (eqb mark 1) (cond (eqb k 14) 16 14) k
+
+unfoldable pub slotReturned : List ℕ → ℕ → List ℕ → Bool
+slotReturned t k w =
+    eqb (word k w) 0
+    || rowTest (λ v. eqb (word (answerPlace k (word k w)) v) (word k w) && eqb (word (suc (answerPlace k (word k w))) v) (word 0 w)) t (word (suc k) w)
+
+unfoldable pub slotsReturned : List ℕ → List ℕ → Bool
+slotsReturned t w = slotReturned t 14 w && slotReturned t 16 w

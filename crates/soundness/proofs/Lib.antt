@@ -1,0 +1,9 @@
+pub mod Rows
+pub mod Pointwise
+pub mod Others
+pub mod Rules
+pub mod Parts
+pub mod Whole
+pub mod Words
+pub mod Verdict
+pub mod Back

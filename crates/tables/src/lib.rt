@@ -1,0 +1,1 @@
+// How lent memory holds a map: see specs/.
