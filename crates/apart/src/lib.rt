@@ -9,6 +9,29 @@ ghost use Rattle.tables.specs.View.{rows};
 ghost use Rattle.tables.specs.Formed.{counted, spanAt, centerSpan, allClear};
 ghost use Rattle.apart.specs.Marks as G;
 
+// Words of the rows that hold lines: where a line starts; its length is the next word.
+const LANE: usize = 52;
+
+const CENTERLINE: usize = 6;
+
+const CENTERLINE_START: usize = 7;
+
+const CENTERLINE_SIZE: usize = 8;
+
+const BOUNDARY: usize = 5;
+
+const GEOMETRY: usize = 2;
+
+const STOP_LINE: usize = 4;
+
+const STOP_GEOMETRY: usize = 1;
+
+const CROSSWALK: usize = 7;
+
+const LEFT_EDGE: usize = 1;
+
+const RIGHT_EDGE: usize = 3;
+
 // Whether none of a line's points is marked.
 fn unmarked(marks: &[bool], start: usize, size: usize) -> bool
     requires { ⌜ start + size ≤ length (now marks) ⌝ }
@@ -76,10 +99,10 @@ fn take_center(w: &[u64], marks: &mut [bool]) -> bool
     requires { ⌜ (length (now w) ≡ 52) × (all (G.within (length (now marks))) (centerSpan (now w)) ≡ true) ⌝ }
     ensures { λ r. ⌜ (r ≡ G.apartBy (now (marks .entry)) (centerSpan (now (w .entry)))) × (r ≡ true → now (marks .exit) ≡ G.markedAll (now (marks .entry)) (centerSpan (now (w .entry)))) ⌝ }
 {
-    if w[6] == 0 {
+    if w[CENTERLINE] == 0 {
         return true;
     }
-    take_line(marks, w[7], w[8])
+    take_line(marks, w[CENTERLINE_START], w[CENTERLINE_SIZE])
 }
 
 // The explicit centrelines of the lanes.
@@ -90,8 +113,8 @@ fn take_centers(t: &[u64], marks: &mut [bool]) -> bool
     let n = t[0] as usize;
     let mut i = 0;
     while i < n {
-        let at = 1 + i * 52;
-        let end = at + 52;
+        let at = 1 + i * LANE;
+        let end = at + LANE;
         if take_center(&t[at..end], marks) {
             i += 1;
         } else {
@@ -112,7 +135,7 @@ fn take_all(
     requires { ⌜ G.takeable (length (now marks)) (now lanes) (now boundaries) (now «stop_lines») (now crosswalks) ≡ true ⌝ }
     ensures { λ r. ⌜ r ≡ G.apartBy (now (marks .entry)) (G.lineSpans (now (lanes .entry)) (now (boundaries .entry)) (now («stop_lines» .entry)) (now (crosswalks .entry))) ⌝ }
 {
-    if take_column(boundaries, 5, 2, marks) {
+    if take_column(boundaries, BOUNDARY, GEOMETRY, marks) {
         if take_centers(lanes, marks) {
             return take_rest(stop_lines, crosswalks, marks);
         }
@@ -124,9 +147,9 @@ fn take_rest(stop_lines: &[u64], crosswalks: &[u64], marks: &mut [bool]) -> bool
     requires { ⌜ G.restTakeable (length (now marks)) (now «stop_lines») (now crosswalks) ≡ true ⌝ }
     ensures { λ r. ⌜ r ≡ G.apartBy (now (marks .entry)) (G.restSpans (now («stop_lines» .entry)) (now (crosswalks .entry))) ⌝ }
 {
-    if take_column(stop_lines, 4, 1, marks) {
-        if take_column(crosswalks, 7, 1, marks) {
-            return take_column(crosswalks, 7, 3, marks);
+    if take_column(stop_lines, STOP_LINE, STOP_GEOMETRY, marks) {
+        if take_column(crosswalks, CROSSWALK, LEFT_EDGE, marks) {
+            return take_column(crosswalks, CROSSWALK, RIGHT_EDGE, marks);
         }
     }
     false

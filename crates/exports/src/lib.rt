@@ -1,6 +1,18 @@
-// What a host in Rust or C may call: `rt staticlib exports`.
+// What a host in Rust or C may call: `rt staticlib exports`. A line is passed as the place of its coordinates, three a point, and how many
+// coordinates there are.
 ghost use mathlib.Core.Path.{_≡_};
+ghost use mathlib.Core.List.{_++_};
+ghost use mathlib.Core.Bool.{cond};
+ghost use lib.Dec.{leb};
+ghost use lib.ListN.{length};
+ghost use Rattle.exports.specs.Nearest.{nearest, answered, floats, segmentOf};
+ghost use Rattle.exports.specs.Split.{room};
+ghost use Rattle.lists.specs.Rows.{over};
+ghost use Rattle.polyline.specs.Polyline as L;
+ghost use Rattle.polyline.specs.Polyline.{points, flat};
 ghost use Rattle.root.specs.Root.{root};
+use geometry::Point2;
+use polyline::OptionNearest;
 
 // The square root of every double.
 #[no_mangle]
@@ -8,4 +20,70 @@ pub extern "C" fn voldrekka_sqrt(x: f64) -> f64
     ensures { λ r. ⌜ r ≡ root x ⌝ }
 {
     root::sqrt(x)
+}
+
+#[no_mangle]
+pub extern "C" fn voldrekka_length(line: &[f64]) -> f64
+    ensures { λ r. ⌜ r ≡ L.lineLength (points (now (line .entry))) ⌝ }
+{
+    polyline::length(line)
+}
+
+// Writes point, distance and station to the first five floats of `out`, and answers the segment. For a line without a point, and without room
+// for five floats, it writes nothing and answers 0.
+#[no_mangle]
+pub extern "C" fn voldrekka_nearest_point(line: &[f64], x: f64, y: f64, out: &mut [f64]) -> usize
+    ensures { λ r. ⌜ (r ≡ segmentOf (answered (leb 5 (length (now (out .entry)))) (nearest (points (now (line .entry))) x y))) × (now (out .exit) ≡ over (now (out .entry)) 0 (floats (answered (leb 5 (length (now (out .entry)))) (nearest (points (now (line .entry))) x y)))) ⌝ }
+{
+    if out.len() < 5 {
+        return 0;
+    }
+    let found = polyline::nearest_point(line, Point2 { x, y });
+    let OptionNearest::Some(best) = found else {
+        return 0;
+    };
+    let p = best.point;
+    polyline::put_point(out, 0, p);
+    out[3] = best.distance;
+    out[4] = best.station;
+    best.segment
+}
+
+// Whether so many floats have room for both pieces of a split. A piece has at most one point more than the line: only where two such might not
+// fit are the points counted, which takes as long as the split.
+fn fits(line: &[f64], station: f64, floats: usize) -> bool
+    ensures { λ r. ⌜ r ≡ room (points (now (line .entry))) station floats ⌝ }
+{
+    let places = floats / 3;
+    if polyline::count(line) < places / 2 {
+        return true;
+    }
+    let before = polyline::slice_points(line, 0.0, station);
+    let behind = polyline::slice_points(line, station, polyline::length(line));
+    if places < before {
+        return false;
+    }
+    if places - before < behind {
+        return false;
+    }
+    true
+}
+
+// Writes the second piece behind the first, and answers how many points the first has; `second` is how many the second has. Without room
+// for both it answers 0, and `out` and `second` stay as they came.
+#[no_mangle]
+pub extern "C" fn voldrekka_split_at(
+    line: &[f64],
+    station: f64,
+    out: &mut [f64],
+    second: &mut usize,
+) -> usize
+    ensures { λ r. ⌜ (r ≡ cond (room (points (now (line .entry))) station (length (now (out .entry)))) (length (L.firstPiece (points (now (line .entry))) station)) 0) × ((now (second .exit) ≡ cond (room (points (now (line .entry))) station (length (now (out .entry)))) (length (L.secondPiece (points (now (line .entry))) station)) (now (second .entry))) × (now (out .exit) ≡ cond (room (points (now (line .entry))) station (length (now (out .entry)))) (over (now (out .entry)) 0 (flat (L.firstPiece (points (now (line .entry))) station ++ L.secondPiece (points (now (line .entry))) station))) (now (out .entry)))) ⌝ }
+{
+    if !fits(line, station, out.len()) {
+        return 0;
+    }
+    let pieces = polyline::split_at(line, station, out);
+    *second = pieces.second;
+    pieces.first
 }

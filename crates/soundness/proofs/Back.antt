@@ -17,6 +17,7 @@ use Rattle.rules.proofs.Facts.{Sound, sound-facts}
 use Rattle.tables.specs.View.{Tables, word, lineAt, rows, view, laneOf, boundaryOf, roadOf, junctionOf, ruleOf, stopLineOf, crosswalkOf}
 use Rattle.tables.specs.Formed.{spanAt, centerSpan, stored, counted, spans, allClear, formed, soundTables, laneFormed, ruleFormed}
 use Rattle.map.specs.Good.{largestId, allRows}
+use Rattle.soundness.specs.Parts.{allCounted}
 use Rattle.soundness.proofs.Rows.{all-rows}
 use Rattle.soundness.proofs.Pointwise.{and3, and5}
 use Rattle.soundness.proofs.Parts.{Held, parts-lane, parts-boundary, parts-road, parts-junction, parts-rule, parts-stop-line, parts-crosswalk}
@@ -49,12 +50,6 @@ seven-of a b c d e f g h =
 
 -- ---- the shape of the tables
 
--- the seven counts
-abbrev pub allCounted : Tables → Bool
-allCounted t =
-    counted 1024 52 (t .lanes) && counted 4096 5 (t .boundaries) && counted 256 68 (t .roads) && counted 256 69 (t .junctions)
-    && counted 512 330 (t .rules) && counted 512 4 (t .stop-lines) && counted 128 7 (t .crosswalks)
-
 pub record FormedParts (t : Tables) : Type 0 where
   pub counts : allCounted t ≡ true
   pub lanes : allRows 52 laneFormed (t .lanes) ≡ true
@@ -65,7 +60,7 @@ pub record FormedParts (t : Tables) : Type 0 where
   pub apart : allClear (spans t) ≡ true
 
 pub formed-parts : (t : Tables) → formed t ≡ true → FormedParts t
-unfolding formed allRows
+unfolding formed allRows allCounted
 formed-parts t h =
     let (a, b, c, d, e, f, g) = and7 (allCounted t) (allRows 52 laneFormed (t .lanes)) (allRows 68 (λ w. leb (word 3 w) 64) (t .roads))
     (allRows 69 (λ w. leb (word 4 w) 64) (t .junctions)) (allRows 330 ruleFormed (t .rules))

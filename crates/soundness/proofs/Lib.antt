@@ -7,3 +7,6 @@ pub mod Whole
 pub mod Words
 pub mod Verdict
 pub mod Back
+pub mod Few
+pub mod Ends
+pub mod Counts

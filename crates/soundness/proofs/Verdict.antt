@@ -90,6 +90,10 @@ rule-lists-few w f =
     way-count true e h = h
     way-count false e h = absurd (true≢false (sym e))
 
+-- five facts as one
+pub five : {a b d e f : Bool} → a ≡ true → b ≡ true → d ≡ true → e ≡ true → f ≡ true → (a && (b && (d && (e && f)))) ≡ true
+five h i k n o = rw (h, i, k, n, o)
+
 -- ---- what the test finds
 
 pub record Tested (counter : ℕ) (t : Tables) : Type 0 where
@@ -149,9 +153,6 @@ module _ (counter : ℕ) (t : Tables) (small : counter ≤ lastCounter) (held : 
   xr p = line-parts (t .coordinates) 7 3 (t .crosswalks) (p .x .right-lines)
 
   -- ---- from the test to the definition
-
-  five : {a b d e f : Bool} → a ≡ true → b ≡ true → d ≡ true → e ≡ true → f ≡ true → (a && (b && (d && (e && f)))) ≡ true
-  five h i k n o = rw (h, i, k, n, o)
 
   stored-hold : Parts → all (stored (t .coordinates)) (spans t) ≡ true
   stored-hold p = all-stored (t .coordinates) t ∙ five (bl p .store) (p .l .store) (sl p .store) (xl p .store) (xr p .store)

@@ -1,1 +1,194 @@
-// The parts of the test of soundness are the definition (proofs/Verdict.antt, proofs/Back.antt).
+// The test of soundness: the counts, the rows, the ids, the points, the links and neighbours.
+ghost use mathlib.Core.Path.{_≡_};
+ghost use mathlib.Core.Bool.{true};
+ghost use Prim.Native.Nat.{_≤_, _<_};
+ghost use Rattle.tables.specs.Formed.{counted, soundTables};
+ghost use Rattle.soundness.specs.Parts as P;
+use lists::both;
+
+// A table's most rows, and the words of a row: document 01, "The map", and tables' view.
+const LANES: u64 = 1024;
+
+const LANE: usize = 52;
+
+const BOUNDARIES: u64 = 4096;
+
+const BOUNDARY: usize = 5;
+
+const ROADS: u64 = 256;
+
+const ROAD: usize = 68;
+
+const JUNCTIONS: u64 = 256;
+
+const JUNCTION: usize = 69;
+
+const RULES: u64 = 512;
+
+const RULE: usize = 330;
+
+const STOP_LINES: u64 = 512;
+
+const STOP_LINE: usize = 4;
+
+const CROSSWALKS: u64 = 128;
+
+const CROSSWALK: usize = 7;
+
+// Every table holds its count of rows.
+fn all_counted(
+    lanes: &[u64],
+    boundaries: &[u64],
+    roads: &[u64],
+    junctions: &[u64],
+    rules: &[u64],
+    stop_lines: &[u64],
+    crosswalks: &[u64],
+    coordinates: &[f64],
+) -> bool
+    ensures { λ r. ⌜ r ≡ P.allCounted (P.lent (now (lanes .entry)) (now (boundaries .entry)) (now (roads .entry)) (now (junctions .entry)) (now (rules .entry)) (now («stop_lines» .entry)) (now (crosswalks .entry)) (now (coordinates .entry))) ⌝ }
+{
+    let a = both(
+        map::sound::counted(lanes, LANES, LANE),
+        map::sound::counted(boundaries, BOUNDARIES, BOUNDARY),
+    );
+    let b = both(
+        both(a, map::sound::counted(roads, ROADS, ROAD)),
+        map::sound::counted(junctions, JUNCTIONS, JUNCTION),
+    );
+    let c = both(b, map::sound::counted(rules, RULES, RULE));
+    both(
+        both(c, map::sound::counted(stop_lines, STOP_LINES, STOP_LINE)),
+        map::sound::counted(crosswalks, CROSSWALKS, CROSSWALK),
+    )
+}
+
+// Every row of every table passes.
+fn all_good(
+    most: u64,
+    lanes: &[u64],
+    boundaries: &[u64],
+    roads: &[u64],
+    junctions: &[u64],
+    rules: &[u64],
+    stop_lines: &[u64],
+    crosswalks: &[u64],
+    coordinates: &[f64],
+) -> bool
+    requires { ⌜ P.allCounted (P.lent (now lanes) (now boundaries) (now roads) (now junctions) (now rules) (now «stop_lines») (now crosswalks) (now coordinates)) ≡ true ⌝ }
+    ensures { λ r. ⌜ r ≡ P.allGood most (P.lent (now (lanes .entry)) (now (boundaries .entry)) (now (roads .entry)) (now (junctions .entry)) (now (rules .entry)) (now («stop_lines» .entry)) (now (crosswalks .entry)) (now (coordinates .entry))) ⌝ }
+{
+    let a = both(
+        map::sound::lanes_good(lanes, most, coordinates),
+        map::sound::boundaries_good(boundaries, most, coordinates),
+    );
+    let b = both(
+        both(a, map::sound::roads_good(roads, most)),
+        map::sound::junctions_good(junctions, most),
+    );
+    let c = both(b, map::sound::rules_good(rules, most));
+    both(
+        both(
+            c,
+            map::sound::stop_lines_good(stop_lines, most, coordinates),
+        ),
+        map::sound::crosswalks_good(crosswalks, most, coordinates),
+    )
+}
+
+// A table's ids ascend.
+fn ascends(t: &[u64], limit: u64, row: usize) -> bool
+    requires { ⌜ (0 < row) × (counted limit row (now t) ≡ true) ⌝ }
+    ensures { λ r. ⌜ r ≡ P.ascends row (now (t .entry)) ⌝ }
+{
+    lists::keys_ascend(&t[1..], row, t[0] as usize)
+}
+
+// The ids of every table ascend.
+fn all_ascend(
+    lanes: &[u64],
+    boundaries: &[u64],
+    roads: &[u64],
+    junctions: &[u64],
+    rules: &[u64],
+    stop_lines: &[u64],
+    crosswalks: &[u64],
+    coordinates: &[f64],
+) -> bool
+    requires { ⌜ P.allCounted (P.lent (now lanes) (now boundaries) (now roads) (now junctions) (now rules) (now «stop_lines») (now crosswalks) (now coordinates)) ≡ true ⌝ }
+    ensures { λ r. ⌜ r ≡ P.allAscend (P.lent (now (lanes .entry)) (now (boundaries .entry)) (now (roads .entry)) (now (junctions .entry)) (now (rules .entry)) (now («stop_lines» .entry)) (now (crosswalks .entry)) (now (coordinates .entry))) ⌝ }
+{
+    let a = both(
+        ascends(lanes, LANES, LANE),
+        ascends(boundaries, BOUNDARIES, BOUNDARY),
+    );
+    let b = both(
+        both(a, ascends(roads, ROADS, ROAD)),
+        ascends(junctions, JUNCTIONS, JUNCTION),
+    );
+    let c = both(b, ascends(rules, RULES, RULE));
+    both(
+        both(c, ascends(stop_lines, STOP_LINES, STOP_LINE)),
+        ascends(crosswalks, CROSSWALKS, CROSSWALK),
+    )
+}
+
+// "A map is sound when ..", of lent memory.
+pub fn sound(
+    counter: u64,
+    lanes: &[u64],
+    boundaries: &[u64],
+    roads: &[u64],
+    junctions: &[u64],
+    rules: &[u64],
+    stop_lines: &[u64],
+    crosswalks: &[u64],
+    coordinates: &[f64],
+) -> bool
+    ensures { λ r. ⌜ r ≡ soundTables counter (P.lent (now (lanes .entry)) (now (boundaries .entry)) (now (roads .entry)) (now (junctions .entry)) (now (rules .entry)) (now («stop_lines» .entry)) (now (crosswalks .entry)) (now (coordinates .entry))) ⌝ }
+{
+    if all_counted(
+        lanes,
+        boundaries,
+        roads,
+        junctions,
+        rules,
+        stop_lines,
+        crosswalks,
+        coordinates,
+    ) {
+        let most = map::sound::largest_id(counter);
+        let good = all_good(
+            most,
+            lanes,
+            boundaries,
+            roads,
+            junctions,
+            rules,
+            stop_lines,
+            crosswalks,
+            coordinates,
+        );
+        if both(
+            good,
+            all_ascend(
+                lanes,
+                boundaries,
+                roads,
+                junctions,
+                rules,
+                stop_lines,
+                crosswalks,
+                coordinates,
+            ),
+        ) {
+            if apart::lines_apart(lanes, boundaries, stop_lines, crosswalks) {
+                return both(
+                    map::links::links_returned(lanes),
+                    map::links::neighbors_returned(lanes),
+                );
+            }
+        }
+    }
+    false
+}
