@@ -8,7 +8,7 @@ use Rattle.lists.specs.Rows.{keys}
 use Rattle.lists.specs.Select.{ascending}
 use Rattle.tables.specs.View.{Tables, word}
 use Rattle.tables.specs.Formed.{counted}
-use Rattle.map.specs.Good.{allRows, laneGood, boundaryGood, roadGood, junctionGood, ruleGood, stopLineGood, crosswalkGood}
+use Rattle.map.specs.Good.{largestId, allRows, laneGood, boundaryGood, roadGood, junctionGood, ruleGood, stopLineGood, crosswalkGood}
 
 -- eight lent slices as tables
 abbrev pub lent : List ℕ → List ℕ → List ℕ → List ℕ → List ℕ → List ℕ → List ℕ → List Float → Tables
@@ -50,3 +50,7 @@ allAscend t =
     && ascends 330 (t .rules)
     && ascends 4 (t .stop-lines)
     && ascends 7 (t .crosswalks)
+
+-- rows and ids, for the largest id that the counter allows
+abbrev pub rowsSound : ℕ → Tables → Bool
+rowsSound counter t = allGood (largestId counter) t && allAscend t

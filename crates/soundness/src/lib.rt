@@ -133,6 +133,48 @@ fn all_ascend(
     )
 }
 
+// The rows of every table pass, for the largest id that the counter allows, and its ids ascend.
+fn rows_sound(
+    counter: u64,
+    lanes: &[u64],
+    boundaries: &[u64],
+    roads: &[u64],
+    junctions: &[u64],
+    rules: &[u64],
+    stop_lines: &[u64],
+    crosswalks: &[u64],
+    coordinates: &[f64],
+) -> bool
+    requires { ⌜ P.allCounted (P.lent (now lanes) (now boundaries) (now roads) (now junctions) (now rules) (now «stop_lines») (now crosswalks) (now coordinates)) ≡ true ⌝ }
+    ensures { λ r. ⌜ r ≡ P.rowsSound counter (P.lent (now (lanes .entry)) (now (boundaries .entry)) (now (roads .entry)) (now (junctions .entry)) (now (rules .entry)) (now («stop_lines» .entry)) (now (crosswalks .entry)) (now (coordinates .entry))) ⌝ }
+{
+    let most = map::sound::largest_id(counter);
+    let good = all_good(
+        most,
+        lanes,
+        boundaries,
+        roads,
+        junctions,
+        rules,
+        stop_lines,
+        crosswalks,
+        coordinates,
+    );
+    both(
+        good,
+        all_ascend(
+            lanes,
+            boundaries,
+            roads,
+            junctions,
+            rules,
+            stop_lines,
+            crosswalks,
+            coordinates,
+        ),
+    )
+}
+
 // "A map is sound when ..", of lent memory.
 pub fn sound(
     counter: u64,
@@ -157,9 +199,8 @@ pub fn sound(
         crosswalks,
         coordinates,
     ) {
-        let most = map::sound::largest_id(counter);
-        let good = all_good(
-            most,
+        if rows_sound(
+            counter,
             lanes,
             boundaries,
             roads,
@@ -168,25 +209,10 @@ pub fn sound(
             stop_lines,
             crosswalks,
             coordinates,
-        );
-        if both(
-            good,
-            all_ascend(
-                lanes,
-                boundaries,
-                roads,
-                junctions,
-                rules,
-                stop_lines,
-                crosswalks,
-                coordinates,
-            ),
         ) {
             if apart::lines_apart(lanes, boundaries, stop_lines, crosswalks) {
-                return both(
-                    map::links::links_returned(lanes),
-                    map::links::neighbors_returned(lanes),
-                );
+                let linked = map::links::links_returned(lanes);
+                return both(linked, map::links::neighbors_returned(lanes));
             }
         }
     }
