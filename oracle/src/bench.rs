@@ -122,6 +122,23 @@ pub fn run() -> bool {
         start.elapsed()
     });
     println!("soundness of the lent tables: {t:.1}");
+    for (name, m) in [("", &plain), (" with rules", &furnished)] {
+        let tables = crate::cases::plain(m, 40, 400);
+        if crate::ffi::sound(&tables, m.peek_next_id()).is_none() {
+            continue;
+        }
+        let counter = m.peek_next_id();
+        let t = median(|| {
+            let start = Instant::now();
+            assert_eq!(crate::ffi::sound(black_box(&tables), counter), Some(true));
+            start.elapsed()
+        });
+        let rust = alone(m);
+        println!(
+            "soundness by the editor{name}: {t:.1}, beside the Rust's map {:.2}",
+            t / rust
+        );
+    }
     let c = median(|| {
         let start = Instant::now();
         black_box(black_box(&plain).clone());

@@ -31,6 +31,7 @@ oracle make SEED COUNT [small]     a stream of maps, calls and answers to standa
 oracle lines SEED COUNT            the same for the line functions
 oracle check SEED COUNT            make them, keep nothing, and try document 01's claims on each call
 oracle against SEED COUNT          call by call beside the editor's library (feature against)
+oracle sound SEED COUNT            the library's test of soundness beside the oracle's own (feature against)
 oracle try SEED COUNT              the comparison, tried on the oracle itself with faults planted
 oracle bench                       times of the Rust, with and without a test of soundness
 oracle replay FILE                 read a stored stream and make its calls again
@@ -78,6 +79,36 @@ fn check(seed: u64, count: usize) -> bool {
     broken == 0
 }
 
+/// The library's test of soundness says what the oracle's own says, of every map and of what each call leaves.
+fn verdicts(seed: u64, count: usize) -> bool {
+    let (mut sound, mut unsound, mut differ) = (0, 0, 0);
+    let mut look = |index: usize, t: &tables::Tables, counter: u64| {
+        let fault = sound::fault(t, counter);
+        let Some(said) = ffi::sound(t, counter) else {
+            eprintln!("built without the library: oracle/README.md");
+            std::process::exit(2);
+        };
+        if said != fault.is_none() {
+            println!("map {index}: {fault:?}, the library says {said}");
+            differ += 1;
+        } else if said {
+            sound += 1;
+        } else {
+            unsound += 1;
+        }
+    };
+    for index in 0..count {
+        let case = generate::case(seed, index, Profile::Full);
+        look(index, &case.tables, case.counter);
+        case.play(|t| {
+            look(index, &t.after.tables, t.after.counter);
+            true
+        });
+    }
+    println!("{sound} sound, {unsound} unsound, {differ} differ");
+    differ == 0
+}
+
 fn replay(bytes: &[u8]) -> bool {
     let said = if bytes.first() == Some(&(format::LINES as u8)) {
         lines::replay(bytes)
@@ -119,6 +150,7 @@ fn main() {
         }
         ["check", seed, count] => check(number(seed), number(count) as usize),
         ["against", seed, count] => against::run(number(seed), number(count) as usize),
+        ["sound", seed, count] => verdicts(number(seed), number(count) as usize),
         ["try", seed, count] => against::try_out(number(seed), number(count) as usize),
         ["rows", seed, count, dir] => {
             rows::make(number(seed), number(count) as usize, dir.as_ref()).expect("a folder")

@@ -11,6 +11,8 @@ ghost use Rattle.lists.specs.Rows.{over};
 ghost use Rattle.polyline.specs.Polyline as L;
 ghost use Rattle.polyline.specs.Polyline.{points, flat};
 ghost use Rattle.root.specs.Root.{root};
+ghost use Rattle.tables.specs.Formed.{soundTables};
+ghost use Rattle.soundness.specs.Parts.{lent};
 use geometry::Point2;
 use polyline::OptionNearest;
 
@@ -86,4 +88,32 @@ pub extern "C" fn voldrekka_split_at(
     let pieces = polyline::split_at(line, station, out);
     *second = pieces.second;
     pieces.first
+}
+
+// "A map is sound when ..", of lent memory with any contents.
+#[no_mangle]
+pub extern "C" fn voldrekka_sound(
+    counter: u64,
+    lanes: &[u64],
+    boundaries: &[u64],
+    roads: &[u64],
+    junctions: &[u64],
+    rules: &[u64],
+    stop_lines: &[u64],
+    crosswalks: &[u64],
+    coordinates: &[f64],
+) -> bool
+    ensures { λ r. ⌜ r ≡ soundTables counter (lent (now (lanes .entry)) (now (boundaries .entry)) (now (roads .entry)) (now (junctions .entry)) (now (rules .entry)) (now («stop_lines» .entry)) (now (crosswalks .entry)) (now (coordinates .entry))) ⌝ }
+{
+    soundness::sound(
+        counter,
+        lanes,
+        boundaries,
+        roads,
+        junctions,
+        rules,
+        stop_lines,
+        crosswalks,
+        coordinates,
+    )
 }
