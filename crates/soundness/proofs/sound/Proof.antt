@@ -11,7 +11,7 @@ use Rattle.map.specs.Good.{largestId}
 use Rattle.apart.proofs.Stored.{spans-lines}
 use Rattle.tables.specs.Formed.{allClear}
 use Rattle.soundness.specs.Parts.{lent, allGood, allAscend}
-use Rattle.soundness.proofs.Ends.{words-of, may-take, may-search, end-tied, end-touching, end-bad, end-uncounted}
+use Rattle.soundness.proofs.Ends.{words-of, joined, may-take, may-search, end-tied, end-touching, end-bad, end-uncounted}
 
 all-counted-requires : tie.Need-all-counted-requires
 all-counted-requires c κs = search needs
@@ -52,7 +52,7 @@ returns c =
     let k = c .before .before .before .before .before .before .before .before .before .before .before .before .before .before .before .before .before .args .counter in
     let small : k ≤ lastCounter = omega (arith, c .before .before .before .before .before .before .before .before .before .before .before .before .before .before .before .before .before .good .0 .1) in
     let w = words-of t (c .before .before .before .before .before .before .before .before .before .before .before .before .before .before .before .before .shared-slice-known .given) (c .before .before .before .before .before .before .before .before .before .before .before .before .before .before .before .shared-slice-known2 .given) (c .before .before .before .before .before .before .before .before .before .before .before .before .before .before .shared-slice-known3 .given) (c .before .before .before .before .before .before .before .before .before .before .before .before .before .shared-slice-known4 .given) (c .before .before .before .before .before .before .before .before .before .before .before .before .shared-slice-known5 .given) (c .before .before .before .before .before .before .before .before .before .before .before .shared-slice-known6 .given) (c .before .before .before .before .before .before .before .before .before .before .shared-slice-known7 .given) in
-    c .both .ensures ∙ (rw (c .before .before .links-returned .ensures, c .before .neighbors-returned .ensures) (end-tied k t small w (sym (c .before .before .before .before .before .before .before .before .all-counted .ensures) ∙ c .before .before .before .before .before .before .before .if1 .taken) (sym (c .before .before .before .before .before .before .rows-sound .ensures) ∙ c .before .before .before .before .before .if2 .taken) (ap allClear (spans-lines t) ∙ (sym (c .before .before .before .before .lines-apart .ensures) ∙ c .before .before .before .if3 .taken))))
+    joined _ _ (c .before .before .links-returned .ensures) (c .before .neighbors-returned .ensures) (c .both .ensures) (end-tied k t small w (sym (c .before .before .before .before .before .before .before .before .all-counted .ensures) ∙ c .before .before .before .before .before .before .before .if1 .taken) (sym (c .before .before .before .before .before .before .rows-sound .ensures) ∙ c .before .before .before .before .before .if2 .taken) (ap allClear (spans-lines t) ∙ (sym (c .before .before .before .before .lines-apart .ensures) ∙ c .before .before .before .if3 .taken)))
 
 returns-2 : tie.Need-returns-2
 returns-2 c =
