@@ -25,6 +25,162 @@ const MOST_POINTS: u64 = 65536;
 
 const LINE_POINTS: u64 = 256;
 
+// The largest kinds, marks and counts.
+const LANE_KINDS: u64 = 7;
+
+const TURNS: u64 = 3;
+
+const SLOT_MARKS: u64 = 2;
+
+const LINKS: u64 = 16;
+
+const BOUNDARY_KINDS: u64 = 13;
+
+const IDS: u64 = 64;
+
+// Kinds of rules.
+const TRAFFIC_SIGN: u64 = 1;
+
+const STOP_LINE_RULE: u64 = 2;
+
+const RIGHT_OF_WAY: u64 = 3;
+
+const CROSSWALK_RULE: u64 = 4;
+
+const OTHER: u64 = 5;
+
+// Words of a row.
+const LANE: usize = 52;
+
+const BOUNDARY: usize = 5;
+
+const ROAD: usize = 68;
+
+const JUNCTION: usize = 69;
+
+const RULE: usize = 330;
+
+const STOP_LINE: usize = 4;
+
+const CROSSWALK: usize = 7;
+
+// Places in a row: the columns of tables' view.
+const LANE_ID: usize = 0;
+
+const LANE_KIND: usize = 1;
+
+const LANE_LEFT: usize = 2;
+
+const LANE_LEFT_REVERSED: usize = 3;
+
+const LANE_RIGHT: usize = 4;
+
+const LANE_RIGHT_REVERSED: usize = 5;
+
+const LANE_CENTERLINE: usize = 6;
+
+const LANE_CENTERLINE_START: usize = 7;
+
+const LANE_CENTERLINE_SIZE: usize = 8;
+
+const LANE_SPEED: usize = 9;
+
+const LANE_ONE_WAY: usize = 11;
+
+const LANE_TURN: usize = 12;
+
+const LANE_ATTRIBUTES: usize = 13;
+
+const LANE_LEFT_SLOT: usize = 14;
+
+const LANE_LEFT_LANE: usize = 15;
+
+const LANE_RIGHT_SLOT: usize = 16;
+
+const LANE_RIGHT_LANE: usize = 17;
+
+const LANE_PREDECESSORS: usize = 18;
+
+const LANE_SUCCESSORS: usize = 35;
+
+const FIRST_PREDECESSOR: usize = 19;
+
+const FIRST_SUCCESSOR: usize = 36;
+
+const BOUNDARY_ID: usize = 0;
+
+const BOUNDARY_KIND: usize = 1;
+
+const BOUNDARY_START: usize = 2;
+
+const BOUNDARY_SIZE: usize = 3;
+
+const BOUNDARY_ATTRIBUTES: usize = 4;
+
+const ROAD_ID: usize = 0;
+
+const ROAD_NAME: usize = 1;
+
+const ROAD_ATTRIBUTES: usize = 2;
+
+const ROAD_LANES: usize = 3;
+
+const ROAD_FIRST_LANE: usize = 4;
+
+const JUNCTION_ID: usize = 0;
+
+const JUNCTION_NAME: usize = 1;
+
+const JUNCTION_OUTLINE: usize = 2;
+
+const JUNCTION_ATTRIBUTES: usize = 3;
+
+const JUNCTION_LANES: usize = 4;
+
+const JUNCTION_FIRST_LANE: usize = 5;
+
+const RULE_ID: usize = 0;
+
+const RULE_KIND: usize = 1;
+
+const RULE_CONTENT: usize = 2;
+
+const RULE_ATTRIBUTES: usize = 3;
+
+const RULE_CROSSWALK: usize = 4;
+
+const RULE_LANES: usize = 5;
+
+const RULE_CONTROLLED: usize = 70;
+
+const RULE_STOP_LINES: usize = 135;
+
+const RULE_PRIORITY: usize = 200;
+
+const RULE_YIELDING: usize = 265;
+
+const STOP_LINE_ID: usize = 0;
+
+const STOP_LINE_START: usize = 1;
+
+const STOP_LINE_SIZE: usize = 2;
+
+const STOP_LINE_ATTRIBUTES: usize = 3;
+
+const CROSSWALK_ID: usize = 0;
+
+const CROSSWALK_LEFT_START: usize = 1;
+
+const CROSSWALK_LEFT_SIZE: usize = 2;
+
+const CROSSWALK_RIGHT_START: usize = 3;
+
+const CROSSWALK_RIGHT_SIZE: usize = 4;
+
+const CROSSWALK_OUTLINE: usize = 5;
+
+const CROSSWALK_ATTRIBUTES: usize = 6;
+
 // ---- counts
 
 // A table's count, against its limit and the lent length.
@@ -117,12 +273,24 @@ fn lane_formed(w: &[u64]) -> bool
     ensures { λ r. ⌜ r ≡ laneFormed (now (w .entry)) ⌝ }
 {
     let marks = both(
-        both(both(both(w[3] <= 1, w[5] <= 1), w[6] <= 1), w[9] <= 1),
-        w[11] <= 1,
+        both(
+            both(
+                both(w[LANE_LEFT_REVERSED] <= 1, w[LANE_RIGHT_REVERSED] <= 1),
+                w[LANE_CENTERLINE] <= 1,
+            ),
+            w[LANE_SPEED] <= 1,
+        ),
+        w[LANE_ONE_WAY] <= 1,
     );
     both(
-        both(both(both(marks, w[14] <= 2), w[16] <= 2), w[18] <= 16),
-        w[35] <= 16,
+        both(
+            both(
+                both(marks, w[LANE_LEFT_SLOT] <= SLOT_MARKS),
+                w[LANE_RIGHT_SLOT] <= SLOT_MARKS,
+            ),
+            w[LANE_PREDECESSORS] <= LINKS,
+        ),
+        w[LANE_SUCCESSORS] <= LINKS,
     )
 }
 
@@ -139,11 +307,17 @@ fn lane_numbers(w: &[u64], most: u64) -> bool
     requires { ⌜ length (now w) ≡ 52 ⌝ }
     ensures { λ r. ⌜ r ≡ G.laneNumbers most (now (w .entry)) ⌝ }
 {
-    let kinds = both(both(w[1] <= 7, w[12] <= 3), handle(w[13]));
-    let ids = both(both(both(kinds, w[0] <= most), w[2] <= most), w[4] <= most);
+    let kinds = both(
+        both(w[LANE_KIND] <= LANE_KINDS, w[LANE_TURN] <= TURNS),
+        handle(w[LANE_ATTRIBUTES]),
+    );
+    let ids = both(
+        both(both(kinds, w[LANE_ID] <= most), w[LANE_LEFT] <= most),
+        w[LANE_RIGHT] <= most,
+    );
     both(
-        both(ids, slot_good(w[14], w[15], most)),
-        slot_good(w[16], w[17], most),
+        both(ids, slot_good(w[LANE_LEFT_SLOT], w[LANE_LEFT_LANE], most)),
+        slot_good(w[LANE_RIGHT_SLOT], w[LANE_RIGHT_LANE], most),
     )
 }
 
@@ -158,16 +332,20 @@ pub fn lane_good(w: &[u64], most: u64, coordinates: &[f64]) -> bool
     ensures { λ r. ⌜ r ≡ G.laneGood most (now (coordinates .entry)) (now (w .entry)) ⌝ }
 {
     if both(lane_formed(w), lane_numbers(w, most)) {
-        let before = 19 + w[18] as usize;
-        let after = 36 + w[35] as usize;
+        let before = FIRST_PREDECESSOR + w[LANE_PREDECESSORS] as usize;
+        let after = FIRST_SUCCESSOR + w[LANE_SUCCESSORS] as usize;
         if both(
-            links_good(&w[19..before], most),
-            links_good(&w[36..after], most),
+            links_good(&w[FIRST_PREDECESSOR..before], most),
+            links_good(&w[FIRST_SUCCESSOR..after], most),
         ) {
-            if w[6] == 0 {
+            if w[LANE_CENTERLINE] == 0 {
                 return true;
             }
-            return line_good(coordinates, w[7], w[8]);
+            return line_good(
+                coordinates,
+                w[LANE_CENTERLINE_START],
+                w[LANE_CENTERLINE_SIZE],
+            );
         }
     }
     false
@@ -177,8 +355,14 @@ pub fn boundary_good(w: &[u64], most: u64, coordinates: &[f64]) -> bool
     requires { ⌜ length (now w) ≡ 5 ⌝ }
     ensures { λ r. ⌜ r ≡ G.boundaryGood most (now (coordinates .entry)) (now (w .entry)) ⌝ }
 {
-    let numbers = both(both(w[0] <= most, w[1] <= 13), handle(w[4]));
-    both(numbers, line_good(coordinates, w[2], w[3]))
+    let numbers = both(
+        both(w[BOUNDARY_ID] <= most, w[BOUNDARY_KIND] <= BOUNDARY_KINDS),
+        handle(w[BOUNDARY_ATTRIBUTES]),
+    );
+    both(
+        numbers,
+        line_good(coordinates, w[BOUNDARY_START], w[BOUNDARY_SIZE]),
+    )
 }
 
 pub fn road_good(w: &[u64], most: u64) -> bool
@@ -186,11 +370,14 @@ pub fn road_good(w: &[u64], most: u64) -> bool
     ensures { λ r. ⌜ r ≡ G.roadGood most (now (w .entry)) ⌝ }
 {
     if both(
-        both(both(w[0] <= most, handle(w[1])), handle(w[2])),
-        w[3] <= 64,
+        both(
+            both(w[ROAD_ID] <= most, handle(w[ROAD_NAME])),
+            handle(w[ROAD_ATTRIBUTES]),
+        ),
+        w[ROAD_LANES] <= IDS,
     ) {
-        let end = 4 + w[3] as usize;
-        return lists::all_at_most(&w[4..end], most);
+        let end = ROAD_FIRST_LANE + w[ROAD_LANES] as usize;
+        return lists::all_at_most(&w[ROAD_FIRST_LANE..end], most);
     }
     false
 }
@@ -200,12 +387,15 @@ pub fn junction_good(w: &[u64], most: u64) -> bool
     ensures { λ r. ⌜ r ≡ G.junctionGood most (now (w .entry)) ⌝ }
 {
     let handles = both(
-        both(both(w[0] <= most, handle(w[1])), handle(w[2])),
-        handle(w[3]),
+        both(
+            both(w[JUNCTION_ID] <= most, handle(w[JUNCTION_NAME])),
+            handle(w[JUNCTION_OUTLINE]),
+        ),
+        handle(w[JUNCTION_ATTRIBUTES]),
     );
-    if both(handles, w[4] <= 64) {
-        let end = 5 + w[4] as usize;
-        return lists::all_at_most(&w[5..end], most);
+    if both(handles, w[JUNCTION_LANES] <= IDS) {
+        let end = JUNCTION_FIRST_LANE + w[JUNCTION_LANES] as usize;
+        return lists::all_at_most(&w[JUNCTION_FIRST_LANE..end], most);
     }
     false
 }
@@ -230,9 +420,12 @@ fn rule_formed(w: &[u64]) -> bool
     requires { ⌜ length (now w) ≡ 330 ⌝ }
     ensures { λ r. ⌜ r ≡ ruleFormed (now (w .entry)) ⌝ }
 {
-    let own = both(w[5] <= 64, w[70] <= 64);
-    let stops = either(w[1] == 5, w[135] <= 64);
-    let ways = either(w[1] != 3, both(w[200] <= 64, w[265] <= 64));
+    let own = both(w[RULE_LANES] <= IDS, w[RULE_CONTROLLED] <= IDS);
+    let stops = either(w[RULE_KIND] == OTHER, w[RULE_STOP_LINES] <= IDS);
+    let ways = either(
+        w[RULE_KIND] != RIGHT_OF_WAY,
+        both(w[RULE_PRIORITY] <= IDS, w[RULE_YIELDING] <= IDS),
+    );
     both(both(own, stops), ways)
 }
 
@@ -240,13 +433,13 @@ fn rule_formed(w: &[u64]) -> bool
 fn stops_fit(kind: u64, n: u64) -> bool
     ensures { λ r. ⌜ r ≡ stopLinesFit kind n ⌝ }
 {
-    if kind <= 1 {
+    if kind <= TRAFFIC_SIGN {
         return n <= 1;
     }
-    if kind == 2 {
+    if kind == STOP_LINE_RULE {
         return n == 1;
     }
-    if kind == 5 {
+    if kind == OTHER {
         return n == 0;
     }
     true
@@ -256,10 +449,10 @@ fn stops_fit(kind: u64, n: u64) -> bool
 fn content_good(kind: u64, content: u64) -> bool
     ensures { λ r. ⌜ r ≡ (not (hasContent kind) || G.handleGood content) ⌝ }
 {
-    if kind <= 1 {
+    if kind <= TRAFFIC_SIGN {
         return handle(content);
     }
-    if kind == 5 {
+    if kind == OTHER {
         return handle(content);
     }
     true
@@ -270,13 +463,19 @@ fn rule_numbers(w: &[u64], most: u64) -> bool
     ensures { λ r. ⌜ r ≡ G.ruleNumbers most (now (w .entry)) ⌝ }
 {
     let numbers = both(
-        both(both(w[0] <= most, w[1] <= 5), content_good(w[1], w[2])),
-        handle(w[3]),
+        both(
+            both(w[RULE_ID] <= most, w[RULE_KIND] <= OTHER),
+            content_good(w[RULE_KIND], w[RULE_CONTENT]),
+        ),
+        handle(w[RULE_ATTRIBUTES]),
     );
-    let crosswalk = either(w[1] != 4, w[4] <= most);
+    let crosswalk = either(w[RULE_KIND] != CROSSWALK_RULE, w[RULE_CROSSWALK] <= most);
     both(
         both(numbers, crosswalk),
-        either(w[1] == 5, stops_fit(w[1], w[135])),
+        either(
+            w[RULE_KIND] == OTHER,
+            stops_fit(w[RULE_KIND], w[RULE_STOP_LINES]),
+        ),
     )
 }
 
@@ -285,13 +484,19 @@ fn rule_lists(w: &[u64], most: u64) -> bool
     requires { ⌜ (length (now w) ≡ 330) × (ruleFormed (now w) ≡ true) ⌝ }
     ensures { λ r. ⌜ r ≡ G.ruleLists most (now (w .entry)) ⌝ }
 {
-    if both(list_good(w, 5, most), list_good(w, 70, most)) {
-        if w[1] == 5 {
+    if both(
+        list_good(w, RULE_LANES, most),
+        list_good(w, RULE_CONTROLLED, most),
+    ) {
+        if w[RULE_KIND] == OTHER {
             return true;
         }
-        if list_good(w, 135, most) {
-            if w[1] == 3 {
-                return both(list_good(w, 200, most), list_good(w, 265, most));
+        if list_good(w, RULE_STOP_LINES, most) {
+            if w[RULE_KIND] == RIGHT_OF_WAY {
+                return both(
+                    list_good(w, RULE_PRIORITY, most),
+                    list_good(w, RULE_YIELDING, most),
+                );
             }
             return true;
         }
@@ -314,8 +519,8 @@ pub fn stop_line_good(w: &[u64], most: u64, coordinates: &[f64]) -> bool
     ensures { λ r. ⌜ r ≡ G.stopLineGood most (now (coordinates .entry)) (now (w .entry)) ⌝ }
 {
     both(
-        both(w[0] <= most, handle(w[3])),
-        line_good(coordinates, w[1], w[2]),
+        both(w[STOP_LINE_ID] <= most, handle(w[STOP_LINE_ATTRIBUTES])),
+        line_good(coordinates, w[STOP_LINE_START], w[STOP_LINE_SIZE]),
     )
 }
 
@@ -323,10 +528,20 @@ pub fn crosswalk_good(w: &[u64], most: u64, coordinates: &[f64]) -> bool
     requires { ⌜ length (now w) ≡ 7 ⌝ }
     ensures { λ r. ⌜ r ≡ G.crosswalkGood most (now (coordinates .entry)) (now (w .entry)) ⌝ }
 {
-    let numbers = both(both(w[0] <= most, handle(w[5])), handle(w[6]));
+    let numbers = both(
+        both(w[CROSSWALK_ID] <= most, handle(w[CROSSWALK_OUTLINE])),
+        handle(w[CROSSWALK_ATTRIBUTES]),
+    );
     both(
-        both(numbers, line_good(coordinates, w[1], w[2])),
-        line_good(coordinates, w[3], w[4]),
+        both(
+            numbers,
+            line_good(coordinates, w[CROSSWALK_LEFT_START], w[CROSSWALK_LEFT_SIZE]),
+        ),
+        line_good(
+            coordinates,
+            w[CROSSWALK_RIGHT_START],
+            w[CROSSWALK_RIGHT_SIZE],
+        ),
     )
 }
 
@@ -339,8 +554,8 @@ pub fn lanes_good(t: &[u64], most: u64, coordinates: &[f64]) -> bool
     let n = t[0] as usize;
     let mut i = 0;
     while i < n {
-        let at = 1 + i * 52;
-        let end = at + 52;
+        let at = 1 + i * LANE;
+        let end = at + LANE;
         if lane_good(&t[at..end], most, coordinates) {
             i += 1;
         } else {
@@ -357,8 +572,8 @@ pub fn boundaries_good(t: &[u64], most: u64, coordinates: &[f64]) -> bool
     let n = t[0] as usize;
     let mut i = 0;
     while i < n {
-        let at = 1 + i * 5;
-        let end = at + 5;
+        let at = 1 + i * BOUNDARY;
+        let end = at + BOUNDARY;
         if boundary_good(&t[at..end], most, coordinates) {
             i += 1;
         } else {
@@ -375,8 +590,8 @@ pub fn roads_good(t: &[u64], most: u64) -> bool
     let n = t[0] as usize;
     let mut i = 0;
     while i < n {
-        let at = 1 + i * 68;
-        let end = at + 68;
+        let at = 1 + i * ROAD;
+        let end = at + ROAD;
         if road_good(&t[at..end], most) {
             i += 1;
         } else {
@@ -393,8 +608,8 @@ pub fn junctions_good(t: &[u64], most: u64) -> bool
     let n = t[0] as usize;
     let mut i = 0;
     while i < n {
-        let at = 1 + i * 69;
-        let end = at + 69;
+        let at = 1 + i * JUNCTION;
+        let end = at + JUNCTION;
         if junction_good(&t[at..end], most) {
             i += 1;
         } else {
@@ -411,8 +626,8 @@ pub fn rules_good(t: &[u64], most: u64) -> bool
     let n = t[0] as usize;
     let mut i = 0;
     while i < n {
-        let at = 1 + i * 330;
-        let end = at + 330;
+        let at = 1 + i * RULE;
+        let end = at + RULE;
         if rule_good(&t[at..end], most) {
             i += 1;
         } else {
@@ -429,8 +644,8 @@ pub fn stop_lines_good(t: &[u64], most: u64, coordinates: &[f64]) -> bool
     let n = t[0] as usize;
     let mut i = 0;
     while i < n {
-        let at = 1 + i * 4;
-        let end = at + 4;
+        let at = 1 + i * STOP_LINE;
+        let end = at + STOP_LINE;
         if stop_line_good(&t[at..end], most, coordinates) {
             i += 1;
         } else {
@@ -447,8 +662,8 @@ pub fn crosswalks_good(t: &[u64], most: u64, coordinates: &[f64]) -> bool
     let n = t[0] as usize;
     let mut i = 0;
     while i < n {
-        let at = 1 + i * 7;
-        let end = at + 7;
+        let at = 1 + i * CROSSWALK;
+        let end = at + CROSSWALK;
         if crosswalk_good(&t[at..end], most, coordinates) {
             i += 1;
         } else {
