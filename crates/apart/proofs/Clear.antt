@@ -14,18 +14,13 @@ use borrow.Author.Tests.{eq-eqb, eqb-true, eqb-false, leb-true, leb-false, ltb-t
 use Rattle.lists.specs.Every.{all}
 use Rattle.lists.specs.Rows.{over}
 use Rattle.lists.proofs.Every.{all-head, all-tail, all-places}
-use Rattle.lists.proofs.Select.{and-both, and-fst, and-snd}
+use Rattle.lists.proofs.Booleans.{and-both, and-fst, and-snd, same-test}
 use Rattle.lists.proofs.Rows.{getD-over-before, getD-over-behind}
 use Rattle.tables.specs.Formed.{Span, clear, allClear}
 use Rattle.apart.specs.Marks.{trues, marked, unmarked, apartBy, within}
 use Rattle.apart.proofs.Marks.{or-cases, length-trues, within-cases, marked-none, length-marked}
 
 -- ---- Booleans and tests on lists
-
-same : (a b : Bool) → (a ≡ true → b ≡ true) → (b ≡ true → a ≡ true) → a ≡ b
-same true b p q = sym (p refl)
-same false true p q = q refl
-same false false p q = refl
 
 neither : (a b : Bool) → (a || b) ≡ false → (a ≡ false) × (b ≡ false)
 neither true b h = absurd (true≢false h)
@@ -168,7 +163,7 @@ touch s t h =
 
 -- THE KEY: a line finds its points unmarked after another is marked where it found them so before and the two are clear
 key : (m : List Bool) (s : Span) → s .start + s .size ≤ length m → (t : Span) → unmarked (marked m s) t ≡ (unmarked m t && clear s t)
-key m s h t = same (unmarked (marked m s) t) (unmarked m t && clear s t) there back
+key m s h t = same-test (unmarked (marked m s) t) (unmarked m t && clear s t) there back
   where
     apart : unmarked (marked m s) t ≡ true → (b : Bool) → clear s t ≡ b → b ≡ true
     apart u true e = refl

@@ -16,7 +16,7 @@ use Rattle.lists.specs.Every.{all}
 use Rattle.lists.specs.Rows.{reads, over}
 use Rattle.lists.specs.Select.{each}
 use Rattle.lists.proofs.Every.{all-step, all-end, all-head}
-use Rattle.lists.proofs.Select.{and-fst, and-snd}
+use Rattle.lists.proofs.Booleans.{and-fst, and-snd}
 use Rattle.lists.proofs.Rows.{over-nil, length-over, store-behind, row-within}
 use Rattle.tables.specs.View.{word, rows}
 use Rattle.tables.specs.Formed.{Span, spanAt, centerSpan, counted}
@@ -189,8 +189,3 @@ pub marked-append : (marks : List Bool) (a b : List Span) → markedAll marks (a
 unfolding markedAll
 marked-append marks [] b = refl
 marked-append marks (s ∷ a) b = marked-append (marked marks s) a b
-
-pub all-both : {A : Type 0} (f : A → Bool) (a b : List A) → all f (a ++ b) ≡ (all f a && all f b)
-unfolding all
-all-both f [] b = refl
-all-both f (x ∷ a) b = rw (all-both f a b) (sym (and-assoc (f x) (all f a) (all f b)))

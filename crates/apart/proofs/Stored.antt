@@ -10,12 +10,13 @@ use lib.Ieee.{Float}
 use lib.ListN.{length}
 use borrow.Author.Tests.{leb-true, le-leb}
 use Rattle.lists.specs.Every.{all}
-use Rattle.lists.proofs.Every.{all-append}
-use Rattle.lists.proofs.Select.{all-weaken, and-fst, and-snd}
+use Rattle.lists.proofs.Every.{all-split, all-append}
+use Rattle.lists.proofs.Booleans.{and-fst, and-snd}
+use Rattle.lists.proofs.Select.{all-weaken}
 use Rattle.tables.specs.View.{Tables, rows}
 use Rattle.tables.specs.Formed.{Span, spanAt, centerSpan, counted, stored, spans}
 use Rattle.apart.specs.Marks.{within, restSpans, lineSpans, restTakeable, takeable}
-use Rattle.apart.proofs.Marks.{or-cases, counted-more, joined, all-both}
+use Rattle.apart.proofs.Marks.{or-cases, counted-more, joined}
 
 -- ---- what the test may assume
 
@@ -54,7 +55,7 @@ pub spans-lines : (t : Tables) → spans t ≡ lineSpans (t .lanes) (t .boundari
 unfolding spans
 spans-lines t = refl
 
-stored-within : (c : List Float) (s : Span) → stored c s ≡ true → within 65536 s ≡ true
+pub stored-within : (c : List Float) (s : Span) → stored c s ≡ true → within 65536 s ≡ true
 stored-within c s h =
     ⊎-elim (λ e. rw e) (λ l. let m = leb-true (s .start + s .size) (min 65536 (length c / 3)) l in rw (le-leb (s .start + s .size) 65536 (omega arith)) (or-true (eqb (s .size) 0)))
     (or-cases (eqb (s .size) 0) (leb (s .start + s .size) (min 65536 (length c / 3))) h)
@@ -70,6 +71,6 @@ takeable-of t a b d e h =
     let z = restSpans (t .stop-lines) (t .crosswalks) in
     let f = within 65536 in
     let w : all f (x ++ (y ++ z)) ≡ true = all-weaken (stored (t .coordinates)) f (x ++ (y ++ z)) (stored-within (t .coordinates)) (rw (← spans-lines t) h) in
-    let v : (all f x && all f (y ++ z)) ≡ true = sym (all-both f x (y ++ z)) ∙ w in
-    let u : (all f y && all f z) ≡ true = sym (all-both f y z) ∙ and-snd (all f x) (all f (y ++ z)) v in
+    let v : (all f x && all f (y ++ z)) ≡ true = sym (all-split f x (y ++ z)) ∙ w in
+    let u : (all f y && all f z) ≡ true = sym (all-split f y z) ∙ and-snd (all f x) (all f (y ++ z)) v in
     rw (a, b, d, e, and-fst (all f x) (all f (y ++ z)) v, and-fst (all f y) (all f z) u, and-snd (all f y) (all f z) u)

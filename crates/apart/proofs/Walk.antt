@@ -8,10 +8,11 @@ use lib.Seq.{drop-drop}
 use Rattle.lists.specs.Every.{all}
 use Rattle.lists.specs.Rows.{reads}
 use Rattle.lists.specs.Select.{each}
-use Rattle.lists.proofs.Select.{and-fst, and-snd}
+use Rattle.lists.proofs.Every.{all-split}
+use Rattle.lists.proofs.Booleans.{and-fst, and-snd}
 use Rattle.tables.specs.Formed.{Span, spanAt, centerSpan}
 use Rattle.apart.specs.Marks.{apartBy, markedAll, within}
-use Rattle.apart.proofs.Marks.{reads-step, span-at, joined, apart-append, marked-append, all-both}
+use Rattle.apart.proofs.Marks.{reads-step, span-at, joined, apart-append, marked-append}
 
 -- the marks were m₀ before all of `whole`, and are m before `rest`
 pub record Left (m₀ : List Bool) (whole : List Span) (m : List Bool) (rest : List Span) : Type 0 where
@@ -27,13 +28,13 @@ module _ (m₀ : List Bool) (whole : List Span) (m : List Bool) where
   -- the lines `a` are next
   module _ (a rest : List Span) (l : Left m₀ whole m (a ++ rest)) where
     pub left-fits : all (within (length m)) a ≡ true
-    left-fits = rw (l .long) (and-fst (all (within (length m₀)) a) (all (within (length m₀)) rest) (sym (all-both (within (length m₀)) a rest) ∙ l .fits))
+    left-fits = rw (l .long) (and-fst (all (within (length m₀)) a) (all (within (length m₀)) rest) (sym (all-split (within (length m₀)) a rest) ∙ l .fits))
 
     pub left-step : (x : List Bool) → length x ≡ length m → apartBy m a ≡ true → x ≡ markedAll m a → Left m₀ whole x rest
     left-step x n t e =
         record {
           long = n ∙ l .long;
-          fits = and-snd (all (within (length m₀)) a) (all (within (length m₀)) rest) (sym (all-both (within (length m₀)) a rest) ∙ l .fits);
+          fits = and-snd (all (within (length m₀)) a) (all (within (length m₀)) rest) (sym (all-split (within (length m₀)) a rest) ∙ l .fits);
           apart = l .apart ∙ apart-append m a rest ∙ rw (t, e);
           marks = l .marks ∙ marked-append m a rest ∙ rw e;
         }

@@ -8,8 +8,9 @@ use native.Mathlib.Omega.{arith}
 use lib.Dec.{eqb, ltb}
 use Rattle.lists.specs.Every.{all}
 use Rattle.lists.specs.Select.{any, each, find, has, place, without, keep, ascending}
-use Rattle.lists.proofs.Every.{all-append}
-use Rattle.lists.proofs.Select.{any-map, any-same, all-map, all-keep, all-weaken, all-has, and-both, and-fst, and-snd, ascending-place, ascending-keep}
+use Rattle.lists.proofs.Every.{all-split, all-append}
+use Rattle.lists.proofs.Booleans.{and-both, and-fst, and-snd}
+use Rattle.lists.proofs.Select.{all-each, any-map, any-same, all-map, all-keep, all-weaken, all-has, ascending-place, ascending-keep}
 use Rattle.entities.specs.Types.{reciprocal-side}
 use Rattle.entities.specs.Records.{Lane, Map}
 use Rattle.entities.specs.declared.Side.{Side}
@@ -22,7 +23,7 @@ use Rattle.rules.specs.Book.{isPair, dropPair}
 use Rattle.rules.proofs.Facts.{Sound, sound-facts}
 use Rattle.rules.proofs.Reciprocal.{LinksAgree, links-agree, agree-links, neighbors-agree, agree-neighbors}
 use Rattle.laws.proofs.Links.{connect-leads, connect-comes, disconnect-leads, disconnect-comes, found-passes, lane-id}
-use Rattle.laws.proofs.Keeps.{all-split, all-each, all-place, otherNames, relink-sound}
+use Rattle.laws.proofs.Keeps.{all-place, otherNames, relink-sound}
 
 -- ---- what every relinking wants
 

@@ -8,7 +8,8 @@ use lib.Dec.{eqb, ltb}
 use borrow.Author.Tests.{eqb-true, eq-eqb}
 use Rattle.lists.specs.Every.{all}
 use Rattle.lists.specs.Select.{keep, any, find, has, above, ascending}
-use Rattle.lists.proofs.Select.{any-append, any-map, any-same, any-keep, any-implies, has-any, all-of, keys-map, keys-keep, and-both, and-fst, and-snd, ascending-tail}
+use Rattle.lists.proofs.Booleans.{and-both, and-fst, and-snd}
+use Rattle.lists.proofs.Select.{any-append, any-map, any-same, any-keep, any-implies, has-any, all-of, keys-map, keys-keep, ascending-tail}
 use Rattle.entities.specs.Types.{kindNumber}
 use Rattle.entities.specs.Records.{Lane, Map, Issue, ChangeSet}
 use Rattle.entities.specs.declared.EntityKind.{EntityKind}

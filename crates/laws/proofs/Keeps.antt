@@ -7,8 +7,9 @@ use Prim.Native.Nat.{ℕ}
 use lib.Dec.{eqb, ltb, leb}
 use Rattle.lists.specs.Every.{all}
 use Rattle.lists.specs.Select.{each, has, place, without, keep}
-use Rattle.lists.proofs.Every.{all-append}
-use Rattle.lists.proofs.Select.{keys-map, all-map, all-keep, all-weaken, and-both, and-fst, and-snd}
+use Rattle.lists.proofs.Every.{all-append, all-split}
+use Rattle.lists.proofs.Booleans.{and-both, and-fst, and-snd}
+use Rattle.lists.proofs.Select.{all-each, keys-map, all-map, all-keep, all-weaken}
 use Rattle.entities.specs.declared.Neighbor.{Neighbor}
 use Rattle.entities.specs.Records.{Lane, Map}
 use Rattle.rules.specs.Map.{lane}
@@ -22,21 +23,6 @@ pub each-map : {A B C : Type 0} (g : B → List C) (f : A → B) (xs : List A) �
 unfolding each
 each-map g f [] = refl
 each-map g f (x ∷ xs) = rw (each-map g f xs)
-
--- every element of every list passes
-pub all-split : {A : Type 0} (p : A → Bool) (xs ys : List A) → all p (xs ++ ys) ≡ (all p xs && all p ys)
-unfolding all
-all-split p [] ys = refl
-all-split p (x ∷ xs) ys = rw (all-split p xs ys) (sym (and-assoc (p x) (all p xs) (all p ys)))
-  where
-    and-assoc : (a b c : Bool) → (a && b && c) ≡ (a && (b && c))
-    and-assoc true b c = refl
-    and-assoc false b c = refl
-
-pub all-each : {A B : Type 0} (p : B → Bool) (g : A → List B) (xs : List A) → all p (each g xs) ≡ all (λ x. all p (g x)) xs
-unfolding all each
-all-each p g [] = refl
-all-each p g (x ∷ xs) = all-split p (g x) (each g xs) ∙ rw (all-each p g xs)
 
 pub all-place : (p : ℕ → Bool) (x : ℕ) (ys : List ℕ) → p x ≡ true → all p ys ≡ true → all p (place x ys) ≡ true
 unfolding place

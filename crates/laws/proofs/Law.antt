@@ -7,7 +7,7 @@ use Prim.{Unit, tt}
 use Prim.Native.Nat.{ℕ}
 use lib.Dec.{leb}
 use lib.ListN.{length}
-use Rattle.lists.proofs.Select.{and-fst}
+use Rattle.lists.proofs.Booleans.{and-fst}
 use Rattle.entities.specs.declared.Tolerance.{Tolerance}
 use Rattle.entities.specs.declared.Refusal.{Refusal}
 use Rattle.entities.specs.declared.Refusal.the-variants as R

@@ -8,7 +8,8 @@ use native.Mathlib.Omega.{arith}
 use lib.Dec.{eqb}
 use borrow.Author.Tests.{eqb-true, eq-eqb}
 use Rattle.lists.specs.Select.{keep, any, find, has, without, place}
-use Rattle.lists.proofs.Select.{any-same, any-or, any-implies, has-place, has-without, and-both, and-fst, and-snd, same-test}
+use Rattle.lists.proofs.Booleans.{and-both, and-fst, and-snd, same-test}
+use Rattle.lists.proofs.Select.{any-same, any-or, any-implies, has-place, has-without}
 use Rattle.entities.specs.Records.{Lane, Map}
 use Rattle.rules.specs.Map.{lane, leads-to, comes-from}
 use Rattle.rules.specs.Edit.{linkIn, linkOut, withLanes}

@@ -11,7 +11,8 @@ use borrow.Author.Tests.{eqb-true, eq-eqb, ne-eqb, eqb-false}
 use Rattle.lists.specs.Every.{all}
 use Rattle.lists.specs.Select.{any, find, has, ascending}
 use Rattle.lists.proofs.Every.{all-append}
-use Rattle.lists.proofs.Select.{any-one, keys-map, onFound, and-both, and-fst, and-snd, same-test}
+use Rattle.lists.proofs.Booleans.{and-both, and-fst, and-snd, same-test}
+use Rattle.lists.proofs.Select.{any-one, keys-map, onFound}
 use Rattle.entities.specs.Types.{reciprocal-side}
 use Rattle.entities.specs.Records.{Lane, Map, Issue, ChangeSet}
 use Rattle.entities.specs.declared.Side.{Side}

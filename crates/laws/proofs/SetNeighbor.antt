@@ -8,8 +8,8 @@ use lib.Dec.{eqb, ltb}
 use borrow.Author.Tests.{eqb-true, eq-eqb}
 use Rattle.lists.specs.Every.{all}
 use Rattle.lists.specs.Select.{any, find, has, ascending}
-use Rattle.lists.proofs.Every.{all-append}
-use Rattle.lists.proofs.Select.{and-both, and-fst, and-snd, same-test}
+use Rattle.lists.proofs.Every.{all-split, all-append}
+use Rattle.lists.proofs.Booleans.{and-both, and-fst, and-snd, same-test}
 use Rattle.entities.specs.Types.{reciprocal-side}
 use Rattle.entities.specs.Records.{Lane, Map, Issue, ChangeSet}
 use Rattle.entities.specs.declared.Side.{Side}
@@ -22,7 +22,7 @@ use Rattle.rules.specs.Demand.{Exact}
 use Rattle.rules.proofs.Facts.{Sound, sound-facts}
 use Rattle.rules.proofs.Reciprocal.{links-agree, agree-links}
 use Rattle.rules.proofs.Relations.{leads-map, comes-map}
-use Rattle.laws.proofs.Keeps.{all-split, relink-sound}
+use Rattle.laws.proofs.Keeps.{relink-sound}
 use Rattle.laws.proofs.Connect.{present-passes, links-up}
 use Rattle.laws.proofs.Exact.{relink-exact}
 use Rattle.laws.proofs.Slots.{heldAt}

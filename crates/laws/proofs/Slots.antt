@@ -7,7 +7,7 @@ use Prim.Native.Nat.{ℕ}
 use native.Mathlib.Omega.{arith}
 use lib.Dec.{eqb}
 use borrow.Author.Tests.{eqb-true, eq-eqb}
-use Rattle.lists.proofs.Select.{and-both, and-fst, and-snd}
+use Rattle.lists.proofs.Booleans.{and-both, and-fst, and-snd}
 use Rattle.entities.specs.Types.{reciprocal-side}
 use Rattle.entities.specs.declared.Side.{Side}
 use Rattle.entities.specs.declared.Side.the-variants as S

@@ -9,7 +9,8 @@ use lib.Dec.{eqb, ltb}
 use borrow.Author.Tests.{eqb-true, eqb-false, eq-eqb, ne-eqb, ltb-true, lt-ltb, le-ltb}
 use Rattle.lists.specs.Every.{all}
 use Rattle.lists.specs.Select.{keep, any, find, has, place, without, above, ascending}
-use Rattle.lists.proofs.Select.{all-weaken, all-has, above-all, ascending-tail, and-both, and-fst, and-snd, onFound, keep-all, keep-none}
+use Rattle.lists.proofs.Booleans.{and-both, and-fst, and-snd}
+use Rattle.lists.proofs.Select.{all-weaken, all-has, above-all, ascending-tail, onFound, keep-all, keep-none}
 use Rattle.entities.specs.Records.{Lane, Map, Issue, ChangeSet}
 use Rattle.rules.specs.Map.{lane, leads-to, comes-from, laneIds}
 use Rattle.rules.specs.Sound.{linksAscend, idsAscend, sound}

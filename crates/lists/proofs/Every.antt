@@ -1,6 +1,6 @@
 -- Laws of `all`: of a list made of lists that pass. Assumes nothing.
-use mathlib.Core.Path.{_≡_, refl, sym}
-use mathlib.Core.Bool.{Bool, true, false, _&&_, true≢false}
+use mathlib.Core.Path.{_≡_, refl, sym, _∙_, ap}
+use mathlib.Core.Bool.{Bool, true, false, _&&_, and-assoc, true≢false}
 use Prim.Native.Nat.{ℕ, zero, suc, _+_, _<_, _≤_}
 use native.Mathlib.Nat.{le-of-suc-le-suc, not-suc-le-zero}
 use native.Mathlib.Numerals.{add-one}
@@ -9,17 +9,7 @@ use mathlib.Core.List.{List, [], _∷_, _++_, reverse, reverseAux}
 use lib.ListN.{length, getD, take, drop, drop-of-length-le}
 use lib.Seq.{drop-cons}
 use Rattle.lists.specs.Every.{all}
-
-both : (a b : Bool) → a ≡ true → b ≡ true → (a && b) ≡ true
-both a b p q = rw (p, q)
-
-fst : (a b : Bool) → (a && b) ≡ true → a ≡ true
-fst true b h = refl
-fst false b h = h
-
-snd : (a b : Bool) → (a && b) ≡ true → b ≡ true
-snd true b h = h
-snd false b h = absurd (true≢false (sym h))
+use Rattle.lists.proofs.Booleans.{and-both, and-fst, and-snd, and-pairs}
 
 module _ {A : Type 0} (f : A → Bool) where
   pub all-nil : all f [] ≡ true
@@ -28,15 +18,15 @@ module _ {A : Type 0} (f : A → Bool) where
 
   pub all-cons : (x : A) (l : List A) → f x ≡ true → all f l ≡ true → all f (x ∷ l) ≡ true
   unfolding all
-  all-cons x l p q = both (f x) (all f l) p q
+  all-cons x l p q = and-both (f x) (all f l) p q
 
   pub all-head : (x : A) (l : List A) → all f (x ∷ l) ≡ true → f x ≡ true
   unfolding all
-  all-head x l h = fst (f x) (all f l) h
+  all-head x l h = and-fst (f x) (all f l) h
 
   pub all-tail : (x : A) (l : List A) → all f (x ∷ l) ≡ true → all f l ≡ true
   unfolding all
-  all-tail x l h = snd (f x) (all f l) h
+  all-tail x l h = and-snd (f x) (all f l) h
 
   pub all-append : (l m : List A) → all f l ≡ true → all f m ≡ true → all f (l ++ m) ≡ true
   all-append [] m p q = q
@@ -77,3 +67,14 @@ module _ {A : Type 0} (f : A → Bool) where
   pub all-end : (l : List A) (i : ℕ) → length l ≤ i → all f (drop i l) ≡ true
   unfolding all
   all-end l i h = rw (drop-of-length-le l h)
+
+pub all-split : {A : Type 0} (p : A → Bool) (xs ys : List A) → all p (xs ++ ys) ≡ (all p xs && all p ys)
+unfolding all
+all-split p [] ys = refl
+all-split p (x ∷ xs) ys = rw (all-split p xs ys) (sym (and-assoc (p x) (all p xs) (all p ys)))
+
+-- two tests of every element
+pub all-and : {A : Type 0} (p q : A → Bool) (xs : List A) → all (λ x. p x && q x) xs ≡ (all p xs && all q xs)
+unfolding all
+all-and p q [] = refl
+all-and p q (x ∷ xs) = ap (λ t. p x && q x && t) (all-and p q xs) ∙ and-pairs (p x) (q x) (all p xs) (all q xs)

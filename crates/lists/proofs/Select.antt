@@ -13,8 +13,9 @@ use lib.Seq.{drop-cons, take-suc}
 use native.Mathlib.Omega.{arith}
 use borrow.Author.Tests.{eqb-true, eqb-false, eq-eqb, ne-eqb, ltb-true, lt-ltb, ltb-false, le-ltb, not-true}
 use Rattle.lists.specs.Every.{all}
-use Rattle.lists.proofs.Every.{all-append, all-getD}
-use Rattle.lists.specs.Select.{keep, any, find, has, without, place, above, ascending}
+use Rattle.lists.proofs.Booleans.{and-both, and-fst, and-snd, same-test}
+use Rattle.lists.proofs.Every.{all-split, all-append, all-getD}
+use Rattle.lists.specs.Select.{keep, any, find, each, has, without, place, above, ascending}
 
 -- ---- Booleans
 
@@ -36,17 +37,6 @@ and-or true true false = refl
 and-or true false true = refl
 and-or true false false = refl
 and-or false b c = refl
-
-pub and-both : (a b : Bool) → a ≡ true → b ≡ true → (a && b) ≡ true
-and-both a b p q = rw (p, q)
-
-pub and-fst : (a b : Bool) → (a && b) ≡ true → a ≡ true
-and-fst true b h = refl
-and-fst false b h = h
-
-pub and-snd : (a b : Bool) → (a && b) ≡ true → b ≡ true
-and-snd true b h = h
-and-snd false b h = absurd (true≢false (sym h))
 
 -- ---- any
 
@@ -142,6 +132,12 @@ pub all-map : {A B : Type 0} (p : B → Bool) (f : A → B) (xs : List A) → al
 unfolding all
 all-map p f [] = refl
 all-map p f (x ∷ xs) = rw (all-map p f xs)
+
+-- a test of every element of every list
+pub all-each : {A B : Type 0} (p : B → Bool) (g : A → List B) (xs : List A) → all p (each g xs) ≡ all (λ x. all p (g x)) xs
+unfolding all each
+all-each p g [] = refl
+all-each p g (x ∷ xs) = all-split p (g x) (each g xs) ∙ rw (all-each p g xs)
 
 -- a test that follows from another
 pub all-weaken : {A : Type 0} (p q : A → Bool) (xs : List A) → ((x : A) → p x ≡ true → q x ≡ true) → all p xs ≡ true → all q xs ≡ true
@@ -275,13 +271,6 @@ all-of p (x ∷ xs) h =
 -- the numbers of a list pass, if each that it has does
 pub all-numbers : (p : ℕ → Bool) (xs : List ℕ) → ((x : ℕ) → has x xs ≡ true → p x ≡ true) → all p xs ≡ true
 all-numbers p xs h = all-of p xs (λ x m. h x (has-any x xs ∙ m (eqb x) (eq-eqb x x refl)))
-
--- two tests that imply each other are equal
-pub same-test : (a b : Bool) → (a ≡ true → b ≡ true) → (b ≡ true → a ≡ true) → a ≡ b
-same-test true true f g = refl
-same-test true false f g = sym (f refl)
-same-test false true f g = g refl
-same-test false false f g = refl
 
 -- ---- a table whose keys ascend: at most one row has a key
 

@@ -13,7 +13,8 @@ use Rattle.lists.specs.Every.{all}
 use Rattle.lists.specs.Select.{keep, has, place, ascending}
 use Rattle.lists.specs.Rows.{over}
 use Rattle.lists.proofs.Every.{all-nil, all-places, all-step}
-use Rattle.lists.proofs.Select.{and-both, length-keep, keep-more, place-between, ascending-upto, lacks-places}
+use Rattle.lists.proofs.Booleans.{and-both}
+use Rattle.lists.proofs.Select.{length-keep, keep-more, place-between, ascending-upto, lacks-places}
 use Rattle.lists.proofs.Rows.{over-front, getD-over-before, getD-over-behind, store-before, store-behind}
 
 -- every element changed by f: those before i are

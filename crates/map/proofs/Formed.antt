@@ -5,7 +5,7 @@ use mathlib.Core.Bool.{Bool, true, false, not, _&&_, _||_}
 use mathlib.Core.List.{List}
 use lib.Dec.{eqb, leb}
 use borrow.Author.Tests.{leb-true, eq-eqb, ne-eqb}
-use Rattle.lists.proofs.Select.{and-fst, and-snd}
+use Rattle.lists.proofs.Booleans.{and-fst, and-snd}
 use Rattle.tables.specs.View.{word}
 use Rattle.tables.specs.Formed.{laneFormed, ruleFormed}
 

@@ -16,7 +16,7 @@ use Rattle.lists.specs.declared.Found.{Found}
 use Rattle.lists.specs.declared.Found.the-variants.{At, Nothing}
 use Rattle.lists.proofs.Every.{all-getD}
 use Rattle.lists.proofs.Rows.{length-reads, getD-reads, length-keys, drop-take}
-use Rattle.lists.proofs.Select.{and-fst, and-snd}
+use Rattle.lists.proofs.Booleans.{and-fst, and-snd}
 use Rattle.tables.specs.View.{word, idsAt, rows}
 use Rattle.tables.specs.Formed.{counted, laneFormed}
 use Rattle.map.specs.Returned.{searchable, laneAt, rowTest, answerPlace, slotReturned}

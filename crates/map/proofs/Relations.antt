@@ -15,7 +15,8 @@ use Rattle.lists.specs.Rows.{reads, keys, rowWith, later}
 use Rattle.lists.specs.Select.{any, find, has, ascending}
 use Rattle.lists.specs.declared.Found.{Found}
 use Rattle.lists.specs.declared.Found.the-variants.{At, Nothing}
-use Rattle.lists.proofs.Select.{onFound, any-one, and-fst, and-snd}
+use Rattle.lists.proofs.Booleans.{and-fst, and-snd}
+use Rattle.lists.proofs.Select.{onFound, any-one}
 use Rattle.entities.specs.Records.{Lane, Map}
 use Rattle.entities.specs.Types.{same, opposing}
 use Rattle.rules.specs.Names.{Side, Left, Right, NeighborDirection, Same, Opposite, Neighbor}

@@ -11,7 +11,7 @@ use borrow.Author.Tests.{leb-true}
 use Rattle.lists.specs.Every.{all}
 use Rattle.lists.proofs.Every.{all-step, all-end}
 use Rattle.lists.proofs.Rows.{length-reads, getD-reads, row-within}
-use Rattle.lists.proofs.Select.{and-fst, and-snd}
+use Rattle.lists.proofs.Booleans.{and-fst, and-snd}
 use Rattle.tables.specs.View.{word, rows}
 use Rattle.tables.specs.Formed.{counted}
 use Rattle.map.specs.Good.{allRows}

@@ -2,7 +2,7 @@
 use mathlib.Core.Path.{_≡_}
 use mathlib.Core.Bool.{Bool, true, _&&_}
 use Prim.Native.Nat.{ℕ}
-use Rattle.lists.proofs.Select.{and-both, and-fst, and-snd}
+use Rattle.lists.proofs.Booleans.{and-both, and-fst, and-snd}
 use Rattle.entities.specs.Records.{Map}
 use Rattle.rules.specs.Sound.{sound, withinLimits, idsAscend, counterAbove, linesInReach, kindsLegal, handlesLegal, linksAscend, linksReciprocal, neighborsReciprocal}
 

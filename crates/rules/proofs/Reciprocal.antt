@@ -8,7 +8,8 @@ use lib.Dec.{eqb}
 use borrow.Author.Tests.{eqb-true, eq-eqb}
 use Rattle.lists.specs.Every.{all}
 use Rattle.lists.specs.Select.{any, has}
-use Rattle.lists.proofs.Select.{and-both, and-fst, and-snd, all-has, any-implies-all, all-of, all-numbers, same-test}
+use Rattle.lists.proofs.Booleans.{and-both, and-fst, and-snd, same-test}
+use Rattle.lists.proofs.Select.{all-has, any-implies-all, all-of, all-numbers}
 use Rattle.entities.specs.Types.{reciprocal-side}
 use Rattle.entities.specs.Records.{Lane, Map}
 use Rattle.rules.specs.Names.{Side, Left, Right, NeighborDirection, Same, Opposite, Neighbor}

@@ -9,7 +9,7 @@ use lib.Ieee.{Float}
 use Rattle.lists.specs.Every.{all}
 use Rattle.lists.specs.Rows.{keys}
 use Rattle.lists.specs.Select.{ascending}
-use Rattle.lists.proofs.Select.{and-fst, and-snd}
+use Rattle.lists.proofs.Booleans.{and-fst, and-snd}
 use Rattle.geometry.specs.Point.{inReach}
 use Rattle.entities.specs.Records.{Line, Map}
 use Rattle.rules.specs.Sound.{lastCounter, handleWidth, speedLegal, sound, withinLimits, counterAbove, linesInReach, kindsLegal, handlesLegal, linksAscend, idsAscend, pointCount, idLists, lines, optionalLine, laneNames, ruleNames, ruleLegal}

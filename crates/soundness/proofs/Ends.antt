@@ -11,7 +11,7 @@ use lib.ListN.{drop, getD}
 use Rattle.lists.specs.Every.{all}
 use Rattle.lists.specs.Rows.{keys}
 use Rattle.lists.specs.Select.{ascending}
-use Rattle.lists.proofs.Select.{and-both, and-fst, and-snd, same-test}
+use Rattle.lists.proofs.Booleans.{and-both, and-fst, and-snd, same-test}
 use Rattle.rules.specs.Sound.{lastCounter, linksReciprocal, neighborsReciprocal}
 use Rattle.tables.specs.View.{Tables, word, rows, view, laneOf}
 use Rattle.tables.specs.Formed.{stored, counted, spans, allClear, formed, soundTables, laneFormed}

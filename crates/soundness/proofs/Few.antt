@@ -15,7 +15,8 @@ use Rattle.lists.specs.Every.{all}
 use Rattle.lists.specs.Rows.{reads, over}
 use Rattle.lists.specs.Select.{each}
 use Rattle.lists.proofs.Every.{all-head, all-tail}
-use Rattle.lists.proofs.Select.{all-weaken, and-fst, and-snd}
+use Rattle.lists.proofs.Booleans.{and-fst, and-snd}
+use Rattle.lists.proofs.Select.{all-weaken}
 use Rattle.polyline.proofs.Points.{length-points}
 use Rattle.entities.specs.Records.{Line}
 use Rattle.rules.specs.Sound.{total, pointCount, lines, optionalLine}
@@ -24,6 +25,7 @@ use Rattle.tables.specs.Formed.{Span, spanAt, centerSpan, stored, allClear, spa
 use Rattle.apart.specs.Marks.{marked, unmarked, apartBy, within, trues}
 use Rattle.apart.proofs.Marks.{or-cases, length-trues, within-cases, marked-none, length-marked}
 use Rattle.apart.proofs.Clear.{apart-clear}
+use Rattle.apart.proofs.Stored.{stored-within}
 
 -- ---- unmarked points
 
@@ -98,11 +100,6 @@ sizes-most m (s ∷ ss) h w =
     let b : all (within (length (marked m s))) ss ≡ true = rw (length-marked m s a) (all-tail (within (length m)) s ss w) in
     let r = sizes-most (marked m s) ss v b in
     omega (arith, falses-marked m s u a)
-
-stored-within : (c : List Float) (s : Span) → stored c s ≡ true → within 65536 s ≡ true
-stored-within c s h =
-    ⊎-elim (λ e. rw e) (λ l. let m = leb-true (s .start + s .size) (min 65536 (length c / 3)) l in rw (le-leb (s .start + s .size) 65536 (omega arith)) (or-true (eqb (s .size) 0)))
-    (or-cases (eqb (s .size) 0) (leb (s .start + s .size) (min 65536 (length c / 3))) h)
 
 -- lines among n points that share none have at most n
 pub sizes-among : (n : ℕ) (ss : List Span) → all (within n) ss ≡ true → allClear ss ≡ true → sizes ss ≤ n

@@ -10,14 +10,14 @@ use lib.ListN.{length, take, drop}
 use lib.Ieee.{Float}
 use borrow.Author.Tests.{leb-true, le-leb, eqb-true, eq-eqb}
 use Rattle.lists.specs.Every.{all}
-use Rattle.lists.proofs.Select.{and-both, and-fst, and-snd, same-test}
+use Rattle.lists.proofs.Every.{all-split}
+use Rattle.lists.proofs.Booleans.{and-both, and-fst, and-snd, same-test}
 use Rattle.geometry.specs.Point.{inReach}
 use Rattle.entities.specs.Records.{Line, Rule}
 use Rattle.rules.specs.Sound.{handleWidth, optionalId, ruleNames, ruleLegal, hasContent, stopLinesFit, given}
 use Rattle.tables.specs.View.{word, idsAt, idsWhere, lineAt, ruleOf}
 use Rattle.tables.specs.Formed.{Span, spanAt, stored, ruleFormed}
 use Rattle.map.specs.Good.{lineGood, idsGood, handleGood, boundaryGood, roadGood, junctionGood, ruleNumbers, ruleLists, ruleGood, stopLineGood, crosswalkGood}
-use Rattle.soundness.proofs.Rows.{all-split}
 use Rattle.soundness.proofs.Pointwise.{and3, and5, line-same}
 
 -- what the definition asks of a line: in the store, not too long, within reach

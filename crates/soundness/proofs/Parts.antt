@@ -9,7 +9,7 @@ use lib.Ieee.{Float}
 use borrow.Author.Tests.{leb-true}
 use Rattle.lists.specs.Every.{all}
 use Rattle.lists.specs.Select.{ascending}
-use Rattle.lists.proofs.Select.{and-both, and-fst, and-snd, same-test}
+use Rattle.lists.proofs.Booleans.{and-both, and-fst, and-snd, same-test}
 use Rattle.geometry.specs.Point.{inReach}
 use Rattle.rules.specs.Sound.{handleWidth, optionalLine, speedLegal, laneNames, ruleNames, ruleLegal}
 use Rattle.tables.specs.View.{word, idsAt, optionAt, optionLineAt, lineAt, rows, laneOf, boundaryOf, roadOf, junctionOf, ruleOf, stopLineOf, crosswalkOf}

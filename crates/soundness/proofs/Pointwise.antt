@@ -9,13 +9,14 @@ use lib.Dec.{eqb, leb, ltb}
 use lib.ListN.{length, getD, take, drop, length-drop}
 use lib.Seq.{length-take-le}
 use Rattle.polyline.proofs.Points.{length-points}
-use Rattle.soundness.proofs.Rows.{all-rows, rows-and, all-split}
+use Rattle.soundness.proofs.Rows.{all-rows, rows-and}
 use lib.Ieee.{Float}
 use borrow.Author.Tests.{leb-true, le-leb, ltb-true, lt-ltb, eqb-true, eq-eqb, ne-eqb, eqb-false}
 use Rattle.lists.specs.Every.{all}
 use Rattle.lists.specs.Select.{ascending}
-use Rattle.lists.proofs.Every.{all-append, all-take, all-drop}
-use Rattle.lists.proofs.Select.{and-both, and-fst, and-snd, same-test, all-weaken}
+use Rattle.lists.proofs.Every.{all-split, all-append, all-take, all-drop}
+use Rattle.lists.proofs.Booleans.{and-both, and-fst, and-snd, same-test}
+use Rattle.lists.proofs.Select.{all-weaken}
 use Rattle.geometry.specs.Point.{inReach}
 use Rattle.polyline.specs.Polyline.{points}
 use Rattle.entities.specs.Types.{same, opposing}

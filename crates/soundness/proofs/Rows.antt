@@ -11,11 +11,12 @@ use borrow.Author.Tests.{leb-true}
 use Rattle.lists.specs.Every.{all}
 use Rattle.lists.specs.Rows.{reads}
 use Rattle.lists.specs.Select.{each}
-use Rattle.lists.proofs.Every.{all-take, all-drop}
-use Rattle.lists.proofs.Select.{and-both, and-fst, and-snd}
+use Rattle.lists.proofs.Every.{all-and, all-take, all-drop}
+use Rattle.lists.proofs.Booleans.{and-both, and-fst, and-snd}
 use Rattle.tables.specs.View.{word, rows}
 use Rattle.tables.specs.Formed.{counted}
 use Rattle.map.specs.Good.{allRows}
+use Rattle.map.proofs.Relations.{all-reads}
 
 -- ---- tests of rows
 
@@ -23,31 +24,15 @@ yes : Bool → Bool
 yes b = b
 
 -- a test of every record is a test of every row
-pub all-reads : {A B : Type 0} (s : ℕ) (dec : List A → B) (p : B → Bool) (k : ℕ) (w : List A) → all p (reads s dec k w) ≡ all (λ b. b) (reads s (λ r. p (dec r)) k w)
-unfolding all reads
-all-reads s dec p zero w = refl
-all-reads s dec p (suc k) w = ap (λ t. p (dec (take s w)) && t) (all-reads s dec p k (drop s w))
-
 pub all-rows : {B : Type 0} (s : ℕ) (dec : List ℕ → B) (p : B → Bool) (t : List ℕ) → all p (rows s dec t) ≡ allRows s (λ w. p (dec w)) t
 unfolding rows allRows
 all-rows s dec p t = all-reads s dec p (word 0 t) (drop 1 t)
 
 -- two tests at once
-reads-and : (s : ℕ) (p q : List ℕ → Bool) (k : ℕ) (w : List ℕ)
-    → all (λ b. b) (reads s (λ r. p r && q r) k w) ≡ (all (λ b. b) (reads s p k w) && all (λ b. b) (reads s q k w))
-unfolding all reads
-reads-and s p q zero w = refl
-reads-and s p q (suc k) w = ap (λ t. p (take s w) && q (take s w) && t) (reads-and s p q k (drop s w)) ∙ shuffle (p (take s w)) (q (take s w)) (all (λ b. b) (reads s p k (drop s w))) (all (λ b. b) (reads s q k (drop s w)))
-  where
-    shuffle : (a b c d : Bool) → (a && b && (c && d)) ≡ (a && c && (b && d))
-    shuffle true true c d = refl
-    shuffle true false true d = refl
-    shuffle true false false d = refl
-    shuffle false b c d = refl
-
 pub rows-and : (s : ℕ) (p q : List ℕ → Bool) (t : List ℕ) → allRows s (λ w. p w && q w) t ≡ (allRows s p t && allRows s q t)
-unfolding rows allRows
-rows-and s p q t = reads-and s p q (word 0 t) (drop 1 t)
+rows-and s p q t =
+    sym (all-rows s (λ w. w) (λ w. p w && q w) t)
+    ∙ (all-and p q (rows s (λ w. w) t) ∙ (ap (λ b. b && all q (rows s (λ w. w) t)) (all-rows s (λ w. w) p t) ∙ ap (λ b. allRows s p t && b) (all-rows s (λ w. w) q t)))
 
 -- a test that follows from another, of words that all pass `ok`
 module _ (s : ℕ) (p q : List ℕ → Bool) (ok : ℕ → Bool) (h : (w : List ℕ) → length w ≡ s → all ok w ≡ true → p w ≡ true → q w ≡ true) where
@@ -64,15 +49,6 @@ module _ (s : ℕ) (p q : List ℕ → Bool) (ok : ℕ → Bool) (h : (w : List 
   pub rows-weaken : (t : List ℕ) → 1 + word 0 t * s ≤ length t → all ok t ≡ true → allRows s p t ≡ true → allRows s q t ≡ true
   unfolding rows allRows
   rows-weaken t r o u = reads-weaken (word 0 t) (drop 1 t) (rw length-drop (omega arith)) (all-drop ok 1 t o) u
-
-pub all-split : {A : Type 0} (p : A → Bool) (xs ys : List A) → all p (xs ++ ys) ≡ (all p xs && all p ys)
-unfolding all
-all-split p [] ys = refl
-all-split p (x ∷ xs) ys = rw (all-split p xs ys) (sym (and-assoc (p x) (all p xs) (all p ys)))
-  where
-    and-assoc : (a b c : Bool) → (a && b && c) ≡ (a && (b && c))
-    and-assoc true b c = refl
-    and-assoc false b c = refl
 
 pub rows-three : (s : ℕ) (p q r : List ℕ → Bool) (t : List ℕ) → allRows s (λ w. p w && q w && r w) t ≡ (allRows s p t && allRows s q t && allRows s r t)
 rows-three s p q r t = rows-and s (λ w. p w && q w) r t ∙ ap (λ b. b && allRows s r t) (rows-and s p q t)

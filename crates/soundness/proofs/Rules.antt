@@ -10,13 +10,13 @@ use lib.ListN.{length, take, drop, length-drop}
 use lib.Seq.{length-take-le}
 use borrow.Author.Tests.{leb-true, le-leb, eqb-true, eq-eqb}
 use Rattle.lists.specs.Every.{all}
-use Rattle.lists.proofs.Select.{and-both, and-fst, and-snd, same-test}
+use Rattle.lists.proofs.Every.{all-split}
+use Rattle.lists.proofs.Booleans.{and-both, and-fst, and-snd, same-test}
 use Rattle.entities.specs.Records.{Rule}
 use Rattle.rules.specs.Sound.{handleWidth, optionalId, ruleNames, ruleLegal, hasContent, stopLinesFit, given}
 use Rattle.tables.specs.View.{word, idsAt, idsWhere, ruleOf}
 use Rattle.tables.specs.Formed.{ruleFormed}
 use Rattle.map.specs.Good.{idsGood, handleGood, ruleNumbers, ruleLists, ruleGood}
-use Rattle.soundness.proofs.Rows.{all-split}
 use Rattle.soundness.proofs.Pointwise.{and3, and5}
 
 abbrev pub ruleAsked : ℕ → List ℕ → Bool

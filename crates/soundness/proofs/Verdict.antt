@@ -11,7 +11,7 @@ use borrow.Author.Tests.{leb-true, le-leb}
 use Rattle.lists.specs.Every.{all}
 use Rattle.lists.specs.Rows.{keys}
 use Rattle.lists.specs.Select.{ascending}
-use Rattle.lists.proofs.Select.{and-both, and-fst, and-snd}
+use Rattle.lists.proofs.Booleans.{and-both, and-fst, and-snd}
 use Rattle.geometry.specs.Point.{inReach}
 use Rattle.entities.specs.Records.{Line, Lane, Map}
 use Rattle.rules.specs.Sound.{lastCounter, sound, withinLimits, idsAscend, counterAbove, linesInReach, kindsLegal, handlesLegal, linksAscend, linksReciprocal, neighborsReciprocal, pointCount, idLists, lines, optionalLine}

@@ -11,15 +11,18 @@ use borrow.Author.Tests.{leb-true, le-leb, ltb-true, lt-ltb, eqb-true, eqb-false
 use Rattle.lists.specs.Every.{all}
 use Rattle.lists.specs.Rows.{reads, keys}
 use Rattle.lists.specs.Select.{ascending, each}
+use Rattle.lists.proofs.Every.{all-split, all-and}
 use Rattle.lists.proofs.Rows.{length-reads}
-use Rattle.lists.proofs.Select.{and-both, and-fst, and-snd, same-test, all-weaken, all-map}
+use Rattle.lists.proofs.Booleans.{and-both, and-fst, and-snd, same-test}
+use Rattle.lists.proofs.Select.{all-each, all-weaken, all-map}
 use Rattle.geometry.specs.Point.{inReach}
 use Rattle.entities.specs.Records.{Line, Lane, Map}
 use Rattle.rules.specs.Sound.{lastCounter, nextId, counterAbove, idsNamed, laneNames, ruleNames, lines, optionalLine}
 use Rattle.tables.specs.View.{Tables, word, rows, view, laneOf}
 use Rattle.tables.specs.Formed.{Span, spanAt, centerSpan, stored, spans}
 use Rattle.map.specs.Good.{largestId, allRows}
-use Rattle.soundness.proofs.Rows.{all-rows, rows-three, all-split}
+use Rattle.map.proofs.Relations.{keys-reads}
+use Rattle.soundness.proofs.Rows.{all-rows, rows-three}
 use Rattle.soundness.proofs.Pointwise.{ok, and3}
 use Rattle.soundness.proofs.Others.{lineAsked}
 
@@ -42,17 +45,6 @@ all-or true p [] = refl
 all-or true p (x ∷ xs) = all-or true p xs
 all-or false p xs = refl
 
-all-and : {A : Type 0} (p q : A → Bool) (xs : List A) → all (λ x. p x && q x) xs ≡ (all p xs && all q xs)
-unfolding all
-all-and p q [] = refl
-all-and p q (x ∷ xs) = ap (λ t. p x && q x && t) (all-and p q xs) ∙ shuffle (p x) (q x) (all p xs) (all q xs)
-  where
-    shuffle : (a b c d : Bool) → (a && b && (c && d)) ≡ (a && c && (b && d))
-    shuffle true true c d = refl
-    shuffle true false true d = refl
-    shuffle true false false d = refl
-    shuffle false b c d = refl
-
 -- the clause of the counter as one test of every id
 pub counter-same : (counter : ℕ) (m : Map) → counter ≤ lastCounter → all ok (idsNamed m) ≡ true → counterAbove counter m ≡ all (λ i. leb i (largestId counter)) (idsNamed m)
 unfolding counterAbove
@@ -70,19 +62,10 @@ counter-same counter m r o = sym (each-allowed (idsNamed m) o ∙ all-or (eqb co
 
 -- ---- keys
 
--- a field of every record, read off the rows
-pub map-reads : {A B C : Type 0} (s : ℕ) (dec : List A → B) (f : B → C) (k : ℕ) (w : List A) → map f (reads s dec k w) ≡ reads s (λ r. f (dec r)) k w
-unfolding reads
-map-reads s dec f zero w = refl
-map-reads s dec f (suc k) w = ap (λ t. f (dec (take s w)) ∷ t) (map-reads s dec f k (drop s w))
-
 -- the ids of a table are its rows' first words
 pub ids-keys : {B : Type 0} (s : ℕ) (dec : List ℕ → B) (id : B → ℕ) (t : List ℕ) → ((w : List ℕ) → id (dec w) ≡ word 0 w) → map id (rows s dec t) ≡ keys s (word 0 t) (drop 1 t)
-unfolding rows keys
-ids-keys s dec id t h = map-reads s dec id (word 0 t) (drop 1 t) ∙ same-reads s (λ r. id (dec r)) (word 0) h (word 0 t) (drop 1 t)
-  where
-    same-reads : {B : Type 0} (s : ℕ) (f g : List ℕ → B) → ((w : List ℕ) → f w ≡ g w) → (k : ℕ) (w : List ℕ) → reads s f k w ≡ reads s g k w
-    same-reads s f g e k w = ap (λ h. reads s h k w) (λ i w. e w i)
+unfolding rows
+ids-keys s dec id t h = keys-reads s dec id h (word 0 t) (drop 1 t)
 
 -- how many records a table holds
 pub rows-count : {B : Type 0} (s : ℕ) (dec : List ℕ → B) (t : List ℕ) → length (rows s dec t) ≡ word 0 t
@@ -90,11 +73,6 @@ unfolding rows
 rows-count s dec t = length-reads s dec (word 0 t) (drop 1 t)
 
 -- ---- lines
-
-all-each : {A B : Type 0} (p : B → Bool) (g : A → List B) (xs : List A) → all p (each g xs) ≡ all (λ x. all p (g x)) xs
-unfolding all each
-all-each p g [] = refl
-all-each p g (x ∷ xs) = all-split p (g x) (each g xs) ∙ ap (λ t. all p (g x) && t) (all-each p g xs)
 
 -- a test of every line of a map, table by table
 pub all-lines : (p : Line → Bool) (m : Map)

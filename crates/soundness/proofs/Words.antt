@@ -10,7 +10,7 @@ use lib.Ieee.{Float}
 use Rattle.lists.specs.Every.{all}
 use Rattle.lists.specs.Rows.{reads}
 use Rattle.lists.proofs.Every.{all-append, all-take, all-drop, all-cons, all-nil}
-use Rattle.lists.proofs.Select.{and-both}
+use Rattle.lists.proofs.Booleans.{and-both}
 use Rattle.entities.specs.Types.{same, opposing}
 use Rattle.entities.specs.Records.{Map}
 use Rattle.rules.specs.Sound.{idsNamed, laneNames, ruleNames, slotId, optionalId}

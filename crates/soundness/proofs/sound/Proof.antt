@@ -6,7 +6,7 @@ use mathlib.Core.Path.{sym, ap, _∙_}
 use Prim.Native.Nat.{_≤_}
 use native.Mathlib.Omega.{arith}
 use Rattle.rules.specs.Sound.{lastCounter}
-use Rattle.lists.proofs.Select.{and-fst}
+use Rattle.lists.proofs.Booleans.{and-fst}
 use Rattle.map.specs.Good.{largestId}
 use Rattle.apart.proofs.Stored.{spans-lines}
 use Rattle.tables.specs.Formed.{allClear}

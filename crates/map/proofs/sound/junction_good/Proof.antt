@@ -6,7 +6,7 @@ use lib.Dec.{leb}
 use lib.ListN.{getD}
 use borrow.Author.Needs.{needs}
 use borrow.Author.Tests.{leb-true}
-use Rattle.lists.proofs.Select.{and-snd}
+use Rattle.lists.proofs.Booleans.{and-snd}
 use Rattle.map.specs.Good.{junctionGood}
 use Rattle.map.proofs.sound.junction_good.Statement.{statement}
 use Rattle.map.proofs.sound.junction_good.Tie as tie

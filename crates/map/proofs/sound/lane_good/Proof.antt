@@ -6,7 +6,7 @@ use native.Mathlib.Omega.{arith}
 use lib.ListN.{getD}
 use borrow.Author.Needs.{needs}
 use borrow.Author.Tests.{eq-eqb, ne-eqb}
-use Rattle.lists.proofs.Select.{and-fst}
+use Rattle.lists.proofs.Booleans.{and-fst}
 use Rattle.tables.specs.View.{idsAt}
 use Rattle.tables.specs.Formed.{laneFormed}
 use Rattle.map.specs.Good.{laneGood, linksGood, laneNumbers}

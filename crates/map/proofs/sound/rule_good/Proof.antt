@@ -2,7 +2,7 @@
 use mathlib.Core.Path.{sym, _∙_}
 use native.Mathlib.Omega.{arith}
 use borrow.Author.Needs.{needs}
-use Rattle.lists.proofs.Select.{and-fst}
+use Rattle.lists.proofs.Booleans.{and-fst}
 use Rattle.map.specs.Good.{ruleGood}
 use Rattle.map.proofs.sound.rule_good.Statement.{statement}
 use Rattle.map.proofs.sound.rule_good.Tie as tie
