@@ -163,6 +163,13 @@ module _ {A : Type 0} where
       let e : a + length (l ++ (x ∷ [])) ≡ suc m = rw length-append (omega arith) in
       rw (e, q, drop-cons w m x h, ← append-assoc (take a w) l, set-at (take a w ++ l) (getD w m x) (drop (suc m) w) x m (front w a l i ∙ q), append-assoc (take a w) l, append-snoc l)
 
+  -- one store behind the first n
+  pub store-end : (w : List A) (n : ℕ) (x : A) → n < length w → set w n x ≡ over w 0 (take n w ++ (x ∷ []))
+  store-end w n x h =
+      let i : n ≤ length w = omega arith in
+      let e : n + length {A = A} [] ≡ n = omega arith in
+      ap (λ (v : List A). set v n x) (sym (over-nil w n)) ∙ store-behind w n n [] x e h ∙ over-front w n (x ∷ []) i
+
 -- ---- keys, and the row with a key
 
 -- row i of n lies within the n rows

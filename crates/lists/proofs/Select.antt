@@ -1,11 +1,11 @@
 -- Laws of the tests and choices of specs/Select.antt, for any element type.
-use mathlib.Core.Path.{_≡_, refl, sym, _∙_}
+use mathlib.Core.Path.{_≡_, refl, sym, ap, _∙_}
 use Prim.Native.Nat.{ℕ, zero, suc, _+_, _-_, _<_, _≤_}
 use native.Mathlib.Nat.{le-of-suc-le-suc, not-suc-le-zero, eq-or-lt-of-le}
 use mathlib.Core.Logic.{⊎-elim}
 use native.Mathlib.Numerals.{add-one}
 use mathlib.Core.Bool.{Bool, true, false, not, _&&_, _||_, cond, true≢false}
-use mathlib.Core.List.{List, [], _∷_, _++_, map, append-nil}
+use mathlib.Core.List.{List, [], _∷_, _++_, map, append-nil, append-assoc}
 use mathlib.Core.Option.{Option, none, some}
 use lib.Dec.{eqb, ltb}
 use lib.ListN.{length, getD, take, drop, drop-of-length-le}
@@ -13,9 +13,9 @@ use lib.Seq.{drop-cons, take-suc}
 use native.Mathlib.Omega.{arith}
 use borrow.Author.Tests.{eqb-true, eqb-false, eq-eqb, ne-eqb, ltb-true, lt-ltb, ltb-false, le-ltb, not-true}
 use Rattle.lists.specs.Every.{all}
-use Rattle.lists.proofs.Booleans.{and-both, and-fst, and-snd, same-test}
+use Rattle.lists.proofs.Booleans.{and-both, and-fst, and-snd}
 use Rattle.lists.proofs.Every.{all-split, all-append, all-getD}
-use Rattle.lists.specs.Select.{keep, any, find, each, has, without, place, above, ascending}
+use Rattle.lists.specs.Select.{keep, any, find, each, has, without, place, above, ascending, withSecond, insert-after}
 
 -- ---- Booleans
 
@@ -425,13 +425,116 @@ place-between x xs ys a b =
     all-weaken (ltb x) (λ y. not (ltb y x)) ys (λ y t. let l = ltb-true x y t in rw (le-ltb y x (omega arith))) b in
     rw (keep-append (λ y. ltb y x) xs ys, keep-append (λ y. ltb x y) xs ys, keep-all (λ y. ltb y x) xs a, keep-none (λ y. ltb x y) xs c, keep-none (λ y. ltb y x) ys e, keep-all (λ y. ltb x y) ys b, append-nil)
 
+or-snd : (a b : Bool) → (a || b) ≡ false → b ≡ false
+or-snd true b t = absurd (true≢false t)
+or-snd false b t = t
+
 -- what a list lacks stands at no place of it
 pub lacks-places : (x : ℕ) (l : List ℕ) (i : ℕ) → has x l ≡ false → i < length l → x ≡ getD l i 0 → ⊥
 unfolding has
 lacks-places x [] i n h e = absurd (not-suc-le-zero h)
 lacks-places x (y ∷ l) zero n h e = true≢false (sym (rw (eq-eqb x y e)) ∙ n)
 lacks-places x (y ∷ l) (suc i) n h e = lacks-places x l i (or-snd (eqb x y) (has x l) n) (le-of-suc-le-suc h) e
+
+-- ---- each element's list
+
+module _ {A B : Type 0} (f : A → List B) where
+  pub each-append : (xs ys : List A) → each f (xs ++ ys) ≡ each f xs ++ each f ys
+  unfolding each
+  each-append [] ys = refl
+  each-append (x ∷ xs) ys = rw (each-append xs ys) (sym (append-assoc (f x) (each f xs) (each f ys)))
+
+  -- a walk from the front, and one from the back
+  pub each-more : (l : List A) (i : ℕ) (d : A) → i < length l → each f (take (i + 1) l) ≡ each f (take i l) ++ f (getD l i d)
+  each-more l i d h = rw (add-one, take-suc l i d h, each-append) (unfold each in rw append-nil)
+
+  pub each-step : (l : List A) (i : ℕ) (d : A) → i < length l → each f (drop i l) ≡ f (getD l i d) ++ each f (drop (i + 1) l)
+  unfolding each
+  each-step l i d h = rw (add-one, drop-cons l i d)
+
+-- two functions that agree on every element
+pub each-same : {A B : Type 0} (f g : A → List B) (xs : List A) → ((x : A) → f x ≡ g x) → each f xs ≡ each g xs
+unfolding each
+each-same f g [] h = refl
+each-same f g (x ∷ xs) h = rw (h x, each-same f g xs h)
+
+-- ---- the second of a pair after each first
+
+-- z with the second of the pair that was found for it
+abbrev withFound : Option (ℕ × ℕ) → ℕ → List ℕ
+withFound o z = elim (elim o as (λ p. Option ℕ) [ none ↦ none | some h ↦ some (h .1) ]) as (λ p. List ℕ) [ none ↦ z ∷ [] | some j ↦ z ∷ j ∷ [] ]
+
+second-by : (hs : List (ℕ × ℕ)) (z : ℕ) (o : Option (ℕ × ℕ)) → find (λ h. eqb (h .0) z) hs ≡ o → withSecond hs z ≡ withFound o z
+second-by hs z o e = ap (λ (q : Option (ℕ × ℕ)). withFound q z) e
+
+pub second-here : (x y z : ℕ) (hs : List (ℕ × ℕ)) → x ≡ z → withSecond ((x, y) ∷ hs) z ≡ z ∷ y ∷ []
+second-here x y z hs e = second-by ((x, y) ∷ hs) z (some (x, y)) (unfold find in rw (eq-eqb x z e))
+
+pub second-other : (x y z : ℕ) (hs : List (ℕ × ℕ)) → (x ≡ z → ⊥) → withSecond ((x, y) ∷ hs) z ≡ withSecond hs z
+second-other x y z hs n = second-by ((x, y) ∷ hs) z (find (λ h. eqb (h .0) z) hs) (unfold find in rw (ne-eqb x z n))
+
+pub second-lacks : (z : ℕ) (hs : List (ℕ × ℕ)) → has z (map (λ h. h .0) hs) ≡ false → withSecond hs z ≡ z ∷ []
+unfolding has find
+second-lacks z [] h = refl
+second-lacks z (x ∷ hs) h =
+    second-other (x .0) (x .1) z hs (λ e. true≢false (sym (rw (eq-eqb z (x .0) (sym e))) ∙ h)) ∙ second-lacks z hs (or-snd (eqb z (x .0)) (has z (map (λ q. q .0) hs)) h)
+
+module _ (hs : List (ℕ × ℕ)) where
+  pub after-cons : (z : ℕ) (ys : List ℕ) → insert-after hs (z ∷ ys) ≡ withSecond hs z ++ insert-after hs ys
+  unfolding insert-after each
+  after-cons z ys = refl
+
+  pub after-append : (xs ys : List ℕ) → insert-after hs (xs ++ ys) ≡ insert-after hs xs ++ insert-after hs ys
+  unfolding insert-after
+  after-append xs ys = each-append (withSecond hs) xs ys
+
+  pub after-more : (l : List ℕ) (i : ℕ) → i < length l → insert-after hs (take (i + 1) l) ≡ insert-after hs (take i l) ++ withSecond hs (getD l i 0)
+  unfolding insert-after
+  after-more l i h = each-more (withSecond hs) l i 0 h
+
+  pub after-step : (l : List ℕ) (i : ℕ) → i < length l → insert-after hs (drop i l) ≡ withSecond hs (getD l i 0) ++ insert-after hs (drop (i + 1) l)
+  unfolding insert-after
+  after-step l i h = each-step (withSecond hs) l i 0 h
+
+pub length-after : (x y : ℕ) (ys : List ℕ) → length (insert-after ((x, y) ∷ []) ys) ≡ length ys + length (keep (eqb x) ys)
+length-after x y [] = unfold insert-after each keep in refl
+length-after x y (z ∷ ys) = go (eqb x z) refl (length-after x y ys)
   where
-    or-snd : (a b : Bool) → (a || b) ≡ false → b ≡ false
-    or-snd true b t = absurd (true≢false t)
-    or-snd false b t = t
+    go : (b : Bool) → eqb x z ≡ b → length (insert-after ((x, y) ∷ []) ys) ≡ length ys + length (keep (eqb x) ys)
+        → length (insert-after ((x, y) ∷ []) (z ∷ ys)) ≡ suc (length ys) + length (keep (eqb x) (z ∷ ys))
+    go true e r =
+        let s = ap length (after-cons ((x, y) ∷ []) z ys ∙ ap (λ (u : List ℕ). u ++ insert-after ((x, y) ∷ []) ys) (second-here x y z [] (eqb-true x z e))) in
+        let k : length (keep (eqb x) (z ∷ ys)) ≡ suc (length (keep (eqb x) ys)) = unfold keep in rw e in
+        s ∙ omega arith
+    go false e r =
+        let s = ap length (after-cons ((x, y) ∷ []) z ys ∙ ap (λ (u : List ℕ). u ++ insert-after ((x, y) ∷ []) ys) (second-other x y z [] (eqb-false x z e) ∙ second-lacks z [] (unfold has in refl))) in
+        let k : length (keep (eqb x) (z ∷ ys)) ≡ length (keep (eqb x) ys) = unfold keep in rw e in
+        s ∙ omega arith
+
+-- pairs one after the other: what a pair names is no first of a later pair
+pub after-pairs : (x y : ℕ) (hs : List (ℕ × ℕ)) (ys : List ℕ) → has x (map (λ h. h .0) hs) ≡ false → has y (map (λ h. h .0) hs) ≡ false
+    → insert-after ((x, y) ∷ hs) ys ≡ insert-after hs (insert-after ((x, y) ∷ []) ys)
+after-pairs x y hs [] p q = unfold insert-after each in refl
+after-pairs x y hs (z ∷ ys) p q = go (eqb x z) refl (after-pairs x y hs ys p q)
+  where
+    go : (b : Bool) → eqb x z ≡ b → insert-after ((x, y) ∷ hs) ys ≡ insert-after hs (insert-after ((x, y) ∷ []) ys)
+        → insert-after ((x, y) ∷ hs) (z ∷ ys) ≡ insert-after hs (insert-after ((x, y) ∷ []) (z ∷ ys))
+    go true e r =
+        let l : x ≡ z = eqb-true x z e in
+        let rest = insert-after ((x, y) ∷ []) ys in
+        let left : insert-after ((x, y) ∷ hs) (z ∷ ys) ≡ z ∷ y ∷ insert-after hs rest =
+        after-cons ((x, y) ∷ hs) z ys ∙ ap (λ (u : List ℕ). u ++ insert-after ((x, y) ∷ hs) ys) (second-here x y z hs l) ∙ ap (λ (u : List ℕ). z ∷ y ∷ u) r in
+        let inner : insert-after ((x, y) ∷ []) (z ∷ ys) ≡ z ∷ y ∷ rest =
+        after-cons ((x, y) ∷ []) z ys ∙ ap (λ (u : List ℕ). u ++ rest) (second-here x y z [] l) in
+        let right : insert-after hs (z ∷ y ∷ rest) ≡ z ∷ y ∷ insert-after hs rest =
+        after-cons hs z (y ∷ rest) ∙ ap (λ (u : List ℕ). u ++ insert-after hs (y ∷ rest)) (second-lacks z hs (rw l at p))
+        ∙ ap (λ (u : List ℕ). z ∷ u) (after-cons hs y rest ∙ ap (λ (u : List ℕ). u ++ insert-after hs rest) (second-lacks y hs q)) in
+        left ∙ sym (ap (insert-after hs) inner ∙ right)
+    go false e r =
+        let n = eqb-false x z e in
+        let rest = insert-after ((x, y) ∷ []) ys in
+        let left : insert-after ((x, y) ∷ hs) (z ∷ ys) ≡ withSecond hs z ++ insert-after hs rest =
+        after-cons ((x, y) ∷ hs) z ys ∙ ap (λ (u : List ℕ). u ++ insert-after ((x, y) ∷ hs) ys) (second-other x y z hs n) ∙ ap (λ (u : List ℕ). withSecond hs z ++ u) r in
+        let inner : insert-after ((x, y) ∷ []) (z ∷ ys) ≡ z ∷ rest =
+        after-cons ((x, y) ∷ []) z ys ∙ ap (λ (u : List ℕ). u ++ rest) (second-other x y z [] n ∙ second-lacks z [] (unfold has in refl)) in
+        left ∙ sym (ap (insert-after hs) inner ∙ after-cons hs z rest)

@@ -1,12 +1,12 @@
 // Lists and rows in lent words. A list is a slice whole; a table's rows are cut from it by their length.
 ghost use mathlib.Core.Path.{_≡_};
 ghost use mathlib.Core.Bool.{true, false, cond, _&&_};
-ghost use mathlib.Core.List.{map};
-ghost use Prim.Native.Nat.{_*_, _≤_, _<_};
+ghost use mathlib.Core.List.{[], _∷_, _++_, map};
+ghost use Prim.Native.Nat.{_+_, _*_, _≤_, _<_};
 ghost use lib.Dec.{leb, eqb};
-ghost use lib.ListN.{length, take};
+ghost use lib.ListN.{length, take, drop};
 ghost use Rattle.lists.specs.Every.{all};
-ghost use Rattle.lists.specs.Select.{has, ascending, place, without};
+ghost use Rattle.lists.specs.Select.{keep, has, ascending, place, without, insert-after};
 ghost use Rattle.lists.specs.Rows.{keys, rowWith, over};
 
 // Both, with no branch.
@@ -146,6 +146,75 @@ pub fn replace(ids: &mut [u64], from: u64, to: u64)
         if ids[i] == from {
             ids[i] = to;
         }
+        i += 1;
+    }
+}
+
+// How often an id stands in a list of n ids.
+pub fn count_of(ids: &[u64], n: usize, id: u64) -> usize
+    requires { ⌜ n ≤ length (now ids) ⌝ }
+    ensures { λ r. ⌜ r ≡ length (keep (eqb id) (take n (now (ids .entry)))) ⌝ }
+{
+    let mut i = 0;
+    let mut count = 0;
+    while i < n {
+        if id == ids[i] {
+            count += 1;
+        }
+        i += 1;
+    }
+    count
+}
+
+// `new` put after every `id` of a list of n ids, from the back so that nothing is overwritten unread; how many ids there are then. The slots past them stay.
+pub fn insert_after(slots: &mut [u64], n: usize, id: u64, new: u64) -> usize
+    requires { ⌜ (n ≤ length (now slots)) × (length (insert-after ((id, new) ∷ []) (take n (now slots))) ≤ length (now slots)) ⌝ }
+    ensures { λ r. ⌜ (r ≡ length (insert-after ((id, new) ∷ []) (take n (now (slots .entry))))) × (now (slots .exit) ≡ over (now (slots .entry)) 0 (insert-after ((id, new) ∷ []) (take n (now (slots .entry))))) ⌝ }
+{
+    let total = n + count_of(slots, n, id);
+    let mut i = n;
+    let mut to = total;
+    while 0 < i {
+        i -= 1;
+        let last = slots[i];
+        if id == last {
+            to -= 1;
+            slots[to] = new;
+        }
+        to -= 1;
+        slots[to] = last;
+    }
+    total
+}
+
+// n words moved from a place down to another, from the front so that nothing is overwritten unread.
+pub fn move_down(words: &mut [u64], to: usize, from: usize, n: usize)
+    requires { ⌜ (to ≤ from) × (from + n ≤ length (now words)) ⌝ }
+    ensures { λ _. ⌜ now (words .exit) ≡ over (now (words .entry)) to (take n (drop from (now (words .entry)))) ⌝ }
+{
+    let mut moved = 0;
+    while moved < n {
+        words[to + moved] = words[from + moved];
+        moved += 1;
+    }
+}
+
+// An id put behind a list of n ids; the slots past it stay.
+pub fn append(slots: &mut [u64], n: usize, id: u64)
+    requires { ⌜ n < length (now slots) ⌝ }
+    ensures { λ _. ⌜ now (slots .exit) ≡ over (now (slots .entry)) 0 (take n (now (slots .entry)) ++ (id ∷ [])) ⌝ }
+{
+    slots[n] = id;
+}
+
+// A list written over another from a place on.
+pub fn copy(from: &[u64], to: &mut [u64], at: usize)
+    requires { ⌜ at + length (now from) ≤ length (now to) ⌝ }
+    ensures { λ _. ⌜ now (to .exit) ≡ over (now (to .entry)) at (now (from .entry)) ⌝ }
+{
+    let mut i = 0;
+    while i < from.len() {
+        to[at + i] = from[i];
         i += 1;
     }
 }

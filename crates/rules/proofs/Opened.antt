@@ -2,7 +2,7 @@
 use Prim.Native.Nat.{ℕ}
 use Rattle.root.specs.Root.{wholeRoot, nearestRoot, root}
 use Rattle.lists.specs.Every.{all}
-use Rattle.lists.specs.Select.{keep, any, find, each, has, without, place, above, ascending, distinct, sameNumbers}
+use Rattle.lists.specs.Select.{keep, any, find, each, has, without, place, above, ascending, distinct, sameNumbers, insert-after}
 use Rattle.geometry.specs.Float.{epsilon, clamp, reach, coordinate, fraction, mix}
 use Rattle.geometry.specs.Point.{add2, sub2, mul2, dot2, cross, norm2, distance2, normalized, lerp2, finite2, add3, sub3, mul3, dot3, norm3, distance3, xy, distance-2d, lerp3, finite3, inReach, project-on-segment}
 use Rattle.polyline.specs.Polyline.{pointOf, points, flat, first, lastFrom, last, lengthFrom, lineLength, held, locateFrom, locate, pointIn, point-at, point-at-fraction, candidate, nearer, nearestFrom, nearest-point, inside, inner, between, slice, firstPiece, secondPiece, share, resampleFrom, resample-count, meeting, skipped, concat, middle, centerline}
@@ -11,7 +11,7 @@ use Rattle.rules.specs.Sound.{lines, total, idsNamed, idsAscend, counter
 use Rattle.rules.specs.Edit.{gapped, connect, disconnect, set-neighbor}
 use Rattle.rules.specs.Lane.{remove-lane}
 use Rattle.rules.specs.Merge.{side-plan, replace-lane, merged, merge-lanes}
-use Rattle.rules.specs.Split.{lane-plan, lane-plans, all-cross, pieces, piecesIds, halves, cameFrom, secondHalves, insert-after, swapFirst, onSecond, follow-all, droppedAll, cutMap, cut, split-lane}
+use Rattle.rules.specs.Split.{lane-plan, lane-plans, all-cross, pieces, piecesIds, halves, cameFrom, secondHalves, swapFirst, onSecond, follow-all, droppedAll, cutMap, cut, split-lane}
 use Rattle.rules.specs.Ops.{edit, step, run, after}
 use Rattle.rules.specs.Book.{createdLanes, pairs, bookSplit, dropPair, bookMerge, bookAfter}
 use Rattle.rules.specs.Demand.{entities, among, appeared, vanished, row, sortedAfter, sorted, apartFrom, AllTold}

@@ -7,7 +7,7 @@ use lib.Dec.{eqb}
 use lib.ListN.{length}
 use lib.Ieee.{Float, lt, le}
 use Rattle.lists.specs.Every.{all}
-use Rattle.lists.specs.Select.{keep, any, each, has, find, sameNumbers}
+use Rattle.lists.specs.Select.{keep, any, each, has, find, sameNumbers, secondOf, insert-after}
 use Rattle.geometry.specs.Float.{_-ᶠ_, _*ᶠ_, zeroᶠ, oneᶠ}
 use Rattle.polyline.specs.Polyline.{lineLength, point-at, firstPiece, secondPiece, concat}
 use Rattle.entities.specs.Types.{opposing, same, laneEntity, boundaryEntity, crossingMargin}
@@ -140,9 +140,6 @@ unfoldable pub halves : ℕ → List LanePlan → List (ℕ × ℕ)
 halves next [] = []
 halves next (x ∷ xs) = (x .of .id, next) ∷ halves (suc next) xs
 
-abbrev pub secondOf : List (ℕ × ℕ) → ℕ → Option ℕ
-secondOf hs i = elim (find (λ h. eqb (h .0) i) hs) [ none ↦ none | some h ↦ some (h .1) ]
-
 -- "Reversed references take the pieces in reverse."
 abbrev pub firstRef : List Piece → BoundaryRef → BoundaryRef
 firstRef xs r = elim (pieceFor xs (r .boundary)) [ none ↦ r | some x ↦ record { boundary = cond (r .reversed) (x .second) (x .first); reversed = r .reversed } ]
@@ -195,12 +192,7 @@ secondHalves xs hs next (x ∷ ps) = secondHalf xs hs next x ∷ secondHalves xs
 
 -- ---- lists of lanes
 
--- "Roads and junctions gain each second half after its first. So do a rule's priority and yielding lists."
-abbrev pub withSecond : List (ℕ × ℕ) → ℕ → List ℕ
-withSecond hs i = elim (secondOf hs i) [ none ↦ i ∷ [] | some j ↦ i ∷ j ∷ [] ]
-
-unfoldable pub insert-after : List (ℕ × ℕ) → List ℕ → List ℕ
-insert-after hs ids = each (withSecond hs) ids
+-- "Roads and junctions gain each second half after its first. So do a rule's priority and yielding lists": `insert-after` of the crate lists.
 
 -- the first i of a list becomes `by`
 unfoldable pub swapFirst : ℕ → List ℕ → List ℕ → List ℕ

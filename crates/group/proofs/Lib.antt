@@ -1,0 +1,5 @@
+pub mod Laws
+pub mod Closed
+pub mod Slots
+pub mod Steps
+pub mod Choose

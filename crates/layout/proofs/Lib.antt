@@ -1,0 +1,11 @@
+pub mod Laws
+pub mod Column
+pub mod Moves
+pub mod Stages
+pub mod Views
+pub mod Spans
+pub mod Keeps
+pub mod Room
+pub mod Reach
+pub mod Formed
+pub mod Cases

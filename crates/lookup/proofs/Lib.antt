@@ -1,0 +1,4 @@
+pub mod Laws
+pub mod Center
+pub mod Anchor
+pub mod Good
