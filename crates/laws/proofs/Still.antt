@@ -10,7 +10,8 @@ use borrow.Author.Tests.{eqb-true, eqb-false, eq-eqb, ne-eqb, ltb-true, lt-ltb, 
 use Rattle.lists.specs.Every.{all}
 use Rattle.lists.specs.Select.{keep, any, find, has, place, without, above, ascending}
 use Rattle.lists.proofs.Booleans.{and-both, and-fst, and-snd}
-use Rattle.lists.proofs.Select.{all-weaken, all-has, above-all, ascending-tail, onFound, keep-all, keep-none}
+use Rattle.lists.proofs.Place.{place-present, without-absent}
+use Rattle.lists.proofs.Select.{onFound}
 use Rattle.entities.specs.Records.{Lane, Map, Issue, ChangeSet}
 use Rattle.rules.specs.Map.{lane, leads-to, comes-from, laneIds}
 use Rattle.rules.specs.Sound.{linksAscend, idsAscend, sound}
@@ -22,40 +23,6 @@ use Rattle.rules.proofs.Relations.{leads-found, comes-found}
 use Rattle.laws.proofs.Links.{lane-id}
 use Rattle.laws.proofs.Exact.{relink-exact, listed}
 use Rattle.laws.proofs.Connect.{found-all}
-
--- ---- placing what is there, and taking out what is not
-
-pub place-present : (x : ℕ) (ys : List ℕ) → ascending ys ≡ true → has x ys ≡ true → place x ys ≡ ys
-unfolding place has keep ascending
-place-present x [] up h = absurd (true≢false (sym h))
-place-present x (y ∷ ys) up h = go (eqb x y) refl (place-present x ys (ascending-tail y ys up))
-  where
-    go : (b : Bool) → eqb x y ≡ b → (has x ys ≡ true → keep (λ z. ltb z x) ys ++ (x ∷ keep (λ z. ltb x z) ys) ≡ ys)
-        → cond (ltb y x) (y ∷ keep (λ z. ltb z x) ys) (keep (λ z. ltb z x) ys) ++ (x ∷ cond (ltb x y) (y ∷ keep (λ z. ltb x z) ys) (keep (λ z. ltb x z) ys)) ≡ y ∷ ys
-    go true t r =
-        let e : x ≡ y = eqb-true x y t in
-        let a : all (ltb x) ys ≡ true = rw e (above-all y ys up) in
-        let n : keep (λ z. ltb z x) ys ≡ [] = keep-none (λ z. ltb z x) ys (all-weaken (ltb x) (λ z. not (ltb z x)) ys (λ z u.
-        let v : x < z = ltb-true x z u in ap not (le-ltb z x (omega arith))) a) in
-        let s : ltb y x ≡ false = le-ltb y x (omega arith) in
-        let w : ltb x y ≡ false = le-ltb x y (omega arith) in
-        rw (s, w, n, keep-all (λ z. ltb x z) ys a, e)
-    go false t r =
-        let inside : has x ys ≡ true = rw t at h in
-        let l : y < x = ltb-true y x (all-has (ltb y) x ys (above-all y ys up) inside) in
-        let s : ltb y x ≡ true = lt-ltb y x l in
-        let w : ltb x y ≡ false = le-ltb x y (omega arith) in
-        rw (s, w) (ap (λ zs. y ∷ zs) (r inside))
-
-pub without-absent : (x : ℕ) (ys : List ℕ) → has x ys ≡ false → without x ys ≡ ys
-unfolding without has keep
-without-absent x [] h = refl
-without-absent x (y ∷ ys) h = go (eqb x y) refl (without-absent x ys)
-  where
-    go : (b : Bool) → eqb x y ≡ b → (has x ys ≡ false → keep (λ z. not (eqb x z)) ys ≡ ys)
-        → cond (not (eqb x y)) (y ∷ keep (λ z. not (eqb x z)) ys) (keep (λ z. not (eqb x z)) ys) ≡ y ∷ ys
-    go true t r = absurd (true≢false (rw t at h))
-    go false t r = rw t (ap (λ zs. y ∷ zs) (r (rw t at h)))
 
 -- ---- the lanes that are not reported
 

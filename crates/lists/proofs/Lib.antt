@@ -3,3 +3,4 @@ pub mod Every
 pub mod Rows
 pub mod Select
 pub mod Turns
+pub mod Place

@@ -170,6 +170,26 @@ module _ {A : Type 0} where
       let e : n + length {A = A} [] ≡ n = omega arith in
       ap (λ (v : List A). set v n x) (sym (over-nil w n)) ∙ store-behind w n n [] x e h ∙ over-front w n (x ∷ []) i
 
+-- ---- two parts
+
+module _ {A : Type 0} where
+  pub take-front : (n : ℕ) (b c : List A) → n ≤ length b → take n (b ++ c) ≡ take n b
+  take-front zero b c h = refl
+  take-front (suc n) [] c h = absurd (not-suc-le-zero h)
+  take-front (suc n) (x ∷ b) c h = ap (λ z. x ∷ z) (take-front n b c (le-of-suc-le-suc h))
+
+  pub drop-front : (n : ℕ) (b c : List A) → n ≤ length b → drop n (b ++ c) ≡ drop n b ++ c
+  drop-front zero b c h = refl
+  drop-front (suc n) [] c h = absurd (not-suc-le-zero h)
+  drop-front (suc n) (x ∷ b) c h = drop-front n b c (le-of-suc-le-suc h)
+
+  -- written within the first of them
+  pub over-in : (b c : List A) (k : ℕ) (l : List A) → k + length l ≤ length b → over (b ++ c) k l ≡ over b k l ++ c
+  unfolding over
+  over-in b c k l h =
+      let i : k ≤ length b = omega arith in
+      rw (take-front k b c i, drop-front (k + length l) b c h, append-assoc, append-assoc)
+
 -- ---- keys, and the row with a key
 
 -- row i of n lies within the n rows

@@ -1,0 +1,119 @@
+-- One call, by how it ends: not sound, refused by the edit, or an edit of links and neighbours with room or without. Assumes nothing.
+use mathlib.Core.Path.{_≡_, refl, sym, ap, _∙_}
+use Prim.Native.Nat.{ℕ, zero, suc, _+_, _-_, _*_, _/_, _≤_, _<_}
+use native.Mathlib.Omega.{arith}
+use mathlib.Core.Bool.{Bool, true, false, not, cond, _&&_}
+use mathlib.Core.List.{List, [], _∷_, _++_, map}
+use mathlib.Core.Option.{Option, none, some}
+use lib.Dec.{eqb, leb}
+use lib.ListN.{length, length-map}
+use borrow.Author.Tests.{le-leb}
+use Rattle.lists.specs.Select.{each}
+use Rattle.lists.proofs.Booleans.{and-fst, and-snd}
+use Rattle.lists.proofs.Rows.{over-nil}
+use Rattle.entities.specs.Records.{Lane, Map, Issue, ChangeSet}
+use Rattle.rules.specs.Names.{Tolerance, EntityRef, LaneKind, Refusal, Unsound, NoRoom}
+use Rattle.rules.specs.Sound.{sound, fitsRoom, lastCounter}
+use Rattle.rules.specs.Edit as E
+use Rattle.rules.specs.Ops as O
+use Rattle.tables.specs.View.{Tables, view}
+use Rattle.tables.specs.Formed.{formed, soundTables}
+use Rattle.store.specs.Store.{store, roomOf}
+use Rattle.facts.proofs.Stored.{withLaneTable}
+use Rattle.report.specs.Report.{listed, warned, counts, fits}
+use Rattle.report.specs.declared.Answer.the-variants.{Changed, Refused}
+use Rattle.edit.specs.Step.{Lent, Ended, ended, step, stateOf, listsOf, refusing, changing, closing}
+use Rattle.edit.specs.Parts.{Relinked, relinked, relinking}
+
+pub sound-map : (counter : ℕ) (t : Tables) → soundTables counter t ≡ true → sound counter (view t) ≡ true
+unfolding soundTables
+sound-map counter t h = and-snd (formed t) (sound counter (view t)) h
+
+pub sound-formed : (counter : ℕ) (t : Tables) → soundTables counter t ≡ true → formed t ≡ true
+unfolding soundTables
+sound-formed counter t h = and-fst (formed t) (sound counter (view t)) h
+
+-- what is lent, with what an edit of links and neighbours has written
+abbrev pub spread : Lent → Relinked → Ended
+spread l r =
+    record {
+      lent =
+          record {
+            counter = l .counter;
+            tables = withLaneTable (r .lanes) (l .tables);
+            created = l .created;
+            modified = r .modified;
+            deleted = l .deleted;
+            warnings = r .warnings;
+          };
+      answer = r .answer;
+    }
+
+listed-nil : (w : List ℕ) → listed w [] ≡ w
+unfolding listed each
+listed-nil w = over-nil w 0
+
+joined : (k : ℕ) (ws : List ℕ) (n : ℕ) {t u : Tables} {c d m o e f : List ℕ} {i j : ℕ} → t ≡ u → c ≡ d → m ≡ o → e ≡ f → i ≡ j
+    → _≡_ {A = Ended} (ended (record { counter = k; tables = t; created = c; modified = m; deleted = e; warnings = ws }) (Changed (record { created = 0; modified = i; deleted = 0; warnings = n })))
+    (ended (record { counter = k; tables = u; created = d; modified = o; deleted = f; warnings = ws }) (Changed (record { created = 0; modified = j; deleted = 0; warnings = n })))
+joined k ws n p q r s v = rw (p, q, r, s, v)
+
+module _ (tol : Tolerance) (c : O.Command) (l : Lent) where
+  pub step-unsound : soundTables (l .counter) (l .tables) ≡ false → refusing l Unsound ≡ step tol c l
+  unfolding step
+  step-unsound h = rw h
+
+  module _ (h : soundTables (l .counter) (l .tables) ≡ true) where
+    pub step-refused : (r : Refusal) → O.edit tol c (stateOf l) ≡ E.refuse r → refusing l r ≡ step tol c l
+    unfolding step O.step
+    step-refused r e = rw (h, sound-map (l .counter) (l .tables) h, e)
+
+    -- an edit of links and neighbours
+    module _ (m : Map) (modified : List EntityRef) (ws : List Issue) (e : O.edit tol c (stateOf l) ≡ E.yield (E.relinking m modified ws)) (k : l .counter ≤ lastCounter) where
+      abbrev cs : ChangeSet
+      cs = record { created = []; modified = modified; deleted = []; warnings = ws }
+
+      abbrev room : Bool
+      room = fitsRoom (roomOf (l .tables)) m && O.fitsLists (listsOf l) cs
+
+      decided : step tol c l ≡ cond room (changing l (record { map = m; counter = l .counter }) cs) (refusing l NoRoom)
+      unfolding step O.step
+      decided = rw (h, sound-map (l .counter) (l .tables) h, e, le-leb (l .counter) lastCounter k) (either room)
+        where
+          o : Bool → O.Outcome
+          o b = cond b (O.acceptedAs (stateOf l) (E.relinking m modified ws)) (O.refusedAs (stateOf l) NoRoom)
+
+          either : (b : Bool) → closing l (o b .state) (o b .answer) ≡ cond b (changing l (record { map = m; counter = l .counter }) cs) (refusing l NoRoom)
+          either true = refl
+          either false = refl
+
+      -- the lists of lanes and warnings alone take places
+      places : (n : ℕ) → length modified ≡ n → O.fitsLists (listsOf l) cs ≡ fits n (length ws) (l .modified) (l .warnings)
+      places n q =
+          rw (q, le-leb 0 (length (l .created) / 2) (omega arith), le-leb 0 (length (l .deleted) / 2) (omega arith)) (three (leb n (length (l .modified) / 2)))
+        where
+          three : (b : Bool) → (true && b && true && leb (length ws) (length (l .warnings) / 10)) ≡ (b && leb (length ws) (length (l .warnings) / 10))
+          three true = refl
+          three false = refl
+
+      -- what is written back, by the lane table as it becomes
+      pub step-relinking : (ids : List ℕ) (after : List ℕ) (fit : Bool) → modified ≡ E.refs LaneKind ids → fitsRoom (roomOf (l .tables)) m ≡ fit
+          → (fit ≡ true → store (l .tables) m ≡ withLaneTable after (l .tables))
+          → step tol c l ≡ spread l (relinking fit after ids ws (l .tables .lanes) (l .modified) (l .warnings))
+      unfolding relinking
+      step-relinking ids after fit q f st =
+          let n : length modified ≡ length ids = ap length q ∙ length-map ids (λ i. record { kind = LaneKind; id = i }) in
+          decided ∙ (rw (f, places (length ids) n) (sides n))
+        where
+          sides : length modified ≡ length ids → cond (fit && fits (length ids) (length ws) (l .modified) (l .warnings)) (changing l (record { map = m; counter = l .counter }) cs) (refusing l NoRoom)
+              ≡ spread l (cond (fit && fits (length ids) (length ws) (l .modified) (l .warnings)) (relinked after (listed (l .modified) (E.refs LaneKind ids)) (warned (l .warnings) ws) (Changed (record { created = 0; modified = length ids; deleted = 0; warnings = length ws }))) (relinked (l .tables .lanes) (l .modified) (l .warnings) (Refused NoRoom)))
+          sides n = by fit refl (fits (length ids) (length ws) (l .modified) (l .warnings))
+            where
+              abbreviated : Bool → Relinked
+              abbreviated b = cond b (relinked after (listed (l .modified) (E.refs LaneKind ids)) (warned (l .warnings) ws) (Changed (record { created = 0; modified = length ids; deleted = 0; warnings = length ws }))) (relinked (l .tables .lanes) (l .modified) (l .warnings) (Refused NoRoom))
+
+              by : (x : Bool) → fit ≡ x → (b : Bool) → cond (x && b) (changing l (record { map = m; counter = l .counter }) cs) (refusing l NoRoom) ≡ spread l (abbreviated (x && b))
+              by false x b = refl
+              by true x false = refl
+              by true x true =
+                  joined (l .counter) (warned (l .warnings) ws) (length ws) (st x) (listed-nil (l .created)) (ap (listed (l .modified)) q) (listed-nil (l .deleted)) n

@@ -1,0 +1,4 @@
+pub mod Stored
+pub mod Room
+pub mod Facts
+pub mod Kept

@@ -1,0 +1,1 @@
+// What edits know of a sound map: theorems, no code.

@@ -1,0 +1,1 @@
+// Demand 3 on lent memory: definitions and theorems, no code.

@@ -1,0 +1,67 @@
+-- `report::put_notice` meets its contract, variant by variant. Assumes nothing.
+use borrow.Author.Needs.{needs}
+use Rattle.report.proofs.put_notice.Statement.{statement}
+use Rattle.report.proofs.put_notice.Tie as tie
+use native.Mathlib.Omega.{arith}
+use lib.ListN.{length}
+use Rattle.report.specs.declared.Notice.the-variants.{Nothing, NoOp, Pair}
+use Rattle.report.proofs.Warnings.{none-put, notice-room, notice-put}
+
+enum-told : tie.Need-enum-told
+enum-told c = search needs
+
+enum-known-notice : tie.Need-enum-known-notice
+enum-known-notice c = search needs
+
+put-no-op-requires : tie.Need-put-no-op-requires
+put-no-op-requires c κs =
+    let a = c .before .before .before .before .before .args in
+    let g = c .before .before .notice .given in
+    omega (arith, notice-room (a .notice) (NoOp (g .0 .0)) (a .at) (length (a .warnings .now)) (g .1) (c .before .before .before .before .before .pre))
+
+enum-known-notice-2 : tie.Need-enum-known-notice-2
+enum-known-notice-2 c = search needs
+
+put-pair-requires : tie.Need-put-pair-requires
+put-pair-requires c κs =
+    let a = c .before .before .before .before .before .args in
+    let g = c .before .before .notice2 .given in
+    omega (arith, notice-room (a .notice) (Pair (g .0 .0) (g .0 .1 .0) (g .0 .1 .1 .0)) (a .at) (length (a .warnings .now)) (g .1) (c .before .before .before .before .before .pre))
+
+returns : tie.Need-returns
+returns c =
+    let a = c .before .before .before .args in
+    notice-put (a .notice) Nothing (a .at) (a .warnings .now) (a .warnings .now) (c .enum-told .given .1) (none-put (a .at) (a .warnings .now))
+
+same-length : tie.Need-same-length
+same-length c = search needs
+
+returns-2 : tie.Need-returns-2
+returns-2 c =
+    let a = c .before .before .before .before .before .before .before .before .args in
+    let g = c .before .before .before .before .before .notice .given in
+    notice-put (a .notice) (NoOp (g .0 .0)) (a .at) (a .warnings .now) (c .before .before .put-no-op .last .0) (g .1) (c .before .before .put-no-op .ensures)
+
+same-length-2 : tie.Need-same-length-2
+same-length-2 c = search needs
+
+returns-3 : tie.Need-returns-3
+returns-3 c =
+    let a = c .before .before .before .before .before .before .before .before .args in
+    let g = c .before .before .before .before .before .notice2 .given in
+    notice-put (a .notice) (Pair (g .0 .0) (g .0 .1 .0) (g .0 .1 .1 .0)) (a .at) (a .warnings .now) (c .before .before .put-pair .last .0) (g .1) (c .before .before .put-pair .ensures)
+
+pub put-notice-spec : {M : Type 1} → statement M
+put-notice-spec =
+    tie.close
+    (tie.spec
+    enum-told
+    enum-known-notice
+    put-no-op-requires
+    enum-known-notice-2
+    put-pair-requires
+    returns
+    same-length
+    returns-2
+    same-length-2
+    returns-3)

@@ -1,0 +1,72 @@
+-- A change set in the slices lent for it: design, "Answers".
+use Prim.Native.Nat.{ℕ, suc, _+_, _*_, _/_}
+use mathlib.Core.Bool.{Bool, _&&_}
+use mathlib.Core.List.{List, [], _∷_, _++_}
+use mathlib.Core.Option.{Option, none, some}
+use lib.Dec.{leb}
+use lib.ListN.{length, take, drop}
+use Rattle.lists.specs.Rows.{over}
+use Rattle.lists.specs.Select.{each}
+use Rattle.entities.specs.Types.{kindNumber, severityNumber, codeNumber, laneEntity, refusalNumber, refusalEntity}
+use Rattle.entities.specs.Records.{Issue, ChangeSet}
+use Rattle.rules.specs.Names.{EntityRef}
+use Rattle.rules.specs.Edit.{warning, no-op}
+use Rattle.store.specs.Store.{flag, writes}
+use Rattle.report.specs.declared.Counts.{Counts}
+use Rattle.report.specs.declared.Answer.{Answer}
+use Rattle.report.specs.declared.Answer.the-variants.{Changed, Refused}
+use Rattle.report.specs.declared.Notice.{Notice}
+use Rattle.report.specs.declared.Notice.the-variants.{Nothing, NoOp, Pair}
+
+-- ---- answers
+
+-- The paper's number and entity of an answer: 0 and none of an accepted call.
+abbrev pub answerNumber : Answer → ℕ
+answerNumber (Changed n) = 0
+answerNumber (Refused r) = refusalNumber r
+
+abbrev pub answerEntity : Answer → Option EntityRef
+answerEntity (Changed n) = none
+answerEntity (Refused r) = refusalEntity r
+
+-- ---- words
+
+-- a kind and an id
+abbrev pub entityWords : EntityRef → List ℕ
+entityWords e = kindNumber (e .kind) ∷ e .id ∷ []
+
+-- "A warning has severity, code, entity, related entities and a mark for the removal fix": ten words, two pairs of them for related entities.
+unfoldable pub issueOnto : List ℕ → Issue → List ℕ
+issueOnto w i =
+    severityNumber (i .severity)
+    ∷ codeNumber (i .code)
+    ∷ kindNumber (i .entity .kind)
+    ∷ i .entity .id
+    ∷ length (i .related)
+    ∷ over (take 4 (drop 5 w)) 0 (each entityWords (i .related)) ++ (flag (i .fix) ∷ [])
+
+-- a list of an answer in the slice lent for it; what lies past it stays
+unfoldable pub listed : List ℕ → List EntityRef → List ℕ
+listed w es = over w 0 (each entityWords es)
+
+unfoldable pub warned : List ℕ → List Issue → List ℕ
+warned w issues = writes 10 issueOnto w issues
+
+abbrev pub counts : ChangeSet → Counts
+counts cs = record { created = length (cs .created); modified = length (cs .modified); deleted = length (cs .deleted); warnings = length (cs .warnings) }
+
+-- ---- the parts of a report; nothing that a host calls rests on these
+
+-- the warning that a notice stands for
+abbrev pub issues : Notice → List Issue
+issues Nothing = []
+issues (NoOp l) = no-op l ∷ []
+issues (Pair code l other) = warning code (laneEntity l) (laneEntity other ∷ []) ∷ []
+
+-- warnings written from row `at` on
+unfoldable pub warnedAt : ℕ → List ℕ → List Issue → List ℕ
+warnedAt at w is = take (at * 10) w ++ warned (drop (at * 10) w) is
+
+-- the lists have places for so many lanes and warnings
+abbrev pub fits : ℕ → ℕ → List ℕ → List ℕ → Bool
+fits ids ws modified warnings = leb ids (length modified / 2) && leb ws (length warnings / 10)

@@ -1,0 +1,210 @@
+// diagnostics.rs and the change set of edit/mod.rs: what an accepted edit writes into the lists that are lent for its answer.
+ghost use mathlib.Core.Path.{_≡_};
+ghost use mathlib.Core.Bool.{true, false, cond};
+ghost use mathlib.Core.List.{[], _∷_, _++_};
+ghost use Prim.Native.Nat.{_+_, _*_, _≤_, _<_};
+ghost use lib.ListN.{length, take};
+ghost use Rattle.lists.specs.Rows.{over};
+ghost use Rattle.lists.specs.Select.{has, place, ascending};
+ghost use Rattle.rules.specs.Names.{LaneKind};
+ghost use Rattle.rules.specs.Edit as E;
+ghost use Rattle.report.specs.declared.Notice.the-variants as N;
+ghost use Rattle.report.specs.Report as R;
+use entities::EntityKind;
+use entities::IssueCode;
+use entities::Refusal;
+use entities::Severity;
+use lists::both;
+
+// Words of an entity and of a warning in a lent list.
+const ENTITY: usize = 2;
+
+const WARNING: usize = 10;
+
+// Words of a warning.
+const SEVERITY: usize = 0;
+
+const CODE: usize = 1;
+
+const KIND: usize = 2;
+
+const ID: usize = 3;
+
+const RELATED: usize = 4;
+
+const RELATED_KIND: usize = 5;
+
+const RELATED_ID: usize = 6;
+
+const FIX: usize = 9;
+
+// How many places of each lent list an accepted call has filled: pairs of words, and rows of ten for warnings.
+pub struct Counts {
+    pub created: usize,
+    pub modified: usize,
+    pub deleted: usize,
+    pub warnings: usize,
+}
+
+// What a call answers.
+pub enum Answer {
+    Changed(Counts),
+    Refused(Refusal),
+}
+
+impl Answer {
+    // The paper's number: 0 for an accepted call.
+    pub fn number(self) -> u64
+        ensures { λ r. ⌜ r ≡ R.answerNumber self ⌝ }
+    {
+        match self {
+            Answer::Changed(_) => 0,
+            Answer::Refused(r) => r.number(),
+        }
+    }
+}
+
+// ---- lanes named as modified
+
+// An id put in its place among the first n, unless it is there; how many there are then.
+pub fn named(ids: &mut [u64], n: usize, id: u64) -> usize
+    requires { ⌜ (n < length (now ids)) × (ascending (take n (now ids)) ≡ true) ⌝ }
+    ensures { λ r. ⌜ (take r (now (ids .exit)) ≡ place id (take n (now (ids .entry)))) × (r ≡ length (place id (take n (now (ids .entry))))) ⌝ }
+{
+    if lists::contains(&ids[..n], id) {
+        return n;
+    }
+    lists::insert(ids, n, id);
+    n + 1
+}
+
+// The lanes in the order given.
+pub fn list_lanes(ids: &[u64], modified: &mut [u64])
+    requires { ⌜ length (now ids) * 2 ≤ length (now modified) ⌝ }
+    ensures { λ _. ⌜ now (modified .exit) ≡ R.listed (now (modified .entry)) (E.refs LaneKind (now (ids .entry))) ⌝ }
+{
+    let mut i = 0;
+    while i < ids.len() {
+        modified[i * ENTITY] = EntityKind::Lane.number();
+        modified[i * ENTITY + 1] = ids[i];
+        i += 1;
+    }
+}
+
+// ---- warnings of lanes
+
+// A warning of one lane or of two, or none.
+pub enum Notice {
+    Nothing,
+    NoOp(u64),
+    Pair(IssueCode, u64, u64),
+}
+
+pub fn no_op_where(on: bool, lane: u64) -> Notice
+    ensures { λ r. ⌜ r ≡ cond on (N.NoOp lane) N.Nothing ⌝ }
+{
+    if on {
+        return Notice::NoOp(lane);
+    }
+    Notice::Nothing
+}
+
+pub fn pair_where(on: bool, code: IssueCode, lane: u64, other: u64) -> Notice
+    ensures { λ r. ⌜ r ≡ cond on (N.Pair code lane other) N.Nothing ⌝ }
+{
+    if on {
+        return Notice::Pair(code, lane, other);
+    }
+    Notice::Nothing
+}
+
+fn notice_count(notice: Notice) -> usize
+    ensures { λ r. ⌜ r ≡ length (R.issues notice) ⌝ }
+{
+    match notice {
+        Notice::Nothing => 0,
+        Notice::NoOp(_) => 1,
+        Notice::Pair(_, _, _) => 1,
+    }
+}
+
+// The note that nothing was to do for a lane, in row `at`.
+fn put_no_op(warnings: &mut [u64], at: usize, lane: u64)
+    requires { ⌜ at * 10 + 10 ≤ length (now warnings) ⌝ }
+    ensures { λ _. ⌜ now (warnings .exit) ≡ R.warnedAt at (now (warnings .entry)) (R.issues (N.NoOp lane)) ⌝ }
+{
+    let row = at * WARNING;
+    warnings[row + SEVERITY] = Severity::Info.number();
+    warnings[row + CODE] = IssueCode::NoOp.number();
+    warnings[row + KIND] = EntityKind::Lane.number();
+    warnings[row + ID] = lane;
+    warnings[row + RELATED] = 0;
+    warnings[row + FIX] = 0;
+}
+
+// A warning of a lane and another, in row `at`.
+fn put_pair(warnings: &mut [u64], at: usize, code: IssueCode, lane: u64, other: u64)
+    requires { ⌜ at * 10 + 10 ≤ length (now warnings) ⌝ }
+    ensures { λ _. ⌜ now (warnings .exit) ≡ R.warnedAt at (now (warnings .entry)) (R.issues (N.Pair code lane other)) ⌝ }
+{
+    let row = at * WARNING;
+    warnings[row + SEVERITY] = Severity::Warning.number();
+    warnings[row + CODE] = code.number();
+    warnings[row + KIND] = EntityKind::Lane.number();
+    warnings[row + ID] = lane;
+    warnings[row + RELATED] = 1;
+    warnings[row + RELATED_KIND] = EntityKind::Lane.number();
+    warnings[row + RELATED_ID] = other;
+    warnings[row + FIX] = 0;
+}
+
+fn put_notice(warnings: &mut [u64], at: usize, notice: Notice)
+    requires { ⌜ (at + length (R.issues notice)) * 10 ≤ length (now warnings) ⌝ }
+    ensures { λ _. ⌜ now (warnings .exit) ≡ R.warnedAt at (now (warnings .entry)) (R.issues notice) ⌝ }
+{
+    match notice {
+        Notice::Nothing => {}
+        Notice::NoOp(lane) => {
+            put_no_op(warnings, at, lane);
+        }
+        Notice::Pair(code, lane, other) => {
+            put_pair(warnings, at, code, lane, other);
+        }
+    }
+}
+
+// ---- the whole report
+
+// Whether the lists have places for so many lanes and for two notices.
+pub fn fits(ids: usize, first: Notice, second: Notice, modified: &[u64], warnings: &[u64]) -> bool
+    ensures { λ r. ⌜ r ≡ R.fits ids (length (R.issues first ++ R.issues second)) (now (modified .entry)) (now (warnings .entry)) ⌝ }
+{
+    let ws = notice_count(first) + notice_count(second);
+    both(
+        ids <= modified.len() / ENTITY,
+        ws <= warnings.len() / WARNING,
+    )
+}
+
+// The lanes and the notices in the lists, and how many there are.
+pub fn report(
+    ids: &[u64],
+    first: Notice,
+    second: Notice,
+    modified: &mut [u64],
+    warnings: &mut [u64],
+) -> Counts
+    requires { ⌜ R.fits (length (now ids)) (length (R.issues first ++ R.issues second)) (now modified) (now warnings) ≡ true ⌝ }
+    ensures { λ r. ⌜ (r ≡ record { created = 0; modified = length (now (ids .entry)); deleted = 0; warnings = length (R.issues first ++ R.issues second) }) × ((now (modified .exit) ≡ R.listed (now (modified .entry)) (E.refs LaneKind (now (ids .entry)))) × (now (warnings .exit) ≡ R.warned (now (warnings .entry)) (R.issues first ++ R.issues second))) ⌝ }
+{
+    list_lanes(ids, modified);
+    put_notice(warnings, 0, first);
+    let n = notice_count(first);
+    put_notice(warnings, n, second);
+    Counts {
+        created: 0,
+        modified: ids.len(),
+        deleted: 0,
+        warnings: n + notice_count(second),
+    }
+}

@@ -1,0 +1,1 @@
+// How a map is written back into lent memory: definitions and their theorems, no code.

@@ -1,0 +1,4 @@
+pub mod Table
+pub mod Links
+pub mod Linked
+pub mod Neighbors
