@@ -8,7 +8,7 @@ use vectormap_core::*;
 use crate::generate::{furnish, grid};
 use crate::sound;
 use crate::step::{Call, Room, State, edit};
-use crate::tables::counts;
+use crate::tables::*;
 
 const TURNS: usize = 201;
 
@@ -42,7 +42,8 @@ fn library(m: &Map, call: &Call) -> Option<f64> {
     }))
 }
 
-/// The edit alone, and the edit after a test of soundness; each on a copy that is not timed.
+/// The edit alone, and the edit after a test of soundness, each on a copy that is not timed; the editor beside the second, and which part
+/// of its time its own test of soundness takes.
 fn time(name: &str, m: &Map, call: Call) {
     let counter = m.peek_next_id();
     let once = |test: bool| {
@@ -56,15 +57,52 @@ fn time(name: &str, m: &Map, call: Call) {
         assert!(made.is_ok(), "{name}");
         took
     };
-    let editor = match library(m, &call) {
-        Some(t) => format!("{t:.1}"),
-        None => "not there".into(),
+    let (alone, tested) = (median(|| once(false)), median(|| once(true)));
+    let editor = match (library(m, &call), tested_by_editor(m)) {
+        (Some(t), Some(test)) => {
+            format!("{t:>12.1}{:>8.2}{:>8.0} %", t / tested, 100.0 * test / t)
+        }
+        _ => format!("{:>12}", "not there"),
     };
-    println!(
-        "{name:34}{:>10.1}{:>14.1}{editor:>12}",
-        median(|| once(false)),
-        median(|| once(true))
-    );
+    println!("{name:34}{alone:>10.1}{tested:>14.1}{editor}");
+}
+
+/// The test of soundness on the Rust's own map.
+fn tested(m: &Map) -> f64 {
+    let counter = m.peek_next_id();
+    median(|| {
+        let start = Instant::now();
+        assert!(sound::map_sound(black_box(m), counter));
+        start.elapsed()
+    })
+}
+
+/// The editor's test of soundness on lent tables, if the library is there.
+fn tested_by_editor(m: &Map) -> Option<f64> {
+    let tables = crate::cases::plain(m, 40, 400);
+    let counter = m.peek_next_id();
+    crate::ffi::sound(&tables, counter)?;
+    Some(median(|| {
+        let start = Instant::now();
+        assert_eq!(crate::ffi::sound(black_box(&tables), counter), Some(true));
+        start.elapsed()
+    }))
+}
+
+/// 1,024 lanes, 4,096 boundaries, 65,536 points, 256 roads, 256 junctions and 512 rules: the limits of document 01.
+fn full() -> Map {
+    let each = POINTS / LIMIT[BOUNDARIES];
+    let mut m = grid(128, 8, each);
+    for i in m.boundary_count()..LIMIT[BOUNDARIES] {
+        let line = (0..each)
+            .map(|k| Point3::new(k as f64, i as f64, 0.0))
+            .collect();
+        let id = BoundaryId(100_000 + i as u64);
+        m.insert_boundary(Boundary::new(id, BoundaryKind::Curb, Polyline3::new(line)))
+            .expect("a new id");
+    }
+    furnish(&mut m, LIMIT[ROADS], LIMIT[JUNCTIONS], LIMIT[RULES]);
+    m
 }
 
 pub fn run() -> bool {
@@ -84,8 +122,8 @@ pub fn run() -> bool {
     };
     println!("microseconds, median of {TURNS}: {:?} rows", counts(&plain));
     println!(
-        "{:34}{:>10}{:>14}{:>12}",
-        "", "the Rust", "tested first", "the editor"
+        "{:34}{:>10}{:>14}{:>12}{:>8}{:>10}",
+        "", "the Rust", "tested first", "the editor", "ratio", "its test"
     );
     time("connect", &plain, Call::Connect { from: a, to: b + 1 });
     time("disconnect", &plain, Call::Disconnect { from: a, to: b });
@@ -102,41 +140,29 @@ pub fn run() -> bool {
     time("split_lane, one, with rules", &furnished, split(false));
     time("split_lane, ten, with rules", &furnished, split(true));
 
-    let counter = plain.peek_next_id();
-    let alone = |m: &Map| {
-        median(|| {
-            let start = Instant::now();
-            assert!(sound::map_sound(black_box(m), counter));
-            start.elapsed()
-        })
-    };
-    println!(
-        "soundness of the Rust's map: {:.1}, with rules {:.1}",
-        alone(&plain),
-        alone(&furnished)
-    );
-    let tables = crate::cases::plain(&plain, 40, 400);
-    let t = median(|| {
-        let start = Instant::now();
-        assert!(sound::fault(black_box(&tables), counter).is_none());
-        start.elapsed()
-    });
-    println!("soundness of the lent tables: {t:.1}");
-    for (name, m) in [("", &plain), (" with rules", &furnished)] {
+    let full = full();
+    println!("the test of soundness");
+    for (name, m) in [
+        ("plain", &plain),
+        ("with rules", &furnished),
+        ("full", &full),
+    ] {
+        let rust = tested(m);
         let tables = crate::cases::plain(m, 40, 400);
-        if crate::ffi::sound(&tables, m.peek_next_id()).is_none() {
-            continue;
-        }
         let counter = m.peek_next_id();
-        let t = median(|| {
+        let lent = median(|| {
             let start = Instant::now();
-            assert_eq!(crate::ffi::sound(black_box(&tables), counter), Some(true));
+            assert!(sound::fault(black_box(&tables), counter).is_none());
             start.elapsed()
         });
-        let rust = alone(m);
+        let editor = match tested_by_editor(m) {
+            Some(t) => format!("{t:.1}, ratio to the first {:.2}", t / rust),
+            None => "not there".into(),
+        };
         println!(
-            "soundness by the editor{name}: {t:.1}, beside the Rust's map {:.2}",
-            t / rust
+            "{name}: the Rust's map {rust:.1}, the lent tables by the oracle {lent:.1}, by the editor {editor}; {:?} rows, {} points",
+            counts(m),
+            lines(m).iter().map(|l| l.len()).sum::<usize>()
         );
     }
     let c = median(|| {

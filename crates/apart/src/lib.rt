@@ -8,29 +8,17 @@ ghost use Rattle.lists.specs.Select.{each};
 ghost use Rattle.tables.specs.View.{rows};
 ghost use Rattle.tables.specs.Formed.{counted, spanAt, centerSpan, allClear};
 ghost use Rattle.apart.specs.Marks as G;
-
-// Words of the rows that hold lines: where a line starts; its length is the next word.
-const LANE: usize = 52;
-
-const CENTERLINE: usize = 6;
-
-const CENTERLINE_START: usize = 7;
-
-const CENTERLINE_SIZE: usize = 8;
-
-const BOUNDARY: usize = 5;
-
-const GEOMETRY: usize = 2;
-
-const STOP_LINE: usize = 4;
-
-const STOP_GEOMETRY: usize = 1;
-
-const CROSSWALK: usize = 7;
-
-const LEFT_EDGE: usize = 1;
-
-const RIGHT_EDGE: usize = 3;
+use tables::BOUNDARY;
+use tables::BOUNDARY_START;
+use tables::CROSSWALK;
+use tables::CROSSWALK_LEFT_START;
+use tables::CROSSWALK_RIGHT_START;
+use tables::LANE;
+use tables::LANE_CENTERLINE;
+use tables::LANE_CENTERLINE_SIZE;
+use tables::LANE_CENTERLINE_START;
+use tables::STOP_LINE;
+use tables::STOP_LINE_START;
 
 // Whether none of a line's points is marked.
 fn unmarked(marks: &[bool], start: usize, size: usize) -> bool
@@ -99,10 +87,10 @@ fn take_center(w: &[u64], marks: &mut [bool]) -> bool
     requires { ⌜ (length (now w) ≡ 52) × (all (G.within (length (now marks))) (centerSpan (now w)) ≡ true) ⌝ }
     ensures { λ r. ⌜ (r ≡ G.apartBy (now (marks .entry)) (centerSpan (now (w .entry)))) × (r ≡ true → now (marks .exit) ≡ G.markedAll (now (marks .entry)) (centerSpan (now (w .entry)))) ⌝ }
 {
-    if w[CENTERLINE] == 0 {
+    if w[LANE_CENTERLINE] == 0 {
         return true;
     }
-    take_line(marks, w[CENTERLINE_START], w[CENTERLINE_SIZE])
+    take_line(marks, w[LANE_CENTERLINE_START], w[LANE_CENTERLINE_SIZE])
 }
 
 // The explicit centrelines of the lanes.
@@ -135,7 +123,7 @@ fn take_all(
     requires { ⌜ G.takeable (length (now marks)) (now lanes) (now boundaries) (now «stop_lines») (now crosswalks) ≡ true ⌝ }
     ensures { λ r. ⌜ r ≡ G.apartBy (now (marks .entry)) (G.lineSpans (now (lanes .entry)) (now (boundaries .entry)) (now («stop_lines» .entry)) (now (crosswalks .entry))) ⌝ }
 {
-    if take_column(boundaries, BOUNDARY, GEOMETRY, marks) {
+    if take_column(boundaries, BOUNDARY, BOUNDARY_START, marks) {
         if take_centers(lanes, marks) {
             return take_rest(stop_lines, crosswalks, marks);
         }
@@ -147,9 +135,9 @@ fn take_rest(stop_lines: &[u64], crosswalks: &[u64], marks: &mut [bool]) -> bool
     requires { ⌜ G.restTakeable (length (now marks)) (now «stop_lines») (now crosswalks) ≡ true ⌝ }
     ensures { λ r. ⌜ r ≡ G.apartBy (now (marks .entry)) (G.restSpans (now («stop_lines» .entry)) (now (crosswalks .entry))) ⌝ }
 {
-    if take_column(stop_lines, STOP_LINE, STOP_GEOMETRY, marks) {
-        if take_column(crosswalks, CROSSWALK, LEFT_EDGE, marks) {
-            return take_column(crosswalks, CROSSWALK, RIGHT_EDGE, marks);
+    if take_column(stop_lines, STOP_LINE, STOP_LINE_START, marks) {
+        if take_column(crosswalks, CROSSWALK, CROSSWALK_LEFT_START, marks) {
+            return take_column(crosswalks, CROSSWALK, CROSSWALK_RIGHT_START, marks);
         }
     }
     false

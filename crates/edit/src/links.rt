@@ -17,13 +17,9 @@ use entities::Side;
 use lists::both;
 use polyline::OptionPoint3;
 use report::Answer;
-
-// Words of a lane's row.
-const LANE: usize = 52;
-
-const PREDECESSORS: usize = 18;
-
-const SUCCESSORS: usize = 35;
+use tables::LANE;
+use tables::PREDECESSORS;
+use tables::SUCCESSORS;
 
 // Links in a list, at most.
 const LINKS: u64 = 16;

@@ -24,9 +24,7 @@ use entities::reciprocal_side;
 use lists::both;
 use report::Answer;
 use report::Notice;
-
-// Words of a lane's row.
-const LANE: usize = 52;
+use tables::LANE;
 
 // ---- what slots hold
 

@@ -12,13 +12,9 @@ ghost use Rattle.tables.specs.View.{word};
 ghost use Rattle.map.specs.Returned.{searchable};
 ghost use Rattle.group.specs.Walk as G;
 use lists::Found;
-
-// Words of a lane's row.
-const LANE: usize = 52;
-
-const LEFT_SLOT: usize = 14;
-
-const RIGHT_SLOT: usize = 16;
+use tables::LANE;
+use tables::LEFT_SLOT;
+use tables::RIGHT_SLOT;
 
 // As many marks as a map may have lanes.
 const LANES: usize = 1024;

@@ -11,30 +11,17 @@ ghost use Rattle.tables.specs.View.{word, part};
 ghost use Rattle.tables.specs.Formed.{spanAt, spans, counted};
 ghost use Rattle.apart.specs.Marks.{within};
 ghost use Rattle.layout.specs.Layout.{laid, total, plain, centerlines, lineOf, lines, moved, laidFrom, gathered, laidOut, lineTables, Gatherable, countedLines, linesFormed, endOf, reach};
-
-// Floats in a point.
-const POINT: usize = 3;
-
-// Words of the rows that hold lines: where a line starts; its length is the next word.
-const LANE: usize = 52;
-
-const CENTERLINE: usize = 6;
-
-const CENTERLINE_START: usize = 7;
-
-const BOUNDARY: usize = 5;
-
-const GEOMETRY: usize = 2;
-
-const STOP_LINE: usize = 4;
-
-const STOP_GEOMETRY: usize = 1;
-
-const CROSSWALK: usize = 7;
-
-const LEFT_EDGE: usize = 1;
-
-const RIGHT_EDGE: usize = 3;
+use tables::BOUNDARY;
+use tables::BOUNDARY_START;
+use tables::CROSSWALK;
+use tables::CROSSWALK_LEFT_START;
+use tables::CROSSWALK_RIGHT_START;
+use tables::LANE;
+use tables::LANE_CENTERLINE;
+use tables::LANE_CENTERLINE_START;
+use tables::POINT;
+use tables::STOP_LINE;
+use tables::STOP_LINE_START;
 
 // How many points the arrays of work have.
 const SMALL: usize = 1024;
@@ -118,10 +105,10 @@ fn gather_center(
     requires { ⌜ (row + 52 ≤ length (now lanes)) × ((all (within (length (now work) / 3)) (lineOf centerlines (take 52 (drop row (now lanes)))) ≡ true) × ((at + total (lineOf centerlines (take 52 (drop row (now lanes))))) * 3 ≤ length (now coordinates))) ⌝ }
     ensures { λ r. ⌜ (r ≡ at + total (lineOf centerlines (take 52 (drop row (now (lanes .entry)))))) × ((now (lanes .exit) ≡ over (now (lanes .entry)) row (moved centerlines at (take 52 (drop row (now (lanes .entry)))))) × (now (coordinates .exit) ≡ over (now (coordinates .entry)) (at * 3) (laid (now (work .entry)) (lineOf centerlines (take 52 (drop row (now (lanes .entry)))))))) ⌝ }
 {
-    if lanes[row + CENTERLINE] == 0 {
+    if lanes[row + LANE_CENTERLINE] == 0 {
         return at;
     }
-    gather_line(lanes, row + CENTERLINE_START, work, coordinates, at)
+    gather_line(lanes, row + LANE_CENTERLINE_START, work, coordinates, at)
 }
 
 // The explicit centrelines of the lanes, one after another from point `at` on; the point behind them.
@@ -151,18 +138,32 @@ pub fn gather_all(
     requires { ⌜ Gatherable (now work) (lineTables (now lanes) (now boundaries) (now «stop_lines») (now crosswalks) (now coordinates)) ⌝ }
     ensures { λ _. ⌜ lineTables (now (lanes .exit)) (now (boundaries .exit)) (now («stop_lines» .exit)) (now (crosswalks .exit)) (now (coordinates .exit)) ≡ gathered (now (work .entry)) (lineTables (now (lanes .entry)) (now (boundaries .entry)) (now («stop_lines» .entry)) (now (crosswalks .entry)) (now (coordinates .entry))) ⌝ }
 {
-    let centers = gather(boundaries, BOUNDARY, GEOMETRY, work, coordinates, 0);
+    let centers = gather(boundaries, BOUNDARY, BOUNDARY_START, work, coordinates, 0);
     let stops = gather_centers(lanes, work, coordinates, centers);
     let lefts = gather(
         stop_lines,
         STOP_LINE,
-        STOP_GEOMETRY,
+        STOP_LINE_START,
         work,
         coordinates,
         stops,
     );
-    let rights = gather(crosswalks, CROSSWALK, LEFT_EDGE, work, coordinates, lefts);
-    gather(crosswalks, CROSSWALK, RIGHT_EDGE, work, coordinates, rights);
+    let rights = gather(
+        crosswalks,
+        CROSSWALK,
+        CROSSWALK_LEFT_START,
+        work,
+        coordinates,
+        lefts,
+    );
+    gather(
+        crosswalks,
+        CROSSWALK,
+        CROSSWALK_RIGHT_START,
+        work,
+        coordinates,
+        rights,
+    );
 }
 
 // The larger of a place and the point behind a line. An empty line has none, wherever it starts.
@@ -201,10 +202,10 @@ fn center_reach(lanes: &[u64], row: usize, most: usize) -> usize
     requires { ⌜ (row + 52 ≤ length (now lanes)) × (all (within 65536) (lineOf centerlines (take 52 (drop row (now lanes)))) ≡ true) ⌝ }
     ensures { λ r. ⌜ r ≡ max most (reach (lineOf centerlines (take 52 (drop row (now (lanes .entry)))))) ⌝ }
 {
-    if lanes[row + CENTERLINE] == 0 {
+    if lanes[row + LANE_CENTERLINE] == 0 {
         return most;
     }
-    let at = row + CENTERLINE_START;
+    let at = row + LANE_CENTERLINE_START;
     line_reach(lanes[at], lanes[at + 1], most)
 }
 
@@ -233,11 +234,11 @@ pub fn lines_reach(
     requires { ⌜ (countedLines (lineTables (now lanes) (now boundaries) (now «stop_lines») (now crosswalks) []) ≡ true) × (all (within 65536) (spans (lineTables (now lanes) (now boundaries) (now «stop_lines») (now crosswalks) [])) ≡ true) ⌝ }
     ensures { λ r. ⌜ r ≡ reach (spans (lineTables (now (lanes .entry)) (now (boundaries .entry)) (now («stop_lines» .entry)) (now (crosswalks .entry)) [])) ⌝ }
 {
-    let centers = column_reach(boundaries, BOUNDARY, GEOMETRY, 0);
+    let centers = column_reach(boundaries, BOUNDARY, BOUNDARY_START, 0);
     let stops = centers_reach(lanes, centers);
-    let lefts = column_reach(stop_lines, STOP_LINE, STOP_GEOMETRY, stops);
-    let rights = column_reach(crosswalks, CROSSWALK, LEFT_EDGE, lefts);
-    column_reach(crosswalks, CROSSWALK, RIGHT_EDGE, rights)
+    let lefts = column_reach(stop_lines, STOP_LINE, STOP_LINE_START, stops);
+    let rights = column_reach(crosswalks, CROSSWALK, CROSSWALK_LEFT_START, lefts);
+    column_reach(crosswalks, CROSSWALK, CROSSWALK_RIGHT_START, rights)
 }
 
 fn smaller(a: usize, b: usize) -> usize

@@ -1,6 +1,6 @@
 -- Laws of rows in lent memory, over any elements. Assumes nothing.
 use mathlib.Core.Path.{_≡_, refl, sym, ap, _∙_}
-use Prim.Native.Nat.{ℕ, zero, suc, _+_, _-_, _*_, _≤_, _<_}
+use Prim.Native.Nat.{ℕ, zero, suc, _+_, _-_, _*_, _/_, _≤_, _<_}
 use native.Mathlib.Nat.{le-of-suc-le-suc, not-suc-le-zero, zero-mul, add-zero, mul-le-mul-right}
 use native.Mathlib.Numerals.{add-one}
 use native.Mathlib.Omega.{arith}
@@ -14,7 +14,7 @@ use borrow.Author.Tests.{eq-eqb, ne-eqb, ltb-true, ltb-false}
 use Rattle.lists.specs.declared.Found.the-variants.{At, Nothing}
 use Rattle.lists.specs.Select.{ascending}
 use Rattle.lists.specs.Rows.{reads, over, keys, rowWith}
-use Rattle.lists.proofs.Select.{ascending-places}
+use Rattle.lists.proofs.Select.{ascending-places, ascending-from}
 
 pub drop-take : {A : Type 0} (m n : ℕ) (l : List A) → drop m (take n l) ≡ take (n - m) (drop m l)
 drop-take zero n l = let e : n - 0 ≡ n = omega arith in rw e
@@ -238,3 +238,35 @@ row-between x m ks below above = row-none x ks (λ k l e. side k l e (ltb k m) r
     side : (k : ℕ) → k < length ks → getD ks k 0 ≡ x → (b : Bool) → ltb k m ≡ b → ⊥
     side k l e true t = omega (arith, below k (ltb-true k m t))
     side k l e false t = omega (arith, above k (ltb-false k m t) l)
+
+-- ---- a search by halves
+
+-- of `left` rows from `low` on: the keys before them are smaller than x, those behind them larger
+abbrev pub Among : List ℕ → ℕ → ℕ → ℕ → Type 0
+Among ks x low left =
+    (1 ≤ left) × ((low + left ≤ length ks) × (((k : ℕ) → k < low → getD ks k 0 < x) × ((k : ℕ) → low + left ≤ k → k < length ks → x < getD ks k 0)))
+
+module _ (ks : List ℕ) (up : ascending ks ≡ true) (x low left half : ℕ) (a : Among ks x low left) (h : half ≡ left / 2) (more : 1 < left) where
+  -- the upper half, where its first key is not above x
+  pub upper-half : getD ks (low + half) 0 ≤ x → Among ks x (low + half) (left - half)
+  upper-half e =
+      (omega arith, (omega (arith, a .1 .0), (λ k l. let p = ascending-places ks k (low + half) up l (omega (arith, a .1 .0)) in omega arith, λ k l m. a .1 .1 .1 k (omega arith) m)))
+
+  -- the lower half, where it is
+  pub lower-half : x < getD ks (low + half) 0 → Among ks x low (left - half)
+  lower-half e =
+      (omega arith, (omega (arith, a .1 .0), (a .1 .1 .0, λ k l m. ascending-from x ks (low + half) up e k (omega arith) m)))
+
+-- one row is left
+pub last-row : (ks : List ℕ) (up : ascending ks ≡ true) (x low left : ℕ) → Among ks x low left → left ≤ 1 → getD ks low 0 ≡ x → rowWith x ks ≡ At low
+last-row ks up x low left a l e = row-at x low ks up (omega (arith, a .0, a .1 .0)) e
+
+pub no-row : (ks : List ℕ) (x low left : ℕ) → Among ks x low left → left ≤ 1 → (getD ks low 0 ≡ x → ⊥) → rowWith x ks ≡ Nothing
+no-row ks x low left a l ne = row-none x ks (λ k m e. side k m e (ltb k low) refl (ltb low k) refl)
+  where
+    side : (k : ℕ) → k < length ks → getD ks k 0 ≡ x → (p : Bool) → ltb k low ≡ p → (q : Bool) → ltb low k ≡ q → ⊥
+    side k m e true t q u = omega (arith, a .1 .1 .0 k (ltb-true k low t))
+    side k m e false t true u = omega (arith, a .1 .1 .1 k (omega (arith, ltb-true low k u, l, a .0)) m)
+    side k m e false t false u =
+        let z : k ≡ low = omega (arith, ltb-false k low t, ltb-false low k u) in
+        ne (ap (λ i. getD ks i 0) (sym z) ∙ e)

@@ -79,24 +79,26 @@ pub enum Found {
     Nothing,
 }
 
-// The row of n rows of s words whose first word is id, by halves: the first words ascend.
+// The row of n rows of s words whose first word is id, by halves: the first words ascend. A turn has one test and no way out of the loop, so that
+// the processor need not guess where a search ends.
 pub fn find_row(rows: &[u64], s: usize, n: usize, id: u64) -> Found
     requires { ⌜ (0 < s) × ((n * s ≤ length (now rows)) × (ascending (keys s n (now rows)) ≡ true)) ⌝ }
     ensures { λ r. ⌜ r ≡ rowWith id (keys s n (now (rows .entry))) ⌝ }
 {
+    if n == 0 {
+        return Found::Nothing;
+    }
     let mut low = 0;
-    let mut high = n;
-    while low < high {
-        let middle = low + (high - low) / 2;
-        let key = rows[middle * s];
-        if key == id {
-            return Found::At(middle);
+    let mut left = n;
+    while 1 < left {
+        let half = left / 2;
+        if rows[(low + half) * s] <= id {
+            low += half;
         }
-        if key < id {
-            low = middle + 1;
-        } else {
-            high = middle;
-        }
+        left -= half;
+    }
+    if rows[low * s] == id {
+        return Found::At(low);
     }
     Found::Nothing
 }

@@ -18,50 +18,27 @@ use geometry::Point2;
 use lists::Found;
 use lists::both;
 use polyline::OptionPoint3;
-
-// Words of a row.
-const LANE_WORDS: usize = 52;
-
-const BOUNDARY_WORDS: usize = 5;
-
-const STOP_LINE_WORDS: usize = 4;
-
-const CROSSWALK_WORDS: usize = 7;
-
-const RULE_WORDS: usize = 330;
-
-// Places in a row: the columns of tables' view.
-const LANE_ID: usize = 0;
-
-const LANE_LEFT: usize = 2;
-
-const LANE_RIGHT: usize = 4;
-
-const LANE_CENTERLINE: usize = 6;
-
-const BOUNDARY_LINE: usize = 2;
-
-const STOP_LINE: usize = 1;
-
-const CROSSWALK_LEFT: usize = 1;
-
-const CROSSWALK_RIGHT: usize = 3;
-
-const RULE_KIND: usize = 1;
-
-const RULE_CROSSWALK: usize = 4;
-
-const RULE_STOP_LINES: usize = 135;
+use tables::BOUNDARY;
+use tables::BOUNDARY_START;
+use tables::CROSSWALK;
+use tables::CROSSWALK_LEFT_START;
+use tables::CROSSWALK_RIGHT_START;
+use tables::CROSSWALK_RULE;
+use tables::LANE;
+use tables::LANE_CENTERLINE;
+use tables::LANE_ID;
+use tables::LANE_LEFT;
+use tables::LANE_RIGHT;
+use tables::OTHER;
+use tables::POINT;
+use tables::RULE;
+use tables::RULE_CROSSWALK;
+use tables::RULE_KIND;
+use tables::RULE_STOP_LINES;
+use tables::STOP_LINE;
+use tables::STOP_LINE_START;
 
 const RULE_FIRST_STOP: usize = 136;
-
-// Kinds of rules.
-const CROSSWALK_RULE: u64 = 4;
-
-const OTHER: u64 = 5;
-
-// Floats in a point.
-const POINT: usize = 3;
 
 // Floats in the longest line, of 256 points.
 const LINE_FLOATS: usize = 768;
@@ -98,28 +75,28 @@ pub fn lane(lanes: &[u64], id: u64) -> Found
     requires { ⌜ K.sortedTable 1024 52 (now lanes) ≡ true ⌝ }
     ensures { λ r. ⌜ r ≡ K.placeOf 52 (now (lanes .entry)) id ⌝ }
 {
-    row_of(lanes, LANE_WORDS, id)
+    row_of(lanes, LANE, id)
 }
 
 pub fn boundary(boundaries: &[u64], id: u64) -> Found
     requires { ⌜ K.sortedTable 4096 5 (now boundaries) ≡ true ⌝ }
     ensures { λ r. ⌜ r ≡ K.placeOf 5 (now (boundaries .entry)) id ⌝ }
 {
-    row_of(boundaries, BOUNDARY_WORDS, id)
+    row_of(boundaries, BOUNDARY, id)
 }
 
 pub fn stop_line(stops: &[u64], id: u64) -> Found
     requires { ⌜ K.sortedTable 512 4 (now stops) ≡ true ⌝ }
     ensures { λ r. ⌜ r ≡ K.placeOf 4 (now (stops .entry)) id ⌝ }
 {
-    row_of(stops, STOP_LINE_WORDS, id)
+    row_of(stops, STOP_LINE, id)
 }
 
 pub fn crosswalk(crosswalks: &[u64], id: u64) -> Found
     requires { ⌜ K.sortedTable 128 7 (now crosswalks) ≡ true ⌝ }
     ensures { λ r. ⌜ r ≡ K.placeOf 7 (now (crosswalks .entry)) id ⌝ }
 {
-    row_of(crosswalks, CROSSWALK_WORDS, id)
+    row_of(crosswalks, CROSSWALK, id)
 }
 
 // ---- stored lines
@@ -143,11 +120,7 @@ pub fn boundary_line<'a>(boundaries: &[u64], j: usize, coordinates: &'a [f64]) -
     requires { ⌜ (K.sortedTable 4096 5 (now boundaries) ≡ true) × ((j < word 0 (now boundaries)) × (K.allStored 5 2 (now coordinates) (now boundaries) ≡ true)) ⌝ }
     ensures { λ r. ⌜ now r ≡ part (now (coordinates .entry)) (word 2 (K.rowAt 5 (now (boundaries .entry)) j)) (word 3 (K.rowAt 5 (now (boundaries .entry)) j)) ⌝ }
 {
-    line_of(
-        boundaries,
-        1 + j * BOUNDARY_WORDS + BOUNDARY_LINE,
-        coordinates,
-    )
+    line_of(boundaries, 1 + j * BOUNDARY + BOUNDARY_START, coordinates)
 }
 
 // ---- a boundary along a lane
@@ -166,7 +139,7 @@ pub fn boundary_ref(lanes: &[u64], i: usize, side: Side) -> BoundaryRef
     requires { ⌜ (K.sortedTable 1024 52 (now lanes) ≡ true) × (i < word 0 (now lanes)) ⌝ }
     ensures { λ r. ⌜ r ≡ refAt (K.sideWord side) (K.rowAt 52 (now (lanes .entry)) i) ⌝ }
 {
-    let at = 1 + i * LANE_WORDS + side_word(side);
+    let at = 1 + i * LANE + side_word(side);
     BoundaryRef {
         boundary: lanes[at],
         reversed: lanes[at + 1] != 0,
@@ -334,7 +307,7 @@ pub fn centerline(
     requires { ⌜ (K.Drawable (now lanes) (now boundaries) (now coordinates)) × ((i < word 0 (now lanes)) × (768 ≤ length (now out))) ⌝ }
     ensures { λ r. ⌜ (r ≡ K.countOf (K.centerLine (now (coordinates .entry)) (now (lanes .entry)) (now (boundaries .entry)) i)) × (now (out .exit) ≡ over (now (out .entry)) 0 (flat (K.pointsOf (K.centerLine (now (coordinates .entry)) (now (lanes .entry)) (now (boundaries .entry)) i)))) ⌝ }
 {
-    let at = 1 + i * LANE_WORDS + LANE_CENTERLINE;
+    let at = 1 + i * LANE + LANE_CENTERLINE;
     if lanes[at] == 0 {
         return derived(lanes, i, boundaries, coordinates, out);
     }
@@ -381,7 +354,7 @@ fn row_uses(lanes: &[u64], i: usize, boundary: u64) -> bool
     requires { ⌜ (K.sortedTable 1024 52 (now lanes) ≡ true) × (i < word 0 (now lanes)) ⌝ }
     ensures { λ r. ⌜ r ≡ K.rowUses boundary (K.rowAt 52 (now (lanes .entry)) i) ⌝ }
 {
-    let at = 1 + i * LANE_WORDS;
+    let at = 1 + i * LANE;
     either(
         lanes[at + LANE_LEFT] == boundary,
         lanes[at + LANE_RIGHT] == boundary,
@@ -393,7 +366,7 @@ fn row_uses_besides(lanes: &[u64], i: usize, boundary: u64, lane: u64) -> bool
     requires { ⌜ (K.sortedTable 1024 52 (now lanes) ≡ true) × (i < word 0 (now lanes)) ⌝ }
     ensures { λ r. ⌜ r ≡ K.usesBesides boundary lane (K.rowAt 52 (now (lanes .entry)) i) ⌝ }
 {
-    let at = 1 + i * LANE_WORDS + LANE_ID;
+    let at = 1 + i * LANE + LANE_ID;
     both(lanes[at] != lane, row_uses(lanes, i, boundary))
 }
 
@@ -463,7 +436,7 @@ fn stop_anchor(stops: &[u64], id: u64, coordinates: &[f64]) -> OptionPoint2
     let Found::At(j) = found else {
         return OptionPoint2::None;
     };
-    mid(line_of(stops, 1 + j * STOP_LINE_WORDS + STOP_LINE, coordinates))
+    mid(line_of(stops, 1 + j * STOP_LINE + STOP_LINE_START, coordinates))
 }
 
 fn crosswalk_anchor(crosswalks: &[u64], id: u64, coordinates: &[f64]) -> OptionPoint2
@@ -474,9 +447,9 @@ fn crosswalk_anchor(crosswalks: &[u64], id: u64, coordinates: &[f64]) -> OptionP
     let Found::At(j) = found else {
         return OptionPoint2::None;
     };
-    let at = 1 + j * CROSSWALK_WORDS;
-    let left = mid(line_of(crosswalks, at + CROSSWALK_LEFT, coordinates));
-    let right = mid(line_of(crosswalks, at + CROSSWALK_RIGHT, coordinates));
+    let at = 1 + j * CROSSWALK;
+    let left = mid(line_of(crosswalks, at + CROSSWALK_LEFT_START, coordinates));
+    let right = mid(line_of(crosswalks, at + CROSSWALK_RIGHT_START, coordinates));
     half_way(left, right)
 }
 
@@ -491,7 +464,7 @@ pub fn rule_anchor(
     requires { ⌜ (counted 512 330 (now rules) ≡ true) × ((i < word 0 (now rules)) × (K.Crossable (now stops) (now crosswalks) (now coordinates))) ⌝ }
     ensures { λ r. ⌜ r ≡ K.pointOf (rule-anchor (K.crossed (now (coordinates .entry)) (now (stops .entry)) (now (crosswalks .entry))) (ruleOf (K.rowAt 330 (now (rules .entry)) i))) ⌝ }
 {
-    let at = 1 + i * RULE_WORDS;
+    let at = 1 + i * RULE;
     let kind = rules[at + RULE_KIND];
     if both(kind != OTHER, rules[at + RULE_STOP_LINES] != 0) {
         return stop_anchor(stops, rules[at + RULE_FIRST_STOP], coordinates);

@@ -9,17 +9,11 @@ ghost use Rattle.tables.specs.View.{word, idsAt, rows};
 ghost use Rattle.map.specs.Returned as R;
 use lists::Found;
 use lists::both;
-
-// Words of a lane's row.
-const LANE: usize = 52;
-
-const LEFT_SLOT: usize = 14;
-
-const RIGHT_SLOT: usize = 16;
-
-const PREDECESSORS: usize = 18;
-
-const SUCCESSORS: usize = 35;
+use tables::LANE;
+use tables::LEFT_SLOT;
+use tables::PREDECESSORS;
+use tables::RIGHT_SLOT;
+use tables::SUCCESSORS;
 
 // Whether lane b is there, and its list at k has id.
 fn names_back(t: &[u64], k: usize, id: u64, b: u64) -> bool

@@ -13,6 +13,76 @@ ghost use Rattle.tables.specs.Formed.{counted, laneFormed, ruleFormed};
 ghost use Rattle.rules.specs.Sound.{hasContent, stopLinesFit};
 ghost use Rattle.map.specs.Good as G;
 use lists::both;
+use tables::BOUNDARY;
+use tables::BOUNDARY_ATTRIBUTES;
+use tables::BOUNDARY_ID;
+use tables::BOUNDARY_KIND;
+use tables::BOUNDARY_SIZE;
+use tables::BOUNDARY_START;
+use tables::CROSSWALK;
+use tables::CROSSWALK_ATTRIBUTES;
+use tables::CROSSWALK_ID;
+use tables::CROSSWALK_LEFT_SIZE;
+use tables::CROSSWALK_LEFT_START;
+use tables::CROSSWALK_OUTLINE;
+use tables::CROSSWALK_RIGHT_SIZE;
+use tables::CROSSWALK_RIGHT_START;
+use tables::CROSSWALK_RULE;
+use tables::FIRST_PREDECESSOR;
+use tables::FIRST_SUCCESSOR;
+use tables::JUNCTION;
+use tables::JUNCTION_ATTRIBUTES;
+use tables::JUNCTION_FIRST_LANE;
+use tables::JUNCTION_ID;
+use tables::JUNCTION_LANES;
+use tables::JUNCTION_NAME;
+use tables::JUNCTION_OUTLINE;
+use tables::LANE;
+use tables::LANE_ATTRIBUTES;
+use tables::LANE_CENTERLINE;
+use tables::LANE_CENTERLINE_SIZE;
+use tables::LANE_CENTERLINE_START;
+use tables::LANE_ID;
+use tables::LANE_KIND;
+use tables::LANE_LEFT;
+use tables::LANE_LEFT_REVERSED;
+use tables::LANE_ONE_WAY;
+use tables::LANE_RIGHT;
+use tables::LANE_RIGHT_REVERSED;
+use tables::LANE_SPEED;
+use tables::LANE_TURN;
+use tables::LEFT_LANE;
+use tables::LEFT_SLOT;
+use tables::OTHER;
+use tables::PREDECESSORS;
+use tables::RIGHT_LANE;
+use tables::RIGHT_OF_WAY;
+use tables::RIGHT_SLOT;
+use tables::ROAD;
+use tables::ROAD_ATTRIBUTES;
+use tables::ROAD_FIRST_LANE;
+use tables::ROAD_ID;
+use tables::ROAD_LANES;
+use tables::ROAD_NAME;
+use tables::RULE;
+use tables::RULE_ATTRIBUTES;
+use tables::RULE_CONTENT;
+use tables::RULE_CONTROLLED;
+use tables::RULE_CROSSWALK;
+use tables::RULE_ID;
+use tables::RULE_KIND;
+use tables::RULE_LANES;
+use tables::RULE_PRIORITY;
+use tables::RULE_STOP_LINES;
+use tables::RULE_YIELDING;
+use tables::STOP_LINE;
+use tables::STOP_LINE_ATTRIBUTES;
+use tables::STOP_LINE_ID;
+use tables::STOP_LINE_RULE;
+use tables::STOP_LINE_SIZE;
+use tables::STOP_LINE_START;
+use tables::SUCCESSORS;
+use tables::TRAFFIC_SIGN;
 
 // The largest coordinate.
 const REACH: f64 = 16777216.0;
@@ -37,149 +107,6 @@ const LINKS: u64 = 16;
 const BOUNDARY_KINDS: u64 = 13;
 
 const IDS: u64 = 64;
-
-// Kinds of rules.
-const TRAFFIC_SIGN: u64 = 1;
-
-const STOP_LINE_RULE: u64 = 2;
-
-const RIGHT_OF_WAY: u64 = 3;
-
-const CROSSWALK_RULE: u64 = 4;
-
-const OTHER: u64 = 5;
-
-// Words of a row.
-const LANE: usize = 52;
-
-const BOUNDARY: usize = 5;
-
-const ROAD: usize = 68;
-
-const JUNCTION: usize = 69;
-
-const RULE: usize = 330;
-
-const STOP_LINE: usize = 4;
-
-const CROSSWALK: usize = 7;
-
-// Places in a row: the columns of tables' view.
-const LANE_ID: usize = 0;
-
-const LANE_KIND: usize = 1;
-
-const LANE_LEFT: usize = 2;
-
-const LANE_LEFT_REVERSED: usize = 3;
-
-const LANE_RIGHT: usize = 4;
-
-const LANE_RIGHT_REVERSED: usize = 5;
-
-const LANE_CENTERLINE: usize = 6;
-
-const LANE_CENTERLINE_START: usize = 7;
-
-const LANE_CENTERLINE_SIZE: usize = 8;
-
-const LANE_SPEED: usize = 9;
-
-const LANE_ONE_WAY: usize = 11;
-
-const LANE_TURN: usize = 12;
-
-const LANE_ATTRIBUTES: usize = 13;
-
-const LANE_LEFT_SLOT: usize = 14;
-
-const LANE_LEFT_LANE: usize = 15;
-
-const LANE_RIGHT_SLOT: usize = 16;
-
-const LANE_RIGHT_LANE: usize = 17;
-
-const LANE_PREDECESSORS: usize = 18;
-
-const LANE_SUCCESSORS: usize = 35;
-
-const FIRST_PREDECESSOR: usize = 19;
-
-const FIRST_SUCCESSOR: usize = 36;
-
-const BOUNDARY_ID: usize = 0;
-
-const BOUNDARY_KIND: usize = 1;
-
-const BOUNDARY_START: usize = 2;
-
-const BOUNDARY_SIZE: usize = 3;
-
-const BOUNDARY_ATTRIBUTES: usize = 4;
-
-const ROAD_ID: usize = 0;
-
-const ROAD_NAME: usize = 1;
-
-const ROAD_ATTRIBUTES: usize = 2;
-
-const ROAD_LANES: usize = 3;
-
-const ROAD_FIRST_LANE: usize = 4;
-
-const JUNCTION_ID: usize = 0;
-
-const JUNCTION_NAME: usize = 1;
-
-const JUNCTION_OUTLINE: usize = 2;
-
-const JUNCTION_ATTRIBUTES: usize = 3;
-
-const JUNCTION_LANES: usize = 4;
-
-const JUNCTION_FIRST_LANE: usize = 5;
-
-const RULE_ID: usize = 0;
-
-const RULE_KIND: usize = 1;
-
-const RULE_CONTENT: usize = 2;
-
-const RULE_ATTRIBUTES: usize = 3;
-
-const RULE_CROSSWALK: usize = 4;
-
-const RULE_LANES: usize = 5;
-
-const RULE_CONTROLLED: usize = 70;
-
-const RULE_STOP_LINES: usize = 135;
-
-const RULE_PRIORITY: usize = 200;
-
-const RULE_YIELDING: usize = 265;
-
-const STOP_LINE_ID: usize = 0;
-
-const STOP_LINE_START: usize = 1;
-
-const STOP_LINE_SIZE: usize = 2;
-
-const STOP_LINE_ATTRIBUTES: usize = 3;
-
-const CROSSWALK_ID: usize = 0;
-
-const CROSSWALK_LEFT_START: usize = 1;
-
-const CROSSWALK_LEFT_SIZE: usize = 2;
-
-const CROSSWALK_RIGHT_START: usize = 3;
-
-const CROSSWALK_RIGHT_SIZE: usize = 4;
-
-const CROSSWALK_OUTLINE: usize = 5;
-
-const CROSSWALK_ATTRIBUTES: usize = 6;
 
 // ---- counts
 
@@ -285,12 +212,12 @@ fn lane_formed(w: &[u64]) -> bool
     both(
         both(
             both(
-                both(marks, w[LANE_LEFT_SLOT] <= SLOT_MARKS),
-                w[LANE_RIGHT_SLOT] <= SLOT_MARKS,
+                both(marks, w[LEFT_SLOT] <= SLOT_MARKS),
+                w[RIGHT_SLOT] <= SLOT_MARKS,
             ),
-            w[LANE_PREDECESSORS] <= LINKS,
+            w[PREDECESSORS] <= LINKS,
         ),
-        w[LANE_SUCCESSORS] <= LINKS,
+        w[SUCCESSORS] <= LINKS,
     )
 }
 
@@ -316,8 +243,8 @@ fn lane_numbers(w: &[u64], most: u64) -> bool
         w[LANE_RIGHT] <= most,
     );
     both(
-        both(ids, slot_good(w[LANE_LEFT_SLOT], w[LANE_LEFT_LANE], most)),
-        slot_good(w[LANE_RIGHT_SLOT], w[LANE_RIGHT_LANE], most),
+        both(ids, slot_good(w[LEFT_SLOT], w[LEFT_LANE], most)),
+        slot_good(w[RIGHT_SLOT], w[RIGHT_LANE], most),
     )
 }
 
@@ -332,8 +259,8 @@ pub fn lane_good(w: &[u64], most: u64, coordinates: &[f64]) -> bool
     ensures { λ r. ⌜ r ≡ G.laneGood most (now (coordinates .entry)) (now (w .entry)) ⌝ }
 {
     if both(lane_formed(w), lane_numbers(w, most)) {
-        let before = FIRST_PREDECESSOR + w[LANE_PREDECESSORS] as usize;
-        let after = FIRST_SUCCESSOR + w[LANE_SUCCESSORS] as usize;
+        let before = FIRST_PREDECESSOR + w[PREDECESSORS] as usize;
+        let after = FIRST_SUCCESSOR + w[SUCCESSORS] as usize;
         if both(
             links_good(&w[FIRST_PREDECESSOR..before], most),
             links_good(&w[FIRST_SUCCESSOR..after], most),

@@ -5,35 +5,20 @@ ghost use Prim.Native.Nat.{_≤_, _<_};
 ghost use Rattle.tables.specs.Formed.{counted, soundTables};
 ghost use Rattle.soundness.specs.Parts as P;
 use lists::both;
-
-// A table's most rows, and the words of a row: document 01, "The map", and tables' view.
-const LANES: u64 = 1024;
-
-const LANE: usize = 52;
-
-const BOUNDARIES: u64 = 4096;
-
-const BOUNDARY: usize = 5;
-
-const ROADS: u64 = 256;
-
-const ROAD: usize = 68;
-
-const JUNCTIONS: u64 = 256;
-
-const JUNCTION: usize = 69;
-
-const RULES: u64 = 512;
-
-const RULE: usize = 330;
-
-const STOP_LINES: u64 = 512;
-
-const STOP_LINE: usize = 4;
-
-const CROSSWALKS: u64 = 128;
-
-const CROSSWALK: usize = 7;
+use tables::BOUNDARIES;
+use tables::BOUNDARY;
+use tables::CROSSWALK;
+use tables::CROSSWALKS;
+use tables::JUNCTION;
+use tables::JUNCTIONS;
+use tables::LANE;
+use tables::LANES;
+use tables::ROAD;
+use tables::ROADS;
+use tables::RULE;
+use tables::RULES;
+use tables::STOP_LINE;
+use tables::STOP_LINES;
 
 // Every table holds its count of rows.
 fn all_counted(

@@ -21,27 +21,17 @@ use entities::OptionNeighbor;
 use entities::Side;
 use entities::reciprocal_side;
 use lists::Found;
-
-// Words of a lane's row.
-const LANE: usize = 52;
-
-const LEFT_SLOT: usize = 14;
-
-const RIGHT_SLOT: usize = 16;
-
-const PREDECESSORS: usize = 18;
-
-const SUCCESSORS: usize = 35;
+use tables::LANE;
+use tables::LEFT_SLOT;
+use tables::NONE;
+use tables::OPPOSITE;
+use tables::PREDECESSORS;
+use tables::RIGHT_SLOT;
+use tables::SAME;
+use tables::SUCCESSORS;
 
 // The slots of a list of links.
 const LINKS: usize = 16;
-
-// Marks of a slot.
-const NONE: u64 = 0;
-
-const SAME: u64 = 1;
-
-const OPPOSITE: u64 = 2;
 
 // An id put in its place in the list at k of row i.
 fn insert_sorted(lanes: &mut [u64], i: usize, k: usize, id: u64)

@@ -1,0 +1,46 @@
+-- `exports::answers::tell` meets its contract: the counts, or the entity and two zeros. Assumes nothing.
+use borrow.Author.Needs.{needs}
+use Rattle.exports.proofs.answers.tell.Statement.{statement}
+use Rattle.exports.proofs.answers.tell.Tie as tie
+use Rattle.exports.proofs.Calls.{refusal-put}
+
+enum-known-answer : tie.Need-enum-known-answer
+enum-known-answer c = search needs
+
+put-requires : tie.Need-put-requires
+put-requires c κs = search needs
+
+enum-known-answer-2 : tie.Need-enum-known-answer-2
+enum-known-answer-2 c = search needs
+
+entity-of-requires : tie.Need-entity-of-requires
+entity-of-requires c κs = search needs
+
+put-requires-2 : tie.Need-put-requires-2
+put-requires-2 c κs = search needs
+
+same-length : tie.Need-same-length
+same-length c = search needs
+
+returns : tie.Need-returns
+returns c = rw (c .before .before .before .before .before .answer .given .1) (c .before .before .put .ensures)
+
+same-length-2 : tie.Need-same-length-2
+same-length-2 c = search needs
+
+returns-2 : tie.Need-returns-2
+returns-2 c = rw (c .before .before .before .before .before .before .answer2 .given .1) (refusal-put (c .before .before .before .before .before .before .before .before .before .args .out .now) _ (c .before .before .before .before .before .before .answer2 .given .0 .0) _ _ (c .before .before .put2 .ensures) (c .before .before .before .before .entity-of .ensures))
+
+pub tell-spec : {M : Type 1} → statement M
+tell-spec =
+    tie.close
+    (tie.spec
+    enum-known-answer
+    put-requires
+    enum-known-answer-2
+    entity-of-requires
+    put-requires-2
+    same-length
+    returns
+    same-length-2
+    returns-2)
