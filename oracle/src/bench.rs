@@ -12,19 +12,25 @@ use crate::tables::*;
 
 const TURNS: usize = 201;
 
-/// The median over fresh copies of the map, in microseconds.
-fn median(mut run: impl FnMut() -> Duration) -> f64 {
-    let mut times: Vec<Duration> = (0..TURNS).map(|_| run()).collect();
-    times.sort();
-    times[TURNS / 2].as_nanos() as f64 / 1000.0
+/// Medians in microseconds. What is compared is timed turn by turn, so that other work on the machine meets all of it.
+fn medians<const N: usize>(turn: impl FnMut(usize) -> [Duration; N]) -> [f64; N] {
+    let turns: Vec<[Duration; N]> = (0..TURNS).map(turn).collect();
+    std::array::from_fn(|k| {
+        let mut times: Vec<Duration> = turns.iter().map(|t| t[k]).collect();
+        times.sort();
+        times[TURNS / 2].as_nanos() as f64 / 1000.0
+    })
 }
 
-/// The editor's library on the same map, if the edit is there.
-fn library(m: &Map, call: &Call) -> Option<f64> {
+fn timed<T>(run: impl FnOnce() -> T) -> (Duration, T) {
+    let start = Instant::now();
+    let made = run();
+    (start.elapsed(), made)
+}
+
+/// The editor's library on the same map, if the edit is there; each turn on a copy that is not timed.
+fn library(m: &Map, call: Call) -> Option<impl FnMut() -> Duration> {
     let mut editor = crate::ffi::library()?;
-    if !editor.has(call.command()) {
-        return None;
-    }
     let room = Room {
         created: 100,
         modified: 200,
@@ -32,61 +38,59 @@ fn library(m: &Map, call: &Call) -> Option<f64> {
         warnings: 100,
     };
     let state = State::new(crate::cases::plain(m, 40, 400), m.peek_next_id());
-    Some(median(|| {
+    editor.has(call.command()).then_some(move || {
         let mut lent = crate::against::lend(&state, &room);
-        let start = Instant::now();
-        let made = black_box(&mut *editor).call(call, black_box(&mut lent));
-        let took = start.elapsed();
+        let (took, made) = timed(|| black_box(&mut *editor).call(&call, black_box(&mut lent)));
         assert_eq!(made.number, 0, "{call:?}");
         took
-    }))
+    })
+}
+
+/// The test of soundness on the Rust's own map.
+fn tested(m: &Map) -> Duration {
+    let (took, sound) = timed(|| sound::map_sound(black_box(m), m.peek_next_id()));
+    assert!(sound);
+    took
+}
+
+/// The editor's test of soundness on lent tables, if the library is there.
+fn tested_by_editor(t: &Tables, counter: u64) -> Option<Duration> {
+    let (took, sound) = timed(|| crate::ffi::sound(black_box(t), counter));
+    assert!(sound?);
+    Some(took)
 }
 
 /// The edit alone, and the edit after a test of soundness, each on a copy that is not timed; the editor beside the second, and which part
 /// of its time its own test of soundness takes.
 fn time(name: &str, m: &Map, call: Call) {
-    let counter = m.peek_next_id();
     let once = |test: bool| {
         let mut copy = m.clone();
-        let start = Instant::now();
-        if test {
-            assert!(sound::map_sound(black_box(&copy), counter));
-        }
-        let made = edit(black_box(&mut copy), &call);
-        let took = start.elapsed();
+        let (took, made) = timed(|| {
+            if test {
+                assert!(sound::map_sound(black_box(&copy), m.peek_next_id()));
+            }
+            edit(black_box(&mut copy), &call)
+        });
         assert!(made.is_ok(), "{name}");
         took
     };
-    let (alone, tested) = (median(|| once(false)), median(|| once(true)));
-    let editor = match (library(m, &call), tested_by_editor(m)) {
-        (Some(t), Some(test)) => {
-            format!("{t:>12.1}{:>8.2}{:>8.0} %", t / tested, 100.0 * test / t)
-        }
-        _ => format!("{:>12}", "not there"),
-    };
-    println!("{name:34}{alone:>10.1}{tested:>14.1}{editor}");
-}
-
-/// The test of soundness on the Rust's own map.
-fn tested(m: &Map) -> f64 {
-    let counter = m.peek_next_id();
-    median(|| {
-        let start = Instant::now();
-        assert!(sound::map_sound(black_box(m), counter));
-        start.elapsed()
-    })
-}
-
-/// The editor's test of soundness on lent tables, if the library is there.
-fn tested_by_editor(m: &Map) -> Option<f64> {
+    let mut editor = library(m, call);
     let tables = crate::cases::plain(m, 40, 400);
-    let counter = m.peek_next_id();
-    crate::ffi::sound(&tables, counter)?;
-    Some(median(|| {
-        let start = Instant::now();
-        assert_eq!(crate::ffi::sound(black_box(&tables), counter), Some(true));
-        start.elapsed()
-    }))
+    let [alone, first, whole, test] = medians(|_| {
+        let whole = editor.as_mut().map_or(Duration::ZERO, |run| run());
+        let lent = tables.clone();
+        let test = tested_by_editor(&lent, m.peek_next_id()).unwrap_or_default();
+        [once(false), once(true), whole, test]
+    });
+    let editor = match editor {
+        Some(_) => format!(
+            "{whole:>12.1}{:>8.2}{:>8.0} %",
+            whole / first,
+            100.0 * test / whole
+        ),
+        None => format!("{:>12}", "not there"),
+    };
+    println!("{name:34}{alone:>10.1}{first:>14.1}{editor}");
 }
 
 /// 1,024 lanes, 4,096 boundaries, 65,536 points, 256 roads, 256 junctions and 512 rules: the limits of document 01.
@@ -147,29 +151,22 @@ pub fn run() -> bool {
         ("with rules", &furnished),
         ("full", &full),
     ] {
-        let rust = tested(m);
         let tables = crate::cases::plain(m, 40, 400);
         let counter = m.peek_next_id();
-        let lent = median(|| {
-            let start = Instant::now();
-            assert!(sound::fault(black_box(&tables), counter).is_none());
-            start.elapsed()
+        let [rust, lent, editor] = medians(|_| {
+            let (lent, fault) = timed(|| sound::fault(black_box(&tables), counter));
+            assert!(fault.is_none());
+            let editor = tested_by_editor(&tables, counter).unwrap_or_default();
+            [tested(m), lent, editor]
         });
-        let editor = match tested_by_editor(m) {
-            Some(t) => format!("{t:.1}, ratio to the first {:.2}", t / rust),
-            None => "not there".into(),
-        };
         println!(
-            "{name}: the Rust's map {rust:.1}, the lent tables by the oracle {lent:.1}, by the editor {editor}; {:?} rows, {} points",
+            "{name}: the Rust's map {rust:.1}, the lent tables by the oracle {lent:.1}, by the editor {editor:.1}, ratio to the first {:.2}; {:?} rows, {} points",
+            editor / rust,
             counts(m),
             lines(m).iter().map(|l| l.len()).sum::<usize>()
         );
     }
-    let c = median(|| {
-        let start = Instant::now();
-        black_box(black_box(&plain).clone());
-        start.elapsed()
-    });
+    let [c] = medians(|_| [timed(|| black_box(black_box(&plain).clone())).0]);
     println!("a clone of the Rust's map: {c:.1}");
     true
 }
