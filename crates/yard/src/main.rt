@@ -9,6 +9,7 @@ mod ground;
 mod output;
 
 use edits::Edit;
+use edits::Link;
 
 // The next id.
 const COUNTER: u64 = 200;
@@ -34,11 +35,11 @@ fn plain(edit: Edit) -> Call {
 }
 
 fn connect(from: u64, to: u64) -> Call {
-    plain(Edit::Connect(from, to))
+    plain(Edit::Relink(Link::Connect, from, to))
 }
 
 fn disconnect(from: u64, to: u64) -> Call {
-    plain(Edit::Disconnect(from, to))
+    plain(Edit::Relink(Link::Disconnect, from, to))
 }
 
 fn set_neighbor(lane: u64, side: Side, neighbor: OptionNeighbor) -> Call {
@@ -71,12 +72,12 @@ fn listed(i: usize) -> Call {
         10 => set_neighbor(1, Side::Right, same(1)),
         11 => set_neighbor(1, Side::Right, same(9)),
         12 => Call {
-            edit: Edit::Connect(2, 1),
+            edit: Edit::Relink(Link::Connect, 2, 1),
             counter: COUNTER,
             room: 0,
         },
         _ => Call {
-            edit: Edit::Connect(2, 1),
+            edit: Edit::Relink(Link::Connect, 2, 1),
             counter: TOO_LOW,
             room: ROOM,
         },
