@@ -1,10 +1,11 @@
 -- Laws of rows in lent memory, over any elements. Assumes nothing.
 use mathlib.Core.Path.{_≡_, refl, sym, ap, _∙_}
 use Prim.Native.Nat.{ℕ, zero, suc, _+_, _-_, _*_, _/_, _≤_, _<_}
-use native.Mathlib.Nat.{le-of-suc-le-suc, not-suc-le-zero, zero-mul, add-zero, mul-le-mul-right}
+use native.Mathlib.Nat.{le-of-suc-le-suc, not-suc-le-zero, zero-mul, add-zero, mul-le-mul-right, eq-or-lt-of-le}
 use native.Mathlib.Numerals.{add-one}
 use native.Mathlib.Omega.{arith}
-use mathlib.Core.Bool.{Bool, true, false}
+use mathlib.Core.Bool.{Bool, true, false, cond}
+use mathlib.Core.Logic.{_⊎_, inl, inr, ⊎-elim}
 use mathlib.Core.List.{List, [], _∷_, _++_, append-assoc}
 use lib.ListN.{length, getD, set, take, drop, length-append, length-drop, take-append-drop, List·getD-append}
 use lib.Seq.{drop-drop, take-take, take-nil, take-add, length-take-le, take-at, drop-at, sets-eq}
@@ -13,7 +14,7 @@ use lib.Dec.{ltb}
 use borrow.Author.Tests.{eq-eqb, ne-eqb, ltb-true, ltb-false}
 use Rattle.lists.specs.declared.Found.the-variants.{At, Nothing}
 use Rattle.lists.specs.Select.{ascending}
-use Rattle.lists.specs.Rows.{reads, over, keys, rowWith}
+use Rattle.lists.specs.Rows.{reads, over, keys, rowWith, Among}
 use Rattle.lists.proofs.Select.{ascending-places, ascending-from}
 
 pub drop-take : {A : Type 0} (m n : ℕ) (l : List A) → drop m (take n l) ≡ take (n - m) (drop m l)
@@ -241,11 +242,6 @@ row-between x m ks below above = row-none x ks (λ k l e. side k l e (ltb k m) r
 
 -- ---- a search by halves
 
--- of `left` rows from `low` on: the keys before them are smaller than x, those behind them larger
-abbrev pub Among : List ℕ → ℕ → ℕ → ℕ → Type 0
-Among ks x low left =
-    (1 ≤ left) × ((low + left ≤ length ks) × (((k : ℕ) → k < low → getD ks k 0 < x) × ((k : ℕ) → low + left ≤ k → k < length ks → x < getD ks k 0)))
-
 module _ (ks : List ℕ) (up : ascending ks ≡ true) (x low left half : ℕ) (a : Among ks x low left) (h : half ≡ left / 2) (more : 1 < left) where
   -- the upper half, where its first key is not above x
   pub upper-half : getD ks (low + half) 0 ≤ x → Among ks x (low + half) (left - half)
@@ -270,3 +266,32 @@ no-row ks x low left a l ne = row-none x ks (λ k m e. side k m e (ltb k low) re
     side k m e false t false u =
         let z : k ≡ low = omega (arith, ltb-false k low t, ltb-false low k u) in
         ne (ap (λ i. getD ks i 0) (sym z) ∙ e)
+
+-- ---- a search from a row near by
+
+-- ascending keys differ at least as much as their rows
+pub keys-apart : (ks : List ℕ) (i j : ℕ) → ascending ks ≡ true → i ≤ j → j < length ks → getD ks i 0 + (j - i) ≤ getD ks j 0
+keys-apart ks i zero up g h = let e : i ≡ 0 = omega arith in rw e (omega arith)
+keys-apart ks i (suc j) up g h = ⊎-elim (λ e. rw e (omega arith)) (λ l. further (keys-apart ks i j up (omega arith) (omega arith))) (eq-or-lt-of-le g)
+  where
+    further : getD ks i 0 + (j - i) ≤ getD ks j 0 → getD ks i 0 + (suc j - i) ≤ getD ks (suc j) 0
+    further p = let q = ascending-places ks j (suc j) up (omega arith) h in omega arith
+
+module _ (ks : List ℕ) (up : ascending ks ≡ true) (x near d : ℕ) where
+  -- ahead of a row: as many rows as x is larger, or all
+  pub among-ahead : getD ks near 0 ≤ x → near + d < length ks → ((d ≡ x - getD ks near 0) ⊎ (near + d + 1 ≡ length ks)) → Among ks x near (d + 1)
+  among-ahead h m w =
+      (omega arith, (omega arith, (λ k l. let p = ascending-places ks k near up l (omega arith) in omega arith, λ k l g. ⊎-elim (λ e. let p = keys-apart ks near k up (omega arith) g in omega arith) (λ e. omega arith) w)))
+
+  -- and behind it
+  pub among-back : x < getD ks near 0 → d ≤ near → near < length ks → ((d ≡ getD ks near 0 - x) ⊎ (d ≡ near)) → Among ks x (near - d) (d + 1)
+  among-back h m n w =
+      (omega arith, (omega arith, (λ k l. ⊎-elim (λ e. let p = keys-apart ks k near up (omega arith) n in omega arith) (λ e. omega arith) w, λ k l g. let p = ascending-places ks near k up (omega arith) g in omega arith)))
+
+-- the smaller of two numbers
+pub least-of : (a b d : ℕ) → d ≡ cond (ltb a b) a b → (d ≤ a) × ((d ≤ b) × ((d ≡ a) ⊎ (d ≡ b)))
+least-of a b d e = side (ltb a b) refl (rw e)
+  where
+    side : (t : Bool) → ltb a b ≡ t → d ≡ cond t a b → (d ≤ a) × ((d ≤ b) × ((d ≡ a) ⊎ (d ≡ b)))
+    side true t e = let l = ltb-true a b t in (omega arith, (omega arith, inl e))
+    side false t e = let l = ltb-false a b t in (omega arith, (omega arith, inr e))

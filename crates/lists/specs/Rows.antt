@@ -1,5 +1,5 @@
 -- Rows of a fixed length in lent memory: read into records, and written back.
-use Prim.Native.Nat.{ℕ, zero, suc, _+_}
+use Prim.Native.Nat.{ℕ, zero, suc, _+_, _≤_, _<_}
 use mathlib.Core.List.{List, [], _∷_, _++_}
 use mathlib.Core.Bool.{cond}
 use lib.Dec.{eqb}
@@ -28,3 +28,8 @@ later Nothing = Nothing
 unfoldable pub rowWith : ℕ → List ℕ → Found
 rowWith i [] = Nothing
 rowWith i (k ∷ ks) = let rest = rowWith i ks in cond (eqb k i) (At 0) (later rest)
+
+-- Where a search still looks, `left` rows from row `low` on: the keys before them are smaller than x, those behind them larger.
+abbrev pub Among : List ℕ → ℕ → ℕ → ℕ → Type 0
+Among ks x low left =
+    (1 ≤ left) × ((low + left ≤ length ks) × (((k : ℕ) → k < low → getD ks k 0 < x) × ((k : ℕ) → low + left ≤ k → k < length ks → x < getD ks k 0)))

@@ -1,4 +1,4 @@
-// Links and neighbours that name a lane back: a search for each.
+// Links and neighbours that name a lane back: a search for each, from the lane's own row.
 ghost use mathlib.Core.Path.{_≡_};
 ghost use mathlib.Core.Bool.{true, _&&_};
 ghost use mathlib.Core.Logic.{_⊎_};
@@ -15,13 +15,13 @@ use tables::PREDECESSORS;
 use tables::RIGHT_SLOT;
 use tables::SUCCESSORS;
 
-// Whether lane b is there, and its list at k has id.
-fn names_back(t: &[u64], k: usize, id: u64, b: u64) -> bool
-    requires { ⌜ (R.searchable (now t) ≡ true) × ((k ≡ 18) ⊎ (k ≡ 35)) ⌝ }
+// Whether lane b is there, and its list at k has id; row `near` is where the search begins.
+fn names_back(t: &[u64], k: usize, id: u64, b: u64, near: usize) -> bool
+    requires { ⌜ (R.searchable (now t) ≡ true) × (((k ≡ 18) ⊎ (k ≡ 35)) × (near < word 0 (now t))) ⌝ }
     ensures { λ r. ⌜ r ≡ R.namesBack (now (t .entry)) k id b ⌝ }
 {
     let n = t[0] as usize;
-    let found = lists::find_row(&t[1..], LANE, n, b);
+    let found = lists::find_near(&t[1..], LANE, n, b, near);
     let Found::At(j) = found else {
         return false;
     };
@@ -32,13 +32,13 @@ fn names_back(t: &[u64], k: usize, id: u64, b: u64) -> bool
 }
 
 // Whether every lane of a list is there and names id back, in its list at k.
-fn all_name_back(t: &[u64], k: usize, id: u64, ids: &[u64]) -> bool
-    requires { ⌜ (R.searchable (now t) ≡ true) × ((k ≡ 18) ⊎ (k ≡ 35)) ⌝ }
+fn all_name_back(t: &[u64], k: usize, id: u64, ids: &[u64], near: usize) -> bool
+    requires { ⌜ (R.searchable (now t) ≡ true) × (((k ≡ 18) ⊎ (k ≡ 35)) × (near < word 0 (now t))) ⌝ }
     ensures { λ r. ⌜ r ≡ all (R.namesBack (now (t .entry)) k id) (now (ids .entry)) ⌝ }
 {
     let mut i = 0;
     while i < ids.len() {
-        if names_back(t, k, id, ids[i]) {
+        if names_back(t, k, id, ids[i], near) {
             i += 1;
         } else {
             return false;
@@ -56,10 +56,10 @@ fn lane_returned(t: &[u64], i: usize) -> bool
     let id = t[at];
     let after = at + SUCCESSORS + 1;
     let after_end = after + t[at + SUCCESSORS] as usize;
-    if all_name_back(t, PREDECESSORS, id, &t[after..after_end]) {
+    if all_name_back(t, PREDECESSORS, id, &t[after..after_end], i) {
         let before = at + PREDECESSORS + 1;
         let before_end = before + t[at + PREDECESSORS] as usize;
-        return all_name_back(t, SUCCESSORS, id, &t[before..before_end]);
+        return all_name_back(t, SUCCESSORS, id, &t[before..before_end], i);
     }
     false
 }
@@ -105,7 +105,7 @@ fn slot_returned(t: &[u64], k: usize, i: usize) -> bool
         return true;
     }
     let n = t[0] as usize;
-    let found = lists::find_row(&t[1..], LANE, n, t[at + k + 1]);
+    let found = lists::find_near(&t[1..], LANE, n, t[at + k + 1], i);
     let Found::At(j) = found else {
         return false;
     };

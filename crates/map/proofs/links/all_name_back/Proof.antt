@@ -10,10 +10,10 @@ use Rattle.map.proofs.links.all_name_back.Statement.{statement}
 use Rattle.map.proofs.links.all_name_back.Tie as tie
 
 abbrev Inv-loop : tie.InvT-loop
-Inv-loop t k id ids i₀ i = (i ≤ length ids) × (all (namesBack t k id) ids ≡ all (namesBack t k id) (drop i ids))
+Inv-loop t k id ids near i₀ i = (i ≤ length ids) × (all (namesBack t k id) ids ≡ all (namesBack t k id) (drop i ids))
 
 abbrev μ-loop : tie.MeasureT-loop
-μ-loop t k id ids i₀ i = length ids - i
+μ-loop t k id ids near i₀ i = length ids - i
 
 loop-holds : tie.Need-loop-holds Inv-loop μ-loop
 loop-holds c = (omega arith, refl)

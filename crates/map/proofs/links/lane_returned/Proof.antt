@@ -68,7 +68,7 @@ part-all-name-back-end : tie.Need-part-all-name-back-end
 part-all-name-back-end c = omega (arith, room (c .before .before .before), before (c .before .before .before), after (c .before .before .before))
 
 all-name-back-requires : tie.Need-all-name-back-requires
-all-name-back-requires c κs = (c .before .before .before .before .pre .0, inl refl)
+all-name-back-requires c κs = (c .before .before .before .before .pre .0, (inl refl, c .before .before .before .before .pre .1))
 
 add-before : tie.Need-add-before
 add-before c = omega (arith, room (c .before .before .before .before .before .before), before (c .before .before .before .before .before .before), after (c .before .before .before .before .before .before))
@@ -101,7 +101,7 @@ part-all-name-back-end-2 : tie.Need-part-all-name-back-end-2
 part-all-name-back-end-2 c = omega (arith, room (c .before .before .before .before .before .before .before), before (c .before .before .before .before .before .before .before), after (c .before .before .before .before .before .before .before))
 
 all-name-back-requires-2 : tie.Need-all-name-back-requires-2
-all-name-back-requires-2 c κs = (c .before .before .before .before .before .before .before .before .pre .0, inr refl)
+all-name-back-requires-2 c κs = (c .before .before .before .before .before .before .before .before .pre .0, (inr refl, c .before .before .before .before .before .before .before .before .pre .1))
 
 returns : tie.Need-returns
 unfolding laneReturned

@@ -14,7 +14,7 @@ use Rattle.map.proofs.links.names_back.Tie as tie
 
 -- the row that is found is one of the rows, and its list lies in it
 at : (c : tie.After-found) → rowWith (c .before .before .before .before .before .before .args .b) (keys 52 (word 0 (c .before .before .before .before .before .before .args .t .now)) (drop 1 (c .before .before .before .before .before .before .args .t .now))) ≡ At (c .found .given .0 .0)
-at c = search-gives (c .before .before .before .before .before .before .args .t .now) (c .before .before .before .before .before .before .pre .0) (c .before .before .before .before .before .before .args .b) (c .before .before .find-row .result) (c .before .before .find-row .ensures) ∙ c .found .given .1
+at c = search-gives (c .before .before .before .before .before .before .args .t .now) (c .before .before .before .before .before .before .pre .0) (c .before .before .before .before .before .before .args .b) (c .before .before .find-near .result) (c .before .before .find-near .ensures) ∙ c .found .given .1
 
 row : (c : tie.After-found) → c .found .given .0 .0 < word 0 (c .before .before .before .before .before .before .args .t .now)
 row c = lane-found (c .before .before .before .before .before .before .args .t .now) (c .before .before .before .before .before .before .pre .0) (c .before .before .before .before .before .before .args .b) (c .found .given .0 .0) (at c)
@@ -23,22 +23,24 @@ room : (c : tie.After-found) → 1 + c .found .given .0 .0 * 52 + 52 ≤ length 
 room c = lane-room (c .before .before .before .before .before .before .args .t .now) (c .before .before .before .before .before .before .pre .0) (c .found .given .0 .0) (row c)
 
 within : (c : tie.After-found) → c .before .before .before .before .before .before .args .k + 1 + getD (c .before .before .before .before .before .before .args .t .now) (1 + c .found .given .0 .0 * 52 + c .before .before .before .before .before .before .args .k) 0 ≤ 52
-within c = links-within (c .before .before .before .before .before .before .args .t .now) (c .before .before .before .before .before .before .pre .0) (c .found .given .0 .0) (row c) (c .before .before .before .before .before .before .args .k) (c .before .before .before .before .before .before .pre .1)
+within c = links-within (c .before .before .before .before .before .before .args .t .now) (c .before .before .before .before .before .before .pre .0) (c .found .given .0 .0) (row c) (c .before .before .before .before .before .before .args .k) (c .before .before .before .before .before .before .pre .1 .0)
 
 shared-slice-read-n : tie.Need-shared-slice-read-n
 shared-slice-read-n c = omega (arith, lanes-some (c .before .before .args .t .now) (c .before .before .pre .0))
 
-sub-find-row : tie.Need-sub-find-row
-sub-find-row c = omega (arith, lanes-some (c .before .before .args .t .now) (c .before .before .pre .0))
+sub-find-near : tie.Need-sub-find-near
+sub-find-near c = omega (arith, lanes-some (c .before .before .args .t .now) (c .before .before .pre .0))
 
-part-find-row-start : tie.Need-part-find-row-start
-part-find-row-start c = omega (arith, lanes-some (c .before .before .args .t .now) (c .before .before .pre .0))
+part-find-near-start : tie.Need-part-find-near-start
+part-find-near-start c = omega (arith, lanes-some (c .before .before .args .t .now) (c .before .before .pre .0))
 
-part-find-row-end : tie.Need-part-find-row-end
-part-find-row-end c = search needs
+part-find-near-end : tie.Need-part-find-near-end
+part-find-near-end c = search needs
 
-find-row-requires : tie.Need-find-row-requires
-find-row-requires c κs = search-may (c .before .before .before .args .t .now) (c .before .before .before .pre .0)
+find-near-requires : tie.Need-find-near-requires
+find-near-requires c κs =
+    let m = search-may (c .before .before .before .args .t .now) (c .before .before .before .pre .0) in
+    (m .0, (m .1 .0, (m .1 .1, c .before .before .before .pre .1 .1)))
 
 enum-known-found : tie.Need-enum-known-found
 enum-known-found c = search needs
@@ -48,7 +50,7 @@ enum-told c = search needs
 
 returns : tie.Need-returns
 unfolding rowTest
-returns c = rw (search-gives (c .before .before .before .before .before .before .args .t .now) (c .before .before .before .before .before .before .pre .0) (c .before .before .before .before .before .before .args .b) (c .before .before .find-row .result) (c .before .before .find-row .ensures), c .enum-told .given .1)
+returns c = rw (search-gives (c .before .before .before .before .before .before .args .t .now) (c .before .before .before .before .before .before .pre .0) (c .before .before .before .before .before .before .args .b) (c .before .before .find-near .result) (c .before .before .find-near .ensures), c .enum-told .given .1)
 
 mul-at : tie.Need-mul-at
 mul-at c = omega (arith, room (c .before))
@@ -95,10 +97,10 @@ names-back-spec =
     tie.close
     (tie.spec
     shared-slice-read-n
-    sub-find-row
-    part-find-row-start
-    part-find-row-end
-    find-row-requires
+    sub-find-near
+    part-find-near-start
+    part-find-near-end
+    find-near-requires
     enum-known-found
     enum-told
     returns

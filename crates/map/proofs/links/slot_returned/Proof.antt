@@ -20,7 +20,7 @@ slot c = slot-within (c .args .k) (c .pre .1 .0)
 
 -- the row that is found is one of the rows, and the answering slot lies in it
 at : (c : tie.After-found) → rowWith (getD (c .before .before .before .before .before .before .before .before .before .args .t .now) (1 + c .before .before .before .before .before .before .before .before .before .args .i * 52 + c .before .before .before .before .before .before .before .before .before .args .k + 1) 0) (keys 52 (word 0 (c .before .before .before .before .before .before .before .before .before .args .t .now)) (drop 1 (c .before .before .before .before .before .before .before .before .before .args .t .now))) ≡ At (c .found .given .0 .0)
-at c = search-gives (c .before .before .before .before .before .before .before .before .before .args .t .now) (c .before .before .before .before .before .before .before .before .before .pre .0) (getD (c .before .before .before .before .before .before .before .before .before .args .t .now) (1 + c .before .before .before .before .before .before .before .before .before .args .i * 52 + c .before .before .before .before .before .before .before .before .before .args .k + 1) 0) (c .before .before .find-row .result) (c .before .before .find-row .ensures) ∙ c .found .given .1
+at c = search-gives (c .before .before .before .before .before .before .before .before .before .args .t .now) (c .before .before .before .before .before .before .before .before .before .pre .0) (getD (c .before .before .before .before .before .before .before .before .before .args .t .now) (1 + c .before .before .before .before .before .before .before .before .before .args .i * 52 + c .before .before .before .before .before .before .before .before .before .args .k + 1) 0) (c .before .before .find-near .result) (c .before .before .find-near .ensures) ∙ c .found .given .1
 
 there : (c : tie.After-found) → 1 + (c .found .given .0 .0) * 52 + 52 ≤ length (c .before .before .before .before .before .before .before .before .before .args .t .now)
 there c = lane-room (c .before .before .before .before .before .before .before .before .before .args .t .now) (c .before .before .before .before .before .before .before .before .before .pre .0) (c .found .given .0 .0) (lane-found (c .before .before .before .before .before .before .before .before .before .args .t .now) (c .before .before .before .before .before .before .before .before .before .pre .0) (getD (c .before .before .before .before .before .before .before .before .before .args .t .now) (1 + c .before .before .before .before .before .before .before .before .before .args .i * 52 + c .before .before .before .before .before .before .before .before .before .args .k + 1) 0) (c .found .given .0 .0) (at c))
@@ -49,29 +49,31 @@ returns c = slot-none (c .before .before .before .args .t .now) (c .before .befo
 shared-slice-read-n : tie.Need-shared-slice-read-n
 shared-slice-read-n c = omega (arith, lanes-some (c .before .before .before .before .args .t .now) (c .before .before .before .before .pre .0))
 
-sub-find-row : tie.Need-sub-find-row
-sub-find-row c = omega (arith, lanes-some (c .before .before .before .before .args .t .now) (c .before .before .before .before .pre .0))
+sub-find-near : tie.Need-sub-find-near
+sub-find-near c = omega (arith, lanes-some (c .before .before .before .before .args .t .now) (c .before .before .before .before .pre .0))
 
-part-find-row-start : tie.Need-part-find-row-start
-part-find-row-start c = omega (arith, lanes-some (c .before .before .before .before .args .t .now) (c .before .before .before .before .pre .0))
+part-find-near-start : tie.Need-part-find-near-start
+part-find-near-start c = omega (arith, lanes-some (c .before .before .before .before .args .t .now) (c .before .before .before .before .pre .0))
 
-part-find-row-end : tie.Need-part-find-row-end
-part-find-row-end c = search needs
+part-find-near-end : tie.Need-part-find-near-end
+part-find-near-end c = search needs
 
-add-find-row : tie.Need-add-find-row
-add-find-row c = omega (arith, room (c .before .before .before .before .before), slot (c .before .before .before .before .before))
+add-find-near : tie.Need-add-find-near
+add-find-near c = omega (arith, room (c .before .before .before .before .before), slot (c .before .before .before .before .before))
 
-add-find-row-2 : tie.Need-add-find-row-2
-add-find-row-2 c = omega (arith, room (c .before .before .before .before .before), slot (c .before .before .before .before .before))
+add-find-near-2 : tie.Need-add-find-near-2
+add-find-near-2 c = omega (arith, room (c .before .before .before .before .before), slot (c .before .before .before .before .before))
 
-mul-find-row : tie.Need-mul-find-row
-mul-find-row c = omega (arith, room (c .before .before .before .before .before), slot (c .before .before .before .before .before))
+mul-find-near : tie.Need-mul-find-near
+mul-find-near c = omega (arith, room (c .before .before .before .before .before), slot (c .before .before .before .before .before))
 
-shared-slice-read-find-row : tie.Need-shared-slice-read-find-row
-shared-slice-read-find-row c = omega (arith, room (c .before .before .before .before .before .before), slot (c .before .before .before .before .before .before))
+shared-slice-read-find-near : tie.Need-shared-slice-read-find-near
+shared-slice-read-find-near c = omega (arith, room (c .before .before .before .before .before .before), slot (c .before .before .before .before .before .before))
 
-find-row-requires : tie.Need-find-row-requires
-find-row-requires c κs = search-may (c .before .before .before .before .before .before .args .t .now) (c .before .before .before .before .before .before .pre .0)
+find-near-requires : tie.Need-find-near-requires
+find-near-requires c κs =
+    let m = search-may (c .before .before .before .before .before .before .args .t .now) (c .before .before .before .before .before .before .pre .0) in
+    (m .0, (m .1 .0, (m .1 .1, c .before .before .before .before .before .before .pre .1 .1)))
 
 enum-known-found : tie.Need-enum-known-found
 enum-known-found c = search needs
@@ -80,7 +82,7 @@ enum-told : tie.Need-enum-told
 enum-told c = search needs
 
 returns-2 : tie.Need-returns-2
-returns-2 c = slot-absent (c .before .before .before .before .before .before .before .before .before .args .t .now) (c .before .before .before .before .before .before .before .before .before .args .i) (c .before .before .before .before .before .before .before .before .before .args .k) (slot (c .before .before .before .before .before .before .before .before .before)) (c .before .before .before .before .before .before .if1 .left) (search-gives (c .before .before .before .before .before .before .before .before .before .args .t .now) (c .before .before .before .before .before .before .before .before .before .pre .0) (getD (c .before .before .before .before .before .before .before .before .before .args .t .now) (1 + c .before .before .before .before .before .before .before .before .before .args .i * 52 + c .before .before .before .before .before .before .before .before .before .args .k + 1) 0) (c .before .before .find-row .result) (c .before .before .find-row .ensures) ∙ c .enum-told .given .1)
+returns-2 c = slot-absent (c .before .before .before .before .before .before .before .before .before .args .t .now) (c .before .before .before .before .before .before .before .before .before .args .i) (c .before .before .before .before .before .before .before .before .before .args .k) (slot (c .before .before .before .before .before .before .before .before .before)) (c .before .before .before .before .before .before .if1 .left) (search-gives (c .before .before .before .before .before .before .before .before .before .args .t .now) (c .before .before .before .before .before .before .before .before .before .pre .0) (getD (c .before .before .before .before .before .before .before .before .before .args .t .now) (1 + c .before .before .before .before .before .before .before .before .before .args .i * 52 + c .before .before .before .before .before .before .before .before .before .args .k + 1) 0) (c .before .before .find-near .result) (c .before .before .find-near .ensures) ∙ c .enum-told .given .1)
 
 mul-answer : tie.Need-mul-answer
 mul-answer c = omega (arith, there (c .before))
@@ -132,14 +134,14 @@ slot-returned-spec =
     shared-slice-read-mark
     returns
     shared-slice-read-n
-    sub-find-row
-    part-find-row-start
-    part-find-row-end
-    add-find-row
-    add-find-row-2
-    mul-find-row
-    shared-slice-read-find-row
-    find-row-requires
+    sub-find-near
+    part-find-near-start
+    part-find-near-end
+    add-find-near
+    add-find-near-2
+    mul-find-near
+    shared-slice-read-find-near
+    find-near-requires
     enum-known-found
     enum-told
     returns-2
