@@ -5,7 +5,7 @@ use std::time::{Duration, Instant};
 
 use vectormap_core::*;
 
-use crate::generate::{furnish, grid};
+use crate::generate::{furnish, grid, grid_by};
 use crate::sound;
 use crate::step::{Call, Room, State, edit};
 use crate::tables::*;
@@ -145,9 +145,12 @@ pub fn run() -> bool {
     time("split_lane, ten, with rules", &furnished, split(true));
 
     let full = full();
+    // Lanes in no order, with gaps between their ids: the worst for a search that begins near by.
+    let scattered = grid_by(100, 10, 8, |place| 1 + 7 * (place as u64 * 389 % 1000) + place as u64 % 7);
     println!("the test of soundness");
     for (name, m) in [
         ("plain", &plain),
+        ("scattered ids", &scattered),
         ("with rules", &furnished),
         ("full", &full),
     ] {

@@ -1110,11 +1110,16 @@ fn call(rng: &mut Rng, state: &State) -> Call {
 
 // ---- large maps --------------------------------------------------------------------------------
 
-/// Rows of lanes side by side, each row linked to the next: `along` rows of `across`, `points` a line.
+/// Rows of lanes side by side, each row linked to the next: `along` rows of `across`, `points` a line; the ids follow one another.
 pub fn grid(along: usize, across: usize, points: usize) -> Map {
+    grid_by(along, across, points, |place| 1 + place as u64)
+}
+
+/// The same with other ids, all of them different.
+pub fn grid_by(along: usize, across: usize, points: usize, id: impl Fn(usize) -> u64) -> Map {
     let mut m = Map::new();
     let boundary = |r: usize, j: usize| BoundaryId((10_000 + r * (across + 1) + j) as u64);
-    let lane = |r: usize, j: usize| LaneId((1 + r * across + j) as u64);
+    let lane = |r: usize, j: usize| LaneId(id(r * across + j));
     for r in 0..along {
         for j in 0..=across {
             let line = (0..points)

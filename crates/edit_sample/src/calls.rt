@@ -149,8 +149,8 @@ fn named(mark: u64, lane: u64) -> OptionNeighbor {
     OptionNeighbor::Some(Neighbor::same(lane))
 }
 
-// Makes a call of command 1, 2 or 3.
-fn make(
+// Makes a call of command 1 or 2.
+fn relink(
     call: Call,
     counter: u64,
     lengths: &[u64],
@@ -164,21 +164,6 @@ fn make(
 ) -> Answer {
     let a = call.first;
     let b = call.second;
-    if call.command == CONNECT {
-        return edits::connect(
-            counter,
-            lengths,
-            lanes,
-            others,
-            coordinates,
-            a,
-            b,
-            created,
-            modified,
-            deleted,
-            warnings,
-        );
-    }
     if call.command == DISCONNECT {
         return edits::disconnect(
             counter,
@@ -194,15 +179,57 @@ fn make(
             warnings,
         );
     }
-    edits::set_neighbor(
+    edits::connect(
         counter,
         lengths,
         lanes,
         others,
         coordinates,
         a,
-        side_of(call.side),
-        named(call.mark, b),
+        b,
+        created,
+        modified,
+        deleted,
+        warnings,
+    )
+}
+
+// Makes a call of command 1, 2 or 3.
+fn make(
+    call: Call,
+    counter: u64,
+    lengths: &[u64],
+    lanes: &mut [u64],
+    others: &[u64],
+    coordinates: &[f64],
+    created: &[u64],
+    modified: &mut [u64],
+    deleted: &[u64],
+    warnings: &mut [u64],
+) -> Answer {
+    if call.command == SET_NEIGHBOR {
+        return edits::set_neighbor(
+            counter,
+            lengths,
+            lanes,
+            others,
+            coordinates,
+            call.first,
+            side_of(call.side),
+            named(call.mark, call.second),
+            created,
+            modified,
+            deleted,
+            warnings,
+        );
+    }
+    relink(
+        call,
+        counter,
+        lengths,
+        lanes,
+        others,
+        coordinates,
         created,
         modified,
         deleted,

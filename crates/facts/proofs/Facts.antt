@@ -27,7 +27,7 @@ use Rattle.tables.specs.Formed.{spanAt, centerSpan, stored, spans, formed, soun
 use Rattle.map.specs.Good.{allRows}
 use Rattle.map.specs.Returned.{searchable, laneAt, laneReturned, rowTest, onRow, namesBack}
 use Rattle.map.proofs.Relations.{any-lane, links-tie}
-use Rattle.soundness.proofs.Back.{and7, FormedParts, formed-parts}
+use Rattle.soundness.proofs.Back.{and7, five-of, FormedParts, formed-parts}
 use Rattle.soundness.proofs.Pointwise.{line-length}
 use Rattle.soundness.proofs.Rows.{all-rows, rows-and}
 use Rattle.soundness.proofs.Whole.{ids-keys, all-lines, all-stored}
@@ -37,13 +37,6 @@ use Rattle.lookup.proofs.Good.{rows-weaker, table-sorted}
 use Rattle.topology.specs.Topology.{idAt, linksAt, slotHeld}
 use Rattle.facts.proofs.Stored.{formed-counts}
 use Rattle.facts.proofs.Room.{limits}
-
-five-of : (a b c d e : Bool) → (a && (b && (c && (d && e)))) ≡ true → (a ≡ true) × (b ≡ true) × (c ≡ true) × (d ≡ true) × (e ≡ true)
-five-of a b c d e h =
-    let i = and-snd a (b && (c && (d && e))) h in
-    let j = and-snd b (c && (d && e)) i in
-    let k = and-snd c (d && e) j in
-    (and-fst a (b && (c && (d && e))) h, and-fst b (c && (d && e)) i, and-fst c (d && e) j, and-fst d e k, and-snd d e k)
 
 -- ---- keys
 

@@ -26,6 +26,8 @@ use Rattle.map.specs.Good.{allRows}
 use Rattle.map.proofs.Tables.{table-some}
 use Rattle.soundness.proofs.Back.{formed-parts}
 use Rattle.soundness.proofs.Rows.{all-rows, rows-and}
+use Rattle.soundness.proofs.Words.{reads-true}
+use Rattle.lists.proofs.Rows.{mapped-reads}
 use Rattle.store.specs.Store.{laneOnto, store, present}
 use Rattle.store.specs.Rows.{mapRows, onRows}
 use Rattle.store.proofs.Rows.{passing, rows-read, rows-length}
@@ -52,16 +54,6 @@ module _ (c : List Float) (w : List ℕ) (l : Lane) (e : l .centerline ≡ laneO
   span-kept : centerSpan (laneOnto w l) ≡ centerSpan w
   unfolding laneOnto laneOf
   span-kept = ap (λ b. cond b (spanAt 7 w ∷ []) []) (mark-kept (l .centerline) (mark 6 w) (lineAt c 7 w) e)
-
-mapped-reads : {A B : Type 0} (s : ℕ) (dec : List ℕ → A) (f : A → B) (n : ℕ) (w : List ℕ) → map f (reads s dec n w) ≡ reads s (λ r. f (dec r)) n w
-unfolding reads
-mapped-reads s dec f zero w = refl
-mapped-reads s dec f (suc n) w = ap (λ z. f (dec (take s w)) ∷ z) (mapped-reads s dec f n (drop s w))
-
-all-true : (s n : ℕ) (w : List ℕ) → all (λ b. b) (reads s (λ r. true) n w) ≡ true
-unfolding reads all
-all-true s zero w = refl
-all-true s (suc n) w = all-true s n (drop s w)
 
 -- ---- the tables
 
@@ -147,7 +139,7 @@ module _ (t : Tables) (h : formed t ≡ true) (f : Lane → Lane) (same : (l : L
 
   formed-kept : allRows 52 laneFormed table ≡ true
   unfolding allRows
-  formed-kept = ap (all (λ b. b)) (read-back laneFormed (λ w. true) row-formed) ∙ (unfold rows in all-true 52 n v)
+  formed-kept = ap (all (λ b. b)) (read-back laneFormed (λ w. true) row-formed) ∙ (unfold rows in reads-true 52 n v)
 
   spans-kept : spans (withLaneTable table t) ≡ spans t
   unfolding spans
@@ -188,7 +180,7 @@ module _ (t : Tables) (h : formed t ≡ true) (f : Lane → Lane) (same : (l : L
   formed-mapped = ap formed (store-mapped t h f same) ∙ formed-table
 
 -- a sound map's lists of links fit
-links-few : (counter : ℕ) (m : Map) (f : Lane → Lane) → sound counter (withLanes (map f (m .lanes)) m) ≡ true → all (λ l. fewLinks (f l)) (m .lanes) ≡ true
+pub links-few : (counter : ℕ) (m : Map) (f : Lane → Lane) → sound counter (withLanes (map f (m .lanes)) m) ≡ true → all (λ l. fewLinks (f l)) (m .lanes) ≡ true
 links-few counter m f h =
     sym (all-map fewLinks f (m .lanes)) ∙ limits (withLanes (map f (m .lanes)) m) (sound-facts counter (withLanes (map f (m .lanes)) m) h .limits) .links
 

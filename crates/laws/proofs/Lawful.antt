@@ -32,10 +32,10 @@ use Rattle.laws.proofs.Law.{Law, Lawful, AllLawful, demand-3}
 
 -- ---- what a yielding step yields
 
-yields : {A : Type 0} {x y : A} → yield x ≡ yield y → x ≡ y
+pub yields : {A : Type 0} {x y : A} → yield x ≡ yield y → x ≡ y
 yields e = cc
 
-no-yield : {A : Type 0} (r : Refusal) (y : A) → refuse r ≡ yield y → ⊥
+pub no-yield : {A : Type 0} (r : Refusal) (y : A) → refuse r ≡ yield y → ⊥
 no-yield r y e = let z : _≡_ {A = ℕ} 0 1 = cc in nothing z
   where
     nothing : _≡_ {A = ℕ} 0 1 → ⊥

@@ -6,7 +6,7 @@ use native.Mathlib.Numerals.{add-one}
 use native.Mathlib.Omega.{arith}
 use mathlib.Core.Bool.{Bool, true, false, cond}
 use mathlib.Core.Logic.{_⊎_, inl, inr, ⊎-elim}
-use mathlib.Core.List.{List, [], _∷_, _++_, append-assoc}
+use mathlib.Core.List.{List, [], _∷_, _++_, map, append-assoc}
 use lib.ListN.{length, getD, set, take, drop, length-append, length-drop, take-append-drop, List·getD-append}
 use lib.Seq.{drop-drop, take-take, take-nil, take-add, length-take-le, take-at, drop-at, sets-eq}
 use lib.Seq.{getD-take, getD-drop, take-suc, drop-cons, append-snoc, set-at}
@@ -63,6 +63,12 @@ module _ {A B : Type 0} (s : ℕ) (dec : List A → B) where
       let l : s ≤ n = omega arith in
       let m : k * s ≤ n - s = omega arith in
       rw (take-take s n w l, drop-take s n w, reads-take k (n - s) (drop s w) m)
+
+-- what is read of what is read
+pub mapped-reads : {A B C : Type 0} (s : ℕ) (f : List A → B) (g : B → C) (n : ℕ) (w : List A) → map g (reads s f n w) ≡ reads s (λ r. g (f r)) n w
+unfolding reads
+mapped-reads s f g zero w = refl
+mapped-reads s f g (suc n) w = ap (λ z. g (f (take s w)) ∷ z) (mapped-reads s f g n (drop s w))
 
 -- ---- writing
 
@@ -134,6 +140,13 @@ module _ {A : Type 0} where
   over-front w a l h =
       let e : a + length l ≡ 0 + length (take a w ++ l) = rw (length-append, length-take-le a w h) (omega arith) in
       rw (e, append-assoc)
+
+  -- what is there, written again
+  pub over-itself : (w : List A) (n : ℕ) → n ≤ length w → over w 0 (take n w) ≡ w
+  unfolding over
+  over-itself w n h =
+      let e : 0 + n ≡ n = omega arith in
+      rw (length-take-le n w h, e, take-append-drop)
 
   -- what is read before the written list, and behind it
   pub getD-over-before : (w : List A) (a : ℕ) (l : List A) (k : ℕ) (d : A) → k < a → a ≤ length w → getD (over w a l) k d ≡ getD w k d

@@ -13,16 +13,14 @@ use lib.Seq.{drop-cons}
 use borrow.Author.Tests.{leb-true}
 use Rattle.lists.specs.Every.{all}
 use Rattle.lists.proofs.Booleans.{and-fst, and-snd}
-use Rattle.lists.proofs.Select.{all-map}
 use Rattle.entities.specs.Records.{Lane, Map, Issue, ChangeSet}
 use Rattle.rules.specs.Names.{Tolerance, Side, Neighbor, EntityRef, Refusal, OwnPartner}
 use Rattle.rules.specs.Map.{neighborOn}
 use Rattle.rules.specs.Sound.{sound}
 use Rattle.rules.specs.Edit.{Res, refuse, yield, _>>=_, check, Edited, require-lane, require-neighbor, relinking, withLanes, linkIn, linkOut, reslotted, slotAfter, slotIn, sameSlot, connect, disconnect, set-neighbor}
 use Rattle.rules.specs.Ops as O
-use Rattle.rules.proofs.Facts.{sound-facts}
 use Rattle.laws.proofs.Law.{Lawful, step-kept}
-use Rattle.laws.proofs.Lawful.{Relinks, connect-lawful, disconnect-lawful, set-neighbor-lawful}
+use Rattle.laws.proofs.Lawful.{yields, no-yield, Relinks, connect-lawful, disconnect-lawful, set-neighbor-lawful}
 use Rattle.tables.specs.View.{Tables, word, rows, view, laneOf}
 use Rattle.tables.specs.Formed.{formed, soundTables}
 use Rattle.map.specs.Good.{allRows}
@@ -33,8 +31,7 @@ use Rattle.store.specs.Rows.{onRows}
 use Rattle.store.proofs.Rows.{passing, rows-length}
 use Rattle.store.proofs.Back.{lane-length}
 use Rattle.facts.proofs.Stored.{formed-counts, rows-room, store-mapped}
-use Rattle.facts.proofs.Room.{limits}
-use Rattle.facts.proofs.Kept.{fewLinks, view-mapped, kept-mapped}
+use Rattle.facts.proofs.Kept.{fewLinks, links-few, view-mapped, kept-mapped}
 use Rattle.store.specs.Store.{roomOf}
 use Rattle.edit.specs.Step.{Lent, callOf, stateOf, changing, step}
 use Rattle.edit.proofs.Steps.{sound-map, sound-formed}
@@ -49,17 +46,6 @@ record Lanewise (m : Map) (e : Edited) : Type 0 where
   same-line : (l : Lane) → change l .centerline ≡ l .centerline
   result-is : e .result ≡ withLanes (map change (m .lanes)) m
   no-ids : e .ids ≡ 0
-
--- ---- results of edits
-
-no-yield : {A : Type 0} (r : Refusal) (y : A) → refuse r ≡ yield y → ⊥
-no-yield r y e = let z : _≡_ {A = ℕ} 0 1 = cc in nothing z
-  where
-    nothing : _≡_ {A = ℕ} 0 1 → ⊥
-    nothing z = omega arith
-
-yields : {A : Type 0} {x y : A} → yield x ≡ yield y → x ≡ y
-yields e = cc
 
 -- ---- the lane table's length
 
@@ -100,18 +86,18 @@ module _ (counter : ℕ) (t : Tables) (s : soundTables counter t ≡ true) (f : 
   abbrev after : Map
   after = withLanes (map f (view t .lanes)) (view t)
 
-  links-few : all (λ l. fewLinks (f l)) (view t .lanes) ≡ true
-  links-few = sym (all-map fewLinks f (view t .lanes)) ∙ limits after (sound-facts counter after sane .limits) .links
+  fits : all (λ l. fewLinks (f l)) (view t .lanes) ≡ true
+  fits = links-few counter (view t) f sane
 
   lengths-kept : lengthsOf (store t after) ≡ lengthsOf t
   lengths-kept =
       let fm = sound-formed counter t s in
       ap lengthsOf (store-mapped t fm f same)
       ∙ ap (λ n. n ∷ length (t .boundaries) ∷ length (t .roads) ∷ length (t .junctions) ∷ length (t .rules) ∷ length (t .stop-lines) ∷ length (t .crosswalks) ∷ length (t .coordinates) ∷ [])
-      (lanes-length t fm f links-few)
+      (lanes-length t fm f fits)
 
   view-kept : view (store t after) ≡ after
-  view-kept = view-mapped t (sound-formed counter t s) f same line links-few
+  view-kept = view-mapped t (sound-formed counter t s) f same line fits
 
 module _ (tol : Tolerance) (c : O.Command) (law : Lawful tol c) (relanes : Relanes tol c) (l : Lent) (s : soundTables (l .counter) (l .tables) ≡ true)
     (cs : ChangeSet) (second : Option ℕ) (a : outcome tol c l .answer ≡ O.accepted cs second) where

@@ -1,6 +1,6 @@
 -- Lanes named and listed: one turn of each. Assumes nothing.
 use mathlib.Core.Path.{_≡_, refl, sym, ap, _∙_}
-use mathlib.Core.Bool.{true, false}
+use mathlib.Core.Bool.{Bool, true, false}
 use mathlib.Core.List.{List, [], _∷_, _++_, map-append, append-assoc}
 use Prim.Native.Nat.{ℕ, suc, _+_, _*_, _≤_, _<_}
 use native.Mathlib.Numerals.{add-one}
@@ -9,7 +9,7 @@ use lib.ListN.{length, getD, set, take, length-append}
 use lib.Seq.{length-take-le, take-suc}
 use Rattle.lists.specs.Rows.{over}
 use Rattle.lists.specs.Select.{each, has, place, ascending}
-use Rattle.lists.proofs.Rows.{take-over, store-behind}
+use Rattle.lists.proofs.Rows.{take-over, over-itself, store-behind}
 use Rattle.lists.proofs.Place.{place-present, length-place}
 use Rattle.lists.proofs.Select.{each-append}
 use Rattle.entities.specs.Types.{kindNumber}
@@ -22,16 +22,36 @@ module _ (w : List ℕ) (n id : ℕ) (h : n < length w) where
   count : length (take n w) ≡ n
   count = let j : n ≤ length w = omega arith in length-take-le n w j
 
-  pub named-old : ascending (take n w) ≡ true → has id (take n w) ≡ true → (take n w ≡ place id (take n w)) × (n ≡ length (place id (take n w)))
-  named-old up t = let e = place-present id (take n w) up t in (sym e, sym (ap length e ∙ count))
+  pub named-old : ascending (take n w) ≡ true → has id (take n w) ≡ true → (w ≡ over w 0 (place id (take n w))) × (n ≡ length (place id (take n w)))
+  named-old up t =
+      let e = place-present id (take n w) up t in
+      let j : n ≤ length w = omega arith in
+      (sym (ap (over w 0) e ∙ over-itself w n j), sym (ap length e ∙ count))
 
-  pub named-new : (v : List ℕ) → has id (take n w) ≡ false → v ≡ over w 0 (place id (take n w)) → (take (n + 1) v ≡ place id (take n w)) × (n + 1 ≡ length (place id (take n w)))
-  named-new v t e =
-      let ids = place id (take n w) in
-      let l : length ids ≡ n + 1 = length-place id (take n w) t ∙ rw count in
-      let z : 0 + length ids ≡ n + 1 = omega arith in
-      let k : 0 + length ids ≤ length w = omega arith in
-      (ap (take (n + 1)) e ∙ rw z at (take-over w 0 ids k), sym l)
+  longer : has id (take n w) ≡ false → length (place id (take n w)) ≡ n + 1
+  longer t = length-place id (take n w) t ∙ rw count
+
+  pub named-new : (v : List ℕ) → has id (take n w) ≡ false → v ≡ over w 0 (place id (take n w)) → (v ≡ over w 0 (place id (take n w))) × (n + 1 ≡ length (place id (take n w)))
+  named-new v t e = (e, sym (longer t))
+
+  -- the ids that are named stand in front
+  pub named-front : (v : List ℕ) (r : ℕ) → ascending (take n w) ≡ true → (v ≡ over w 0 (place id (take n w))) × (r ≡ length (place id (take n w)))
+      → (take r v ≡ place id (take n w)) × (r ≡ length (place id (take n w)))
+  named-front v r up (e, q) = (ap (λ k. take k v) q ∙ (ap (take (length ids)) e ∙ front-over), q)
+    where
+      ids : List ℕ
+      ids = place id (take n w)
+
+      few : (b : Bool) → has id (take n w) ≡ b → length ids ≤ length w
+      few true t = let l = ap length (place-present id (take n w) up t) ∙ count in omega arith
+      few false t = let l = longer t in omega arith
+
+      front-over : take (length ids) (over w 0 ids) ≡ ids
+      front-over =
+          let z : 0 + length ids ≡ length ids = omega arith in
+          let k = few (has id (take n w)) refl in
+          let h : 0 + length ids ≤ length w = omega arith in
+          rw z at (take-over w 0 ids h)
 
 -- ---- listing lanes
 

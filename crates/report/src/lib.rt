@@ -69,7 +69,7 @@ impl Answer {
 // An id put in its place among the first n, unless it is there; how many there are then.
 pub fn named(ids: &mut [u64], n: usize, id: u64) -> usize
     requires { ⌜ (n < length (now ids)) × (ascending (take n (now ids)) ≡ true) ⌝ }
-    ensures { λ r. ⌜ (take r (now (ids .exit)) ≡ place id (take n (now (ids .entry)))) × (r ≡ length (place id (take n (now (ids .entry))))) ⌝ }
+    ensures { λ r. ⌜ (now (ids .exit) ≡ over (now (ids .entry)) 0 (place id (take n (now (ids .entry))))) × (r ≡ length (place id (take n (now (ids .entry))))) ⌝ }
 {
     if lists::contains(&ids[..n], id) {
         return n;

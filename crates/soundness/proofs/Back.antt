@@ -33,7 +33,7 @@ and7 a b c d e f g h =
     let (p, q, r, s, t) = and5 a b c d e j in
     (p, q, r, s, t, and-snd (a && b && c && d && e) f i, and-snd (a && b && c && d && e && f) g h)
 
-five-of : (a b c d e : Bool) → (a && (b && (c && (d && e)))) ≡ true → (a ≡ true) × (b ≡ true) × (c ≡ true) × (d ≡ true) × (e ≡ true)
+pub five-of : (a b c d e : Bool) → (a && (b && (c && (d && e)))) ≡ true → (a ≡ true) × (b ≡ true) × (c ≡ true) × (d ≡ true) × (e ≡ true)
 five-of a b c d e h =
     let i = and-snd a (b && (c && (d && e))) h in
     let j = and-snd b (c && (d && e)) i in

@@ -23,7 +23,7 @@ use Rattle.soundness.proofs.Whole.{all-names}
 
 -- ---- rows
 
-reads-true : (s k : ℕ) (w : List ℕ) → all (λ b. b) (reads s (λ r. true) k w) ≡ true
+pub reads-true : (s k : ℕ) (w : List ℕ) → all (λ b. b) (reads s (λ r. true) k w) ≡ true
 unfolding all reads
 reads-true s zero w = refl
 reads-true s (suc k) w = reads-true s k (drop s w)

@@ -20,7 +20,7 @@ use Rattle.rules.specs.Edit.{relinked}
 use Rattle.tables.specs.View.{word, mark, idsAt, slotAt, optionAt, optionLineAt, lineAt, laneOf}
 use Rattle.tables.specs.Formed.{laneFormed}
 use Rattle.store.specs.Rows.{slotWords, setSlot, setList}
-use Rattle.lists.proofs.Rows.{take-front, over-in}
+use Rattle.lists.proofs.Rows.{take-front, over-in, over-itself}
 use Rattle.store.proofs.Marks.{LaneMarks}
 use Rattle.store.specs.Store.{laneOnto, flag, present, numberOr, directionMark, slotMark, slotLane, idsOnto}
 
@@ -47,13 +47,6 @@ list-written a b c ids x k e h =
     let i : 0 + suc (length ids) ≤ suc (length b) = omega arith in
     over-at a (x ∷ b ++ c) (length ids ∷ ids) k e
     ∙ ap (λ z. a ++ z) (over-in (x ∷ b) c 0 (length ids ∷ ids) i ∙ ap (λ z. z ++ c) (over-cons x (length ids) b ids))
-
--- what is there, written again
-over-front-same : (b : List ℕ) (n : ℕ) → n ≤ length b → over b 0 (take n b) ≡ b
-unfolding over
-over-front-same b n h =
-    let z : 0 + n ≡ n = omega arith in
-    rw (length-take-le n b h, z, take-append-drop)
 
 -- ---- marks
 
@@ -203,13 +196,13 @@ module _ (x0 x1 x2 x3 x4 x5 x6 x7 x8 x9 x10 x11 x12 x13 a b d e n m : ℕ) (ps s
     plain-before =
         let h : length (take n ps) ≤ length ps = rw (length-take-le n ps few-before) few-before in
         ap (λ z. setList 18 z row) own-ids
-        ∙ (list-written (with a b d e []) ps (m ∷ ss) (take n ps) n 18 refl h ∙ rw (length-take-le n ps few-before, over-front-same ps n few-before))
+        ∙ (list-written (with a b d e []) ps (m ∷ ss) (take n ps) n 18 refl h ∙ rw (length-take-le n ps few-before, over-itself ps n few-before))
 
     plain-after : setList 35 (idsAt 35 row) row ≡ row
     plain-after =
         let h : length (take m ss) ≤ 16 = rw (length-take-le m ss few-after, ← ls) few-after in
         let e : idsAt 35 row ≡ take m ss = rw (word-m, drop-ss) in
-        ap (λ z. setList 35 z row) e ∙ (set-after (take m ss) h ∙ rw (length-take-le m ss few-after, over-front-same ss m few-after))
+        ap (λ z. setList 35 z row) e ∙ (set-after (take m ss) h ∙ rw (length-take-le m ss few-after, over-itself ss m few-after))
 
     plain-before-kept : (rs : List ℕ) → length rs ≤ 16 → idsAt 18 (setList 35 rs row) ≡ idsAt 18 row
     plain-before-kept rs k = ap (idsAt 18) (set-after rs k) ∙ (take-front n ps (idsOnto ss rs) few-before ∙ sym own-ids)

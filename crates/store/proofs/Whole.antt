@@ -14,7 +14,7 @@ use Rattle.lists.specs.Rows.{reads, over}
 use Rattle.lists.specs.Select.{keep, each, has}
 use Rattle.lists.specs.Every.{all}
 use Rattle.lists.proofs.Booleans.{and-fst, and-snd, and-both}
-use Rattle.lists.proofs.Rows.{length-reads}
+use Rattle.lists.proofs.Rows.{length-reads, mapped-reads, over-itself}
 use Rattle.lists.proofs.Select.{keep-all, all-weaken}
 use Rattle.tables.specs.View.{word, rows}
 use Rattle.store.specs.Store.{writes, packed, storeRows}
@@ -30,12 +30,6 @@ joined-rows s (suc n) w =
     let e : s + n * s ≡ suc n * s = omega arith in
     rw (joined-rows s n (drop s w), ← take-add s (n * s) w, e)
 
-over-itself : (w : List ℕ) (m : ℕ) → m ≤ length w → over w 0 (take m w) ≡ w
-unfolding over
-over-itself w m h =
-    let e : 0 + m ≡ m = omega arith in
-    rw (length-take-le m w h, e, take-append-drop)
-
 -- every element's key is among the keys
 all-keyed : {A : Type 0} (h : A → ℕ) (xs : List A) → all (λ x. has (h x) (map h xs)) xs ≡ true
 unfolding all has
@@ -47,11 +41,6 @@ all-keyed h (x ∷ xs) =
     either : (b : Bool) → (b || true) ≡ true
     either true = refl
     either false = refl
-
-mapped-reads : {A B : Type 0} (s : ℕ) (f : List ℕ → A) (g : A → B) (n : ℕ) (w : List ℕ) → map g (reads s f n w) ≡ reads s (λ r. g (f r)) n w
-unfolding reads
-mapped-reads s f g zero w = refl
-mapped-reads s f g (suc n) w = ap (λ z. g (f (take s w)) ∷ z) (mapped-reads s f g n (drop s w))
 
 same-reads : {B : Type 0} (s : ℕ) (f g : List ℕ → B) → ((r : List ℕ) → f r ≡ g r) → (n : ℕ) (w : List ℕ) → reads s f n w ≡ reads s g n w
 unfolding reads

@@ -4,8 +4,25 @@ use Rattle.edit.proofs.links.pair_unless.Tie as tie
 use Rattle.edit.proofs.links.pair_unless.Reads as reads
 use Rattle.edit.proofs.links.pair_unless.Lts as lts
 use Rattle.report.proofs.named.Reads as named-reads
+use mathlib.Core.Path.{_≡_}
+use mathlib.Core.Bool.{true}
+use Prim.Native.Nat.{_<_}
 use native.Mathlib.Omega.{arith}
+use lib.ListN.{length, take}
+use Rattle.lists.specs.Select.{place, ascending}
+use Rattle.report.proofs.Laws.{named-front}
 use Rattle.edit.proofs.Reported.{nothing-up, pair-first, pair-second}
+
+-- the first lane named, and the second
+first : (c : tie.After-named) → (take (c .named .result) (c .named .last .0) ≡ place (c .before .before .before .before .args .a) (take 0 (c .before .before .before .before .args .ids .now))) × (c .named .result ≡ length (place (c .before .before .before .before .args .a) (take 0 (c .before .before .before .before .args .ids .now))))
+first c =
+    let s = c .before .before .before .before in
+    named-front (s .args .ids .now) 0 (s .args .a) (omega (arith, s .pre)) (c .named .last .0) (c .named .result) nothing-up (c .named .ensures)
+
+may : (c : tie.After-named) → (c .named .result < length (c .named .last .0)) × (ascending (take (c .named .result) (c .named .last .0)) ≡ true)
+may c =
+    let s = c .before .before .before .before in
+    pair-first (s .args .a) (c .named .result) (c .named .last .0) (s .args .ids .now) (first c .0) (first c .1) (omega (arith, s .pre, c .named .kept .0))
 
 -- src/links.rt:93:9
 returns : tie.Need-returns
@@ -17,7 +34,7 @@ named-requires c κs = (omega (arith, c .before .before .before .pre), nothing-u
 
 -- src/links.rt:96:5
 named-requires-2 : tie.Need-named-requires-2
-named-requires-2 c κs = pair-first (c .before .before .before .before .before .before .before .args .a) (c .before .before .before .named .result) (c .before .before .before .named .last .0) (c .before .before .before .before .before .before .before .args .ids .now) (c .before .before .before .named .ensures .0) (c .before .before .before .named .ensures .1) (omega (arith, c .before .before .before .before .before .before .before .pre, c .before .before .before .named .kept .0))
+named-requires-2 c κs = may (c .before .before .before)
 
 -- src/links.rt:88:1
 same-length : tie.Need-same-length
@@ -25,7 +42,12 @@ same-length c = search needs
 
 -- src/links.rt:88:1
 returns-2 : tie.Need-returns-2
-returns-2 c = pair-second (c .before .before .before .before .before .before .before .before .before .before .args .skip) (c .before .before .before .before .before .before .before .before .before .before .args .a) (c .before .before .before .before .before .before .before .before .before .before .args .b) (c .before .before .before .before .before .before .named .result) (c .before .before .named2 .result) (c .before .before .named2 .last .0) (c .before .before .before .before .before .before .named .last .0) (c .before .before .before .before .before .before .before .before .before .before .args .ids .now) (c .before .before .before .before .before .before .before .before .if1 .left) (c .before .before .before .before .before .before .named .ensures .0) (c .before .before .named2 .ensures)
+returns-2 c =
+    let one = c .before .before .before .before .before .before in
+    let a = c .before .before .before .before .before .before .before .before .before .before .args in
+    let m = c .before .before .named2 in
+    pair-second (a .skip) (a .a) (a .b) (one .named .result) (m .result) (m .last .0) (one .named .last .0) (a .ids .now) (c .before .before .before .before .before .before .before .before .if1 .left) (first one .0)
+    (named-front (one .named .last .0) (one .named .result) (a .b) (may one .0) (m .last .0) (m .result) (may one .1) (m .ensures))
 
 pub pair-unless-spec : {M : Type 1} → statement M
 pair-unless-spec =

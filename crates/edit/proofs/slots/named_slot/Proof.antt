@@ -3,6 +3,7 @@ use borrow.Author.Needs.{needs}
 use Rattle.edit.proofs.slots.named_slot.Statement.{statement}
 use Rattle.edit.proofs.slots.named_slot.Tie as tie
 use native.Mathlib.Omega.{arith}
+use Rattle.report.proofs.Laws.{named-front}
 use Rattle.edit.proofs.Reslot.{none-named, one-named}
 
 enum-known-slot : tie.Need-enum-known-slot
@@ -25,9 +26,10 @@ same-length c = search needs
 returns-2 : tie.Need-returns-2
 returns-2 c =
     let a = c .before .before .before .before .before .before .before .before .args in
+    let h = c .before .before .before .before .before .before .before .before .pre in
     let g = c .before .before .before .before .before .slot .given in
     let m = c .before .before .named in
-    one-named (a .slot) (g .0 .0) (a .ids .now) (m .last .0) (a .n) (m .result) (g .1) (m .ensures)
+    one-named (a .slot) (g .0 .0) (a .ids .now) (m .last .0) (a .n) (m .result) (g .1) (named-front (a .ids .now) (a .n) (g .0 .0 .lane) (h .0) (m .last .0) (m .result) (h .1) (m .ensures))
 
 pub named-slot-spec : {M : Type 1} → statement M
 named-slot-spec =

@@ -2,15 +2,24 @@
 use borrow.Author.Needs.{needs}
 use Rattle.edit.proofs.slots.touched.Statement.{statement}
 use Rattle.edit.proofs.slots.touched.Tie as tie
+use mathlib.Core.Path.{_≡_}
 use native.Mathlib.Omega.{arith}
+use lib.ListN.{length, take}
+use Rattle.lists.specs.Select.{place}
+use Rattle.report.proofs.Laws.{named-front}
 use Rattle.edit.specs.Parts.{asOption}
 use Rattle.edit.proofs.Reported.{nothing-up}
 use Rattle.edit.proofs.Reslot.{Named, first-named, next-named, named-few, named-up, all-named}
 
+front : (c : tie.After-named) → (take (c .named .result) (c .named .last .0) ≡ place (c .before .before .before .before .args .lane) (take 0 (c .before .before .before .before .args .ids .now))) × (c .named .result ≡ length (place (c .before .before .before .before .args .lane) (take 0 (c .before .before .before .before .args .ids .now))))
+front c =
+    let s = c .before .before .before .before in
+    named-front (s .args .ids .now) 0 (s .args .lane) (omega (arith, s .pre)) (c .named .last .0) (c .named .result) nothing-up (c .named .ensures)
+
 one : (c : tie.After-named) → Named 1 (c .named .result) (c .named .last .0)
 one c =
     let a = c .before .before .before .before .args in
-    first-named (a .lane) (c .named .result) (c .named .last .0) (a .ids .now) (c .named .ensures)
+    first-named (a .lane) (c .named .result) (c .named .last .0) (a .ids .now) (front c)
 
 two : (c : tie.After-named-slot) → Named 2 (c .named-slot .result) (c .named-slot .last .0)
 two c =
@@ -57,7 +66,7 @@ returns-2 c =
     let m3 = c .before .before .before .before .before .before .named-slot2 in
     let m4 = c .before .before .named-slot3 in
     all-named (a .skip) (a .lane) (asOption (a .old)) (asOption (a .new)) (asOption (a .other)) (m1 .result) (m2 .result) (m3 .result) (m4 .result) (a .ids .now) (m1 .last .0) (m2 .last .0) (m3 .last .0) (m4 .last .0)
-    (c .before .before .before .before .before .before .before .before .before .before .before .before .before .before .before .before .if1 .left) (m1 .ensures .0) (m2 .ensures .0) (m3 .ensures .0) (m4 .ensures)
+    (c .before .before .before .before .before .before .before .before .before .before .before .before .before .before .before .before .if1 .left) (front (c .before .before .before .before .before .before .before .before .before .before .before .before .before .before) .0) (m2 .ensures .0) (m3 .ensures .0) (m4 .ensures)
 
 pub touched-spec : {M : Type 1} → statement M
 touched-spec =
