@@ -54,8 +54,8 @@ mod linked {
     use super::{Call, Editor, Lent, Raw, Tables};
 
     /// The edits whose functions are declared below, by their place in `COMMANDS`.
-    /// TODO remove_lane, merge_lanes, split_lane.
-    const THERE: [usize; 3] = [0, 1, 2];
+    /// TODO merge_lanes, split_lane.
+    const THERE: [usize; 4] = [0, 1, 2, 3];
 
     unsafe extern "C" {
         fn voldrekka_sound(
@@ -79,8 +79,8 @@ mod linked {
         ) -> bool;
     }
 
-    /// Declares edits that leave counter, lines and all tables but the lanes as they are: the counter, the eight slices of the map, the
-    /// edit's own arguments, the four lists, and the slice for the four words of the answer.
+    /// Declares edits that leave counter and lines as they are: the counter, the eight slices of the map, the edit's own arguments, the four
+    /// lists, and the slice for the four words of the answer. Of what an edit does not change it is lent a place to read alone.
     macro_rules! edits {
         ($($name:ident($($argument:ident),*);)*) => {
             unsafe extern "C" {
@@ -88,13 +88,13 @@ mod linked {
                     counter: u64,
                     lanes: *mut u64,
                     lanes_len: usize,
-                    boundaries: *const u64,
+                    boundaries: *mut u64,
                     boundaries_len: usize,
-                    roads: *const u64,
+                    roads: *mut u64,
                     roads_len: usize,
-                    junctions: *const u64,
+                    junctions: *mut u64,
                     junctions_len: usize,
-                    rules: *const u64,
+                    rules: *mut u64,
                     rules_len: usize,
                     stop_lines: *const u64,
                     stop_lines_len: usize,
@@ -107,7 +107,7 @@ mod linked {
                     created_len: usize,
                     modified: *mut u64,
                     modified_len: usize,
-                    deleted: *const u64,
+                    deleted: *mut u64,
                     deleted_len: usize,
                     warnings: *mut u64,
                     warnings_len: usize,
@@ -122,6 +122,7 @@ mod linked {
         voldrekka_connect(from, to);
         voldrekka_disconnect(from, to);
         voldrekka_set_neighbor(lane, side, mark, other);
+        voldrekka_remove_lane(lane);
     }
 
     /// Calls such a function with what is lent.
@@ -135,13 +136,13 @@ mod linked {
                     *counter,
                     l.as_mut_ptr(),
                     l.len(),
-                    b.as_ptr(),
+                    b.as_mut_ptr(),
                     b.len(),
-                    r.as_ptr(),
+                    r.as_mut_ptr(),
                     r.len(),
-                    j.as_ptr(),
+                    j.as_mut_ptr(),
                     j.len(),
-                    u.as_ptr(),
+                    u.as_mut_ptr(),
                     u.len(),
                     s.as_ptr(),
                     s.len(),
@@ -154,7 +155,7 @@ mod linked {
                     created.len(),
                     modified.as_mut_ptr(),
                     modified.len(),
-                    deleted.as_ptr(),
+                    deleted.as_mut_ptr(),
                     deleted.len(),
                     warnings.as_mut_ptr(),
                     warnings.len(),
@@ -223,6 +224,7 @@ mod linked {
                         other
                     )
                 }
+                Call::RemoveLane { lane } => lent_to!(voldrekka_remove_lane, lent, answer, lane),
                 _ => unreachable!("{call:?}: no such function in the library yet"),
             };
             raw(number, answer)

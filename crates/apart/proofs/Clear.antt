@@ -14,17 +14,13 @@ use borrow.Author.Tests.{eq-eqb, eqb-true, eqb-false, leb-true, leb-false, ltb-t
 use Rattle.lists.specs.Every.{all}
 use Rattle.lists.specs.Rows.{over}
 use Rattle.lists.proofs.Every.{all-head, all-tail, all-places}
-use Rattle.lists.proofs.Booleans.{and-both, and-fst, and-snd, same-test}
+use Rattle.lists.proofs.Booleans.{and-both, and-fst, and-snd, same-test, neither}
 use Rattle.lists.proofs.Rows.{getD-over-before, getD-over-behind}
 use Rattle.tables.specs.Formed.{Span, clear, allClear}
 use Rattle.apart.specs.Marks.{trues, marked, unmarked, apartBy, within}
 use Rattle.apart.proofs.Marks.{or-cases, length-trues, within-cases, marked-none, length-marked}
 
 -- ---- Booleans and tests on lists
-
-neither : (a b : Bool) → (a || b) ≡ false → (a ≡ false) × (b ≡ false)
-neither true b h = absurd (true≢false h)
-neither false b h = (refl, h)
 
 shuffle : (a b c d : Bool) → (a && (b && c && d)) ≡ (a && b && (c && d))
 shuffle false b c d = refl

@@ -18,11 +18,11 @@ use Rattle.rules.specs.Edit as E
 use Rattle.rules.specs.Ops as O
 use Rattle.tables.specs.View.{Tables, view}
 use Rattle.tables.specs.Formed.{formed, soundTables}
-use Rattle.store.specs.Store.{store, roomOf}
+use Rattle.store.specs.Store.{roomOf}
 use Rattle.facts.proofs.Stored.{withLaneTable}
 use Rattle.report.specs.Report.{listed, warned, counts, fits}
 use Rattle.report.specs.declared.Answer.the-variants.{Changed, Refused}
-use Rattle.edit.specs.Step.{Lent, Ended, ended, step, stateOf, listsOf, refusing, changing, closing}
+use Rattle.edit.specs.Step.{Lent, Ended, ended, step, stateOf, listsOf, refusing, stored, changing, closing}
 use Rattle.edit.specs.Parts.{Relinked, relinked, relinking}
 
 pub sound-map : (counter : ℕ) (t : Tables) → soundTables counter t ≡ true → sound counter (view t) ≡ true
@@ -49,7 +49,7 @@ spread l r =
       answer = r .answer;
     }
 
-listed-nil : (w : List ℕ) → listed w [] ≡ w
+pub listed-nil : (w : List ℕ) → listed w [] ≡ w
 unfolding listed each
 listed-nil w = over-nil w 0
 
@@ -76,14 +76,14 @@ module _ (tol : Tolerance) (c : O.Command) (l : Lent) where
       abbrev room : Bool
       room = fitsRoom (roomOf (l .tables)) m && O.fitsLists (listsOf l) cs
 
-      decided : step tol c l ≡ cond room (changing l (record { map = m; counter = l .counter }) cs) (refusing l NoRoom)
+      decided : step tol c l ≡ cond room (changing c l (record { map = m; counter = l .counter }) cs) (refusing l NoRoom)
       unfolding step O.step
       decided = rw (h, sound-map (l .counter) (l .tables) h, e, le-leb (l .counter) lastCounter k) (either room)
         where
           o : Bool → O.Outcome
           o b = cond b (O.acceptedAs (stateOf l) (E.relinking m modified ws)) (O.refusedAs (stateOf l) NoRoom)
 
-          either : (b : Bool) → closing l (o b .state) (o b .answer) ≡ cond b (changing l (record { map = m; counter = l .counter }) cs) (refusing l NoRoom)
+          either : (b : Bool) → closing c l (o b .state) (o b .answer) ≡ cond b (changing c l (record { map = m; counter = l .counter }) cs) (refusing l NoRoom)
           either true = refl
           either false = refl
 
@@ -98,21 +98,21 @@ module _ (tol : Tolerance) (c : O.Command) (l : Lent) where
 
       -- what is written back, by the lane table as it becomes
       pub step-relinking : (ids : List ℕ) (after : List ℕ) (fit : Bool) → modified ≡ E.refs LaneKind ids → fitsRoom (roomOf (l .tables)) m ≡ fit
-          → (fit ≡ true → store (l .tables) m ≡ withLaneTable after (l .tables))
+          → (fit ≡ true → stored c (l .tables) m ≡ withLaneTable after (l .tables))
           → step tol c l ≡ spread l (relinking fit after ids ws (l .tables .lanes) (l .modified) (l .warnings))
       unfolding relinking
       step-relinking ids after fit q f st =
           let n : length modified ≡ length ids = ap length q ∙ length-map ids (λ i. record { kind = LaneKind; id = i }) in
           decided ∙ (rw (f, places (length ids) n) (sides n))
         where
-          sides : length modified ≡ length ids → cond (fit && fits (length ids) (length ws) (l .modified) (l .warnings)) (changing l (record { map = m; counter = l .counter }) cs) (refusing l NoRoom)
+          sides : length modified ≡ length ids → cond (fit && fits (length ids) (length ws) (l .modified) (l .warnings)) (changing c l (record { map = m; counter = l .counter }) cs) (refusing l NoRoom)
               ≡ spread l (cond (fit && fits (length ids) (length ws) (l .modified) (l .warnings)) (relinked after (listed (l .modified) (E.refs LaneKind ids)) (warned (l .warnings) ws) (Changed (record { created = 0; modified = length ids; deleted = 0; warnings = length ws }))) (relinked (l .tables .lanes) (l .modified) (l .warnings) (Refused NoRoom)))
           sides n = by fit refl (fits (length ids) (length ws) (l .modified) (l .warnings))
             where
               abbreviated : Bool → Relinked
               abbreviated b = cond b (relinked after (listed (l .modified) (E.refs LaneKind ids)) (warned (l .warnings) ws) (Changed (record { created = 0; modified = length ids; deleted = 0; warnings = length ws }))) (relinked (l .tables .lanes) (l .modified) (l .warnings) (Refused NoRoom))
 
-              by : (x : Bool) → fit ≡ x → (b : Bool) → cond (x && b) (changing l (record { map = m; counter = l .counter }) cs) (refusing l NoRoom) ≡ spread l (abbreviated (x && b))
+              by : (x : Bool) → fit ≡ x → (b : Bool) → cond (x && b) (changing c l (record { map = m; counter = l .counter }) cs) (refusing l NoRoom) ≡ spread l (abbreviated (x && b))
               by false x b = refl
               by true x false = refl
               by true x true =

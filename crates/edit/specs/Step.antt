@@ -11,6 +11,7 @@ use Rattle.rules.specs.Ops as O
 use Rattle.tables.specs.View.{Tables, view}
 use Rattle.tables.specs.Formed.{soundTables}
 use Rattle.store.specs.Store.{store, roomOf}
+use Rattle.store.specs.Laid.{laid}
 use Rattle.report.specs.Report.{listed, warned, counts}
 use Rattle.report.specs.declared.Answer.{Answer}
 use Rattle.report.specs.declared.Answer.the-variants.{Changed, Refused}
@@ -49,13 +50,23 @@ stateOf l = record { map = view (l .tables); counter = l .counter }
 abbrev pub refusing : Lent → Refusal → Ended
 refusing l r = record { lent = l; answer = Refused r }
 
-abbrev pub changing : Lent → O.State → ChangeSet → Ended
-changing l s cs =
+-- How a map is written back: "connect, disconnect, set_neighbor and remove leave every line where it is. split and merge lay all lines of the new map
+-- out anew".
+abbrev pub stored : O.Command → Tables → Map → Tables
+stored (O.SplitLane i at neighbors) = laid
+stored (O.MergeLanes i j) = laid
+stored (O.ConnectLanes i j) = store
+stored (O.DisconnectLanes i j) = store
+stored (O.SetNeighbor i side n) = store
+stored (O.RemoveLane i) = store
+
+abbrev pub changing : O.Command → Lent → O.State → ChangeSet → Ended
+changing c l s cs =
     record {
       lent =
           record {
             counter = s .counter;
-            tables = store (l .tables) (s .map);
+            tables = stored c (l .tables) (s .map);
             created = listed (l .created) (cs .created);
             modified = listed (l .modified) (cs .modified);
             deleted = listed (l .deleted) (cs .deleted);
@@ -64,15 +75,15 @@ changing l s cs =
       answer = Changed (counts cs);
     }
 
-abbrev pub closing : Lent → O.State → O.Answer → Ended
-closing l s (O.refused r) = refusing l r
-closing l s (O.accepted cs second) = changing l s cs
+abbrev pub closing : O.Command → Lent → O.State → O.Answer → Ended
+closing c l s (O.refused r) = refusing l r
+closing c l s (O.accepted cs second) = changing c l s cs
 
--- Of the edits that leave every line where it is: connect, disconnect, set_neighbor and remove_lane. "9 comes first".
+-- "9 comes first".
 unfoldable pub step : Tolerance → O.Command → Lent → Ended
 step tol c l =
     let o = O.step tol (roomOf (l .tables)) (callOf c l) (stateOf l) in
-    cond (soundTables (l .counter) (l .tables)) (closing l (o .state) (o .answer)) (refusing l Unsound)
+    cond (soundTables (l .counter) (l .tables)) (closing c l (o .state) (o .answer)) (refusing l Unsound)
 
 -- ---- slices as what is lent
 

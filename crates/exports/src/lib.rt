@@ -274,3 +274,47 @@ pub extern "C" fn voldrekka_set_neighbor(
     answers::tell(answer, said);
     said.number()
 }
+
+// A lane goes, with the boundaries that only it uses.
+#[no_mangle]
+pub extern "C" fn voldrekka_remove_lane(
+    counter: u64,
+    lanes: &mut [u64],
+    boundaries: &mut [u64],
+    roads: &mut [u64],
+    junctions: &mut [u64],
+    rules: &mut [u64],
+    stop_lines: &[u64],
+    crosswalks: &[u64],
+    coordinates: &[f64],
+    lane: u64,
+    created: &[u64],
+    modified: &mut [u64],
+    deleted: &mut [u64],
+    warnings: &mut [u64],
+    answer: &mut [u64],
+) -> u64
+    ensures { λ r. ⌜ called (lentOf counter (now (lanes .exit)) (now (boundaries .exit)) (now (roads .exit)) (now (junctions .exit)) (now (rules .exit)) (now («stop_lines» .entry)) (now (crosswalks .entry)) (now (coordinates .entry)) (now (created .entry)) (now (modified .exit)) (now (deleted .exit)) (now (warnings .exit))) r (now (answer .exit)) ≡ calling (O.RemoveLane lane) (lentOf counter (now (lanes .entry)) (now (boundaries .entry)) (now (roads .entry)) (now (junctions .entry)) (now (rules .entry)) (now («stop_lines» .entry)) (now (crosswalks .entry)) (now (coordinates .entry)) (now (created .entry)) (now (modified .entry)) (now (deleted .entry)) (now (warnings .entry))) (now (answer .entry)) ⌝ }
+{
+    if answer.len() < WORDS {
+        return Refusal::NoRoom.number();
+    }
+    let said = edit_lane::remove_lane(
+        counter,
+        lanes,
+        boundaries,
+        roads,
+        junctions,
+        rules,
+        stop_lines,
+        crosswalks,
+        coordinates,
+        lane,
+        created,
+        modified,
+        deleted,
+        warnings,
+    );
+    answers::tell(answer, said);
+    said.number()
+}

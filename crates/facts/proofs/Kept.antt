@@ -118,24 +118,27 @@ module _ (t : Tables) (h : formed t ≡ true) (f : Lane → Lane) (same : (l : L
     row-span = span-kept c w (f (laneOf c w)) (center (laneOf c w))
 
   abbrev table : List ℕ
-  table = onRows g (t .lanes)
+  table = onRows 52 g (t .lanes)
 
   -- what is read from the changed rows
   read-back : {B : Type 0} (dec after : List ℕ → B) → ((w : List ℕ) → length w ≡ 52 → good w ≡ true → dec (g w) ≡ after w) → rows 52 dec table ≡ rows 52 after (t .lanes)
   unfolding rows onRows
   read-back dec after e = rows-read 52 good g dec after row-length e n v room all-good
 
-  lanes-back : rows 52 (laneOf c) table ≡ map f (rows 52 (laneOf c) (t .lanes))
+  pub lanes-back : rows 52 (laneOf c) table ≡ map f (rows 52 (laneOf c) (t .lanes))
   unfolding rows
   lanes-back = read-back (laneOf c) (λ w. f (laneOf c w)) row-back ∙ sym (mapped-reads 52 (laneOf c) f n v)
 
-  count-kept : counted 1024 52 table ≡ counted 1024 52 (t .lanes)
+  pub length-kept : length table ≡ length (t .lanes)
   unfolding onRows
-  count-kept =
+  length-kept =
       let a : length (mapRows 52 g n v) ≡ length v = rows-length 52 good g row-length n v room all-good in
       let b : t .lanes ≡ n ∷ v = drop-cons (t .lanes) 0 0 (table-some 1024 52 (t .lanes) (formed-counts t h .lanes)) in
-      let d : suc (length (mapRows 52 g n v)) ≡ length (t .lanes) = ap suc a ∙ sym (ap length b) in
-      ap (λ z. leb 1 z && leb n 1024 && leb (1 + n * 52) z) d
+      ap suc a ∙ sym (ap length b)
+
+  count-kept : counted 1024 52 table ≡ counted 1024 52 (t .lanes)
+  unfolding onRows
+  count-kept = ap (λ z. leb 1 z && leb n 1024 && leb (1 + n * 52) z) length-kept
 
   formed-kept : allRows 52 laneFormed table ≡ true
   unfolding allRows
@@ -151,7 +154,7 @@ module _ (t : Tables) (h : formed t ≡ true) (f : Lane → Lane) (same : (l : L
   unfolding view
   view-table = ap (λ ls. withLanes ls (view t)) lanes-back
 
-  formed-table : formed (withLaneTable table t) ≡ true
+  pub formed-table : formed (withLaneTable table t) ≡ true
   unfolding formed allRows
   formed-table =
       let k = formed-counts t h in

@@ -2,3 +2,9 @@ pub mod Stored
 pub mod Room
 pub mod Facts
 pub mod Kept
+pub mod Thinned
+pub mod LaidTables
+pub mod LaidLines
+pub mod LaidStops
+pub mod LaidPlaces
+pub mod Laid

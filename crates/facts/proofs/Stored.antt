@@ -11,6 +11,7 @@ use lib.ListN.{length, getD, take, drop, length-drop}
 use borrow.Author.Tests.{leb-true}
 use Rattle.lists.specs.Every.{all}
 use Rattle.lists.specs.Rows.{reads}
+use Rattle.store.proofs.Packing.{every-row}
 use Rattle.entities.specs.Records.{Line, Lane}
 use Rattle.entities.specs.declared.Neighbor.{Neighbor}
 use Rattle.rules.specs.Edit.{withLanes, relinked}
@@ -43,11 +44,6 @@ module _ {R : Type 0} (limit s : ℕ) (onto : List ℕ → R → List ℕ) (key 
       → allRows s good t ≡ true → storeRows s onto key t (rows s dec t) ≡ t
   unfolding allRows rows
   table-same good keys same a = store-same s onto key dec t (rows-room limit s t h) good keys same (table-some limit s t h) a
-
-every-row : (s n : ℕ) (w : List ℕ) → passing s (λ r. true) n w
-unfolding reads all
-every-row s zero w = refl
-every-row s (suc n) w = every-row s n (drop s w)
 
 boundaries-same : (c : List Float) (t : List ℕ) → counted 4096 5 t ≡ true → storeRows 5 boundaryOnto (λ b. b .id) t (rows 5 (boundaryOf c) t) ≡ t
 unfolding boundaryOf
@@ -85,18 +81,18 @@ withLaneTable l t =
       coordinates = t .coordinates;
     }
 
-five-same : {l m b d r s j k u v : List ℕ} (x y : List ℕ) (c : List Float) → l ≡ m → b ≡ d → r ≡ s → j ≡ k → u ≡ v
+pub five-same : {l m b d r s j k u v : List ℕ} (x y : List ℕ) (c : List Float) → l ≡ m → b ≡ d → r ≡ s → j ≡ k → u ≡ v
     → _≡_ {A = Tables} (record { lanes = l; boundaries = b; roads = r; junctions = j; rules = u; stop-lines = x; crosswalks = y; coordinates = c })
     (record { lanes = m; boundaries = d; roads = s; junctions = k; rules = v; stop-lines = x; crosswalks = y; coordinates = c })
 five-same x y c p q i e o = rw (p, q, i, e, o)
 
-lane-key : (c : List Float) (w : List ℕ) → laneOf c w .id ≡ getD w 0 0
+pub lane-key : (c : List Float) (w : List ℕ) → laneOf c w .id ≡ getD w 0 0
 unfolding laneOf
 lane-key c w = refl
 
 module _ (t : Tables) (h : formed t ≡ true) (f : Lane → Lane) (same : (l : Lane) → f l .id ≡ l .id) where
   -- each lane's row with the changed lane written over it
-  pub store-mapped : store t (withLanes (map f (view t .lanes)) (view t)) ≡ withLaneTable (onRows (λ w. laneOnto w (f (laneOf (t .coordinates) w))) (t .lanes)) t
+  pub store-mapped : store t (withLanes (map f (view t .lanes)) (view t)) ≡ withLaneTable (onRows 52 (λ w. laneOnto w (f (laneOf (t .coordinates) w))) (t .lanes)) t
   unfolding store view onRows
   store-mapped =
       let n = formed-counts t h in

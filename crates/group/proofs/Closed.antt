@@ -10,11 +10,11 @@ use lib.Dec.{eqb}
 use lib.ListN.{length, length-map}
 use borrow.Author.Tests.{eq-eqb, eqb-true}
 use Rattle.lists.specs.Select.{keep, any, has}
-use Rattle.lists.proofs.Booleans.{and-both, and-fst, and-snd}
+use Rattle.lists.proofs.Booleans.{and-both, and-fst, and-snd, or-right, or-left}
 use Rattle.lists.proofs.Select.{has-keep, length-keep}
 use Rattle.entities.specs.Records.{Lane, Map}
 use Rattle.rules.specs.Map.{laneIds, beside, widened, grown, lateral-group}
-use Rattle.group.proofs.Laws.{or-left, or-right, or-elim, any-weaken, has-somewhere, keep-map, keep-agree, keep-kept, keep-grows}
+use Rattle.group.proofs.Laws.{or-elim, any-weaken, has-somewhere, keep-map, keep-agree, keep-kept, keep-grows}
 
 module _ (m : Map) where
   -- a lane of the set, or one that a lane of the set names in a slot

@@ -17,16 +17,10 @@ use Rattle.lists.specs.Select.{keep, any, has}
 use Rattle.lists.specs.declared.Found.{Found}
 use Rattle.lists.specs.declared.Found.the-variants.{At, Nothing}
 use Rattle.lists.proofs.Select.{has-any, has-keep, length-keep}
+use Rattle.lists.proofs.Booleans.{or-right, or-left}
 use Rattle.group.specs.Walk.{marks, chosen}
 
 -- ---- Booleans
-
-pub or-left : (a b : Bool) → a ≡ true → (a || b) ≡ true
-or-left a b e = rw e
-
-pub or-right : (a b : Bool) → b ≡ true → (a || b) ≡ true
-or-right true b e = refl
-or-right false b e = e
 
 pub or-elim : (a b c : Bool) → (a ≡ true → c ≡ true) → (b ≡ true → c ≡ true) → (a || b) ≡ true → c ≡ true
 or-elim true b c f g h = f refl

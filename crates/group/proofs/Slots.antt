@@ -16,7 +16,7 @@ use Rattle.lists.specs.Rows.{rowWith}
 use Rattle.lists.specs.Select.{keep, any, has}
 use Rattle.lists.specs.declared.Found.{Found}
 use Rattle.lists.specs.declared.Found.the-variants.{At, Nothing}
-use Rattle.lists.proofs.Booleans.{and-both, and-fst, and-snd}
+use Rattle.lists.proofs.Booleans.{and-both, and-fst, and-snd, or-right, or-left}
 use Rattle.lists.proofs.Rows.{length-reads, getD-reads, length-keys, key-at, row-at}
 use Rattle.entities.specs.Records.{Lane, Map}
 use Rattle.entities.specs.Types.{same, opposing}
@@ -26,7 +26,7 @@ use Rattle.map.specs.Returned.{searchable, laneAt}
 use Rattle.map.proofs.Lanes.{found-within, word-at, id-at, lanes-ascend}
 use Rattle.map.proofs.Relations.{keys-reads}
 use Rattle.group.specs.Walk.{laneMap, idsOf, groupAt, slotRow}
-use Rattle.group.proofs.Laws.{or-elim, or-left, or-right, any-at, any-somewhere, any-reads, has-at, found-key, found-none}
+use Rattle.group.proofs.Laws.{or-elim, any-at, any-somewhere, any-reads, has-at, found-key, found-none}
 use Rattle.group.proofs.Closed.{group-least, group-start, group-part, group-next, group-same}
 
 -- ---- a map's lanes and a table's rows

@@ -16,13 +16,13 @@ use Rattle.lists.specs.Select.{has}
 use Rattle.lists.specs.declared.Found.{Found}
 use Rattle.lists.specs.declared.Found.the-variants.{At, Nothing}
 use Rattle.lists.proofs.Rows.{length-keys, length-over, getD-over-behind}
-use Rattle.lists.proofs.Booleans.{same-test}
+use Rattle.lists.proofs.Booleans.{same-test, or-right, or-left}
 use Rattle.lists.proofs.Select.{has-append}
 use Rattle.tables.specs.View.{word}
 use Rattle.map.specs.Returned.{searchable, laneAt}
 use Rattle.map.proofs.Lanes.{lanes-few}
 use Rattle.group.specs.Walk.{idsOf, groupAt, slotRow, within, marks, marked, queued}
-use Rattle.group.proofs.Laws.{or-left, or-right, has-at, has-somewhere, mark-again, marks-more, marks-room, marks-none, marks-few, unmarked, getD-over-front, getD-map-in}
+use Rattle.group.proofs.Laws.{has-at, has-somewhere, mark-again, marks-more, marks-room, marks-none, marks-few, unmarked, getD-over-front, getD-map-in}
 use Rattle.group.proofs.Slots.{Shut, id-of, slot-leads, group-has-own, group-leads, marks-hold}
 
 -- ---- marks and queue when a row is entered

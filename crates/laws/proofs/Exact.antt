@@ -8,7 +8,7 @@ use lib.Dec.{eqb, ltb}
 use borrow.Author.Tests.{eqb-true, eq-eqb}
 use Rattle.lists.specs.Every.{all}
 use Rattle.lists.specs.Select.{keep, any, find, has, above, ascending}
-use Rattle.lists.proofs.Booleans.{and-both, and-fst, and-snd}
+use Rattle.lists.proofs.Booleans.{and-both, and-fst, and-snd, or-left}
 use Rattle.lists.proofs.Select.{any-append, any-map, any-same, any-keep, any-implies, has-any, all-of, keys-map, keys-keep, ascending-tail}
 use Rattle.entities.specs.Types.{kindNumber}
 use Rattle.entities.specs.Records.{Lane, Map, Issue, ChangeSet}
@@ -22,7 +22,7 @@ use Rattle.laws.proofs.Links.{found-passes, found-any, lane-id}
 
 -- ---- entities
 
-same-self : (e : EntityRef) → sameEntity e e ≡ true
+pub same-self : (e : EntityRef) → sameEntity e e ≡ true
 same-self e = and-both (eqb (kindNumber (e .kind)) (kindNumber (e .kind))) (eqb (e .id) (e .id)) (eq-eqb (kindNumber (e .kind)) (kindNumber (e .kind)) refl) (eq-eqb (e .id) (e .id) refl)
 
 -- a test that every element passes keeps nothing of its opposite
@@ -84,7 +84,7 @@ found-map key f h i (x ∷ xs) = rw (h x) (go (eqb (key x) i) (found-map key f h
     go false r = r
 
 -- an entity of a list of ids of one kind
-among-refs : (e : EntityRef) (k : EntityKind) (ids : List ℕ) → among e (refs k ids) ≡ (eqb (kindNumber (e .kind)) (kindNumber k) && has (e .id) ids)
+pub among-refs : (e : EntityRef) (k : EntityKind) (ids : List ℕ) → among e (refs k ids) ≡ (eqb (kindNumber (e .kind)) (kindNumber k) && has (e .id) ids)
 unfolding among has any
 among-refs e k [] = sym (and-false (eqb (kindNumber (e .kind)) (kindNumber k)))
   where
@@ -125,9 +125,6 @@ any-weaken p q (x ∷ xs) h t = go (p x) refl (any-weaken p q xs h)
         or-right : (a b : Bool) → b ≡ true → (a || b) ≡ true
         or-right true b t = refl
         or-right false b t = t
-
-or-left : (a b : Bool) → a ≡ true → (a || b) ≡ true
-or-left a b t = rw t
 
 -- ---- an edit of links and neighbours alone
 

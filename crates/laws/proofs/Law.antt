@@ -23,12 +23,12 @@ use Rattle.rules.proofs.Reciprocal.{links-agree, neighbors-agree}
 
 -- ---- one accepted call
 
--- It keeps soundness, books its links, and its lists are exact.
+-- It keeps soundness, books its links, and its lists are exact. The first and the last want that the counter has the ids (LastCounter.antt says why).
 pub record Law (c : Command) (s : State) (e : Edited) : Type 0 where
   pub stays-sound : leb (counterAfter (s .counter) (e .ids)) lastCounter ≡ true → withinLimits (e .result) ≡ true
       → sound (counterAfter (s .counter) (e .ids)) (e .result) ≡ true
   pub books : (x y : ℕ) → leads-to (e .result) x y ≡ entry c (s .map) (e .changes) (leads-to (s .map)) x y
-  pub lists-exact : Exact (s .map) (e .changes) (e .result)
+  pub lists-exact : leb (counterAfter (s .counter) (e .ids)) lastCounter ≡ true → Exact (s .map) (e .changes) (e .result)
 
 -- A command obeys the law on every sound map.
 abbrev pub Lawful : Tolerance → Command → Type 0
@@ -61,7 +61,7 @@ module _ (tol : Tolerance) (room : Room) (c : Call) (s : State) (sane : sound (s
       record {
         sound-left = l .stays-sound ids (fits-limits room (e .result) fits);
         book-left = l .books;
-        told = l .lists-exact;
+        told = l .lists-exact ids;
       }
 
   finish-kept : (r : Res Edited) → edit tol (c .command) s ≡ r → Kept tol room c s (finish room (c .lists) s r)

@@ -42,7 +42,7 @@ no-yield r y e = let z : _≡_ {A = ℕ} 0 1 = cc in nothing z
     nothing z = omega arith
 
 -- a lane that is required and found
-required : {B : Type 0} (m : Map) (i : ℕ) (k : Lane → Res B) (e : B) → (require-lane m i >>= k) ≡ yield e → (l : Lane) × (lane m i ≡ some l) × (k l ≡ yield e)
+pub required : {B : Type 0} (m : Map) (i : ℕ) (k : Lane → Res B) (e : B) → (require-lane m i >>= k) ≡ yield e → (l : Lane) × (lane m i ≡ some l) × (k l ≡ yield e)
 required m i k e h = go (lane m i) refl
   where
     go : (o : Option Lane) → lane m i ≡ o → (l : Lane) × (lane m i ≡ some l) × (k l ≡ yield e)
@@ -50,7 +50,7 @@ required m i k e h = go (lane m i) refl
     go (some l) q = (l, q, ap (λ o. require o (R.LaneAbsent i) >>= k) (sym q) ∙ h)
 
 -- a test that is passed
-checked : {B : Type 0} (b : Bool) (r : Refusal) (k : Passed → Res B) (e : B) → (check b r >>= k) ≡ yield e → (b ≡ true) × (k passed ≡ yield e)
+pub checked : {B : Type 0} (b : Bool) (r : Refusal) (k : Passed → Res B) (e : B) → (check b r >>= k) ≡ yield e → (b ≡ true) × (k passed ≡ yield e)
 checked true r k e h = (refl, h)
 checked false r k e h = absurd (no-yield r e h)
 
@@ -68,7 +68,7 @@ module _ (tol : Tolerance) (a b : ℕ) where
       (record {
         stays-sound = λ ids limits. connect-sound (s .counter) m a b from to ea eb sane limits;
         books = connect-leads m a b from ea;
-        lists-exact = connect-exact (s .counter) m sane a b (warnings m from to);
+        lists-exact = λ ids. connect-exact (s .counter) m sane a b (warnings m from to);
       })
     where
       warnings : Map → Lane → Lane → List Issue
@@ -91,7 +91,7 @@ module _ (tol : Tolerance) (a b : ℕ) where
       (record {
         stays-sound = λ ids limits. disconnect-sound (s .counter) m a b sane limits;
         books = disconnect-leads m a b;
-        lists-exact = disconnect-exact (s .counter) m sane a b (when (not (leads-to m a b)) (no-op a));
+        lists-exact = λ ids. disconnect-exact (s .counter) m sane a b (when (not (leads-to m a b)) (no-op a));
       })
     where
       outcome : Map → Res Edited
@@ -147,7 +147,7 @@ module _ (tol : Tolerance) (a : ℕ) (side : Side) (new : Option Neighbor) where
       record {
         stays-sound = λ ids limits. subst (λ n. sound (s .counter) n ≡ true) (sym (same-lanes (s .map))) sane;
         books = reslot-leads (s .map) (λ i s was. was);
-        lists-exact =
+        lists-exact = λ ids.
             relink-exact (s .map) (reslotted (λ i s was. was)) (λ l. refl) (λ x. false) (ids-up (s .counter) (s .map) sane) (λ i l e t. refl)
             (no-op a ∷ unshared (s .map) l side new);
       }
@@ -155,7 +155,7 @@ module _ (tol : Tolerance) (a : ℕ) (side : Side) (new : Option Neighbor) where
       record {
         stays-sound = λ ids limits. set-sound (s .counter) (s .map) sane a l ea side new nm limits;
         books = reslot-leads (s .map) (slotAfter a side new (slotsOf (s .map) a side) (heldAt (slotsOf (s .map)) side new));
-        lists-exact = set-exact (s .counter) (s .map) sane a l ea side new nm (unshared (s .map) l side new);
+        lists-exact = λ ids. set-exact (s .counter) (s .map) sane a l ea side new nm (unshared (s .map) l side new);
       }
 
   pub set-neighbor-lawful : Lawful tol (SetNeighbor a side new)

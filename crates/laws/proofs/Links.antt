@@ -24,7 +24,7 @@ pull-or true true g y = refl
 pull-or true false g y = refl
 pull-or false h g y = refl
 
-and-swap : (p q : Bool) → (p && q) ≡ (q && p)
+pub and-swap : (p q : Bool) → (p && q) ≡ (q && p)
 and-swap true true = refl
 and-swap true false = refl
 and-swap false true = refl
@@ -91,7 +91,7 @@ one-pair m a l e x c =
     (and-both (eqb (l .id) x && eqb (l .id) a) c
     (and-both (eqb (l .id) x) (eqb (l .id) a) (eq-eqb (l .id) x (i ∙ sym u)) (eq-eqb (l .id) a i)) (and-snd (eqb x a) c t)))
 
-has-linked : (g : Bool) (b y : ℕ) (s : List ℕ) → has y (cond g (place b s) s) ≡ (has y s || (g && eqb y b))
+pub has-linked : (g : Bool) (b y : ℕ) (s : List ℕ) → has y (cond g (place b s) s) ≡ (has y s || (g && eqb y b))
 has-linked true b y s = has-place y b s ∙ or-swap (eqb y b) (has y s)
   where
     or-swap : (a b : Bool) → (a || b) ≡ (b || a)
@@ -129,7 +129,7 @@ connect-comes m a b l e x y =
 
 -- ---- disconnect
 
-eqb-swap : (x y : ℕ) → eqb x y ≡ eqb y x
+pub eqb-swap : (x y : ℕ) → eqb x y ≡ eqb y x
 eqb-swap x y = same-test (eqb x y) (eqb y x) (λ t. eq-eqb y x (sym (eqb-true x y t))) (λ t. eq-eqb x y (sym (eqb-true y x t)))
 
 has-unlinked : (g : Bool) (b y : ℕ) (s : List ℕ) → has y (cond g (without b s) s) ≡ (has y s && not (g && eqb y b))
@@ -148,7 +148,7 @@ at-id i x a h c = go (eqb i x) refl
     go true t = let u : i ≡ x = eqb-true i x t in rw u
     go false t = refl
 
-any-and : {A : Type 0} (p : A → Bool) (c : Bool) (xs : List A) → any (λ x. p x && c) xs ≡ (any p xs && c)
+pub any-and : {A : Type 0} (p : A → Bool) (c : Bool) (xs : List A) → any (λ x. p x && c) xs ≡ (any p xs && c)
 unfolding any
 any-and p c [] = refl
 any-and p c (x ∷ xs) = rw (any-and p c xs) (share (p x) (any p xs) c)

@@ -59,12 +59,12 @@ neighbor-slot m up x s y d = any-one (λ l. l .id) x (λ l. holds (neighborOn s 
     of-found (some l) = refl
 
 -- reciprocity is that every neighbour is answered
-agree-answered : (m : Map) → ascending (laneIds m) ≡ true → NeighborsAgree m → Answered (slotsOf m)
+pub agree-answered : (m : Map) → ascending (laneIds m) ≡ true → NeighborsAgree m → Answered (slotsOf m)
 agree-answered m up h x s y d e =
     holds-is (slotsOf m y (reciprocal-side s d)) x d
     (sym (neighbor-slot m up y (reciprocal-side s d) x d) ∙ (sym (h x y s d) ∙ (neighbor-slot m up x s y d ∙ is-holds (slotsOf m x s) y d e)))
 
-answered-agree : (m : Map) → ascending (laneIds m) ≡ true → Answered (slotsOf m) → NeighborsAgree m
+pub answered-agree : (m : Map) → ascending (laneIds m) ≡ true → Answered (slotsOf m) → NeighborsAgree m
 answered-agree m up ok a b side d =
     neighbor-slot m up a side b d
     ∙ same-test (holds (slotsOf m a side) b d) (holds (slotsOf m b (reciprocal-side side d)) a d)

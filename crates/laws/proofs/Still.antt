@@ -9,7 +9,7 @@ use lib.Dec.{eqb, ltb}
 use borrow.Author.Tests.{eqb-true, eqb-false, eq-eqb, ne-eqb, ltb-true, lt-ltb, le-ltb}
 use Rattle.lists.specs.Every.{all}
 use Rattle.lists.specs.Select.{keep, any, find, has, place, without, above, ascending}
-use Rattle.lists.proofs.Booleans.{and-both, and-fst, and-snd}
+use Rattle.lists.proofs.Booleans.{and-both, and-fst, and-snd, neither}
 use Rattle.lists.proofs.Place.{place-present, without-absent}
 use Rattle.lists.proofs.Select.{onFound}
 use Rattle.entities.specs.Records.{Lane, Map, Issue, ChangeSet}
@@ -56,10 +56,6 @@ module _ (c : ℕ) (m : Map) (sane : sound c m ≡ true) where
   taken-still : (g : Bool) (x : ℕ) (ys : List ℕ) → (g ≡ true → has x ys ≡ false) → cond g (without x ys) ys ≡ ys
   taken-still true x ys h = without-absent x ys (h refl)
   taken-still false x ys h = refl
-
-  neither : (p q : Bool) → (p || q) ≡ false → (p ≡ false) × (q ≡ false)
-  neither true q t = absurd (true≢false t)
-  neither false q t = (refl, t)
 
   -- Where a and b are linked, and in every lane but a and b, connecting changes nothing.
   connect-still : (a b i : ℕ) (l : Lane) → lane m i ≡ some l → (not (leads-to m a b) && either a b l) ≡ false → linkIn a b l ≡ l

@@ -13,7 +13,7 @@ use lib.Seq.{drop-cons, take-suc}
 use native.Mathlib.Omega.{arith}
 use borrow.Author.Tests.{eqb-true, eqb-false, eq-eqb, ne-eqb, ltb-true, lt-ltb, ltb-false, le-ltb, not-true}
 use Rattle.lists.specs.Every.{all}
-use Rattle.lists.proofs.Booleans.{and-both, and-fst, and-snd}
+use Rattle.lists.proofs.Booleans.{and-both, and-fst, and-snd, and-false, or-false}
 use Rattle.lists.proofs.Every.{all-split, all-append, all-getD}
 use Rattle.lists.specs.Select.{keep, any, find, each, has, without, place, above, ascending, withSecond, insert-after}
 
@@ -22,14 +22,6 @@ use Rattle.lists.specs.Select.{keep, any, find, each, has, without, plac
 or-assoc : (a b c : Bool) → (a || b || c) ≡ (a || (b || c))
 or-assoc true b c = refl
 or-assoc false b c = refl
-
-or-false : (a : Bool) → (a || false) ≡ a
-or-false true = refl
-or-false false = refl
-
-and-false : (a : Bool) → (a && false) ≡ false
-and-false true = refl
-and-false false = refl
 
 and-or : (a b c : Bool) → ((a || b) && c) ≡ (a && c || b && c)
 and-or true true true = refl
@@ -538,3 +530,46 @@ after-pairs x y hs (z ∷ ys) p q = go (eqb x z) refl (after-pairs x y hs ys p q
         let inner : insert-after ((x, y) ∷ []) (z ∷ ys) ≡ z ∷ rest =
         after-cons ((x, y) ∷ []) z ys ∙ ap (λ (u : List ℕ). u ++ rest) (second-other x y z [] n ∙ second-lacks z [] (unfold has in refl)) in
         left ∙ sym (ap (insert-after hs) inner ∙ after-cons hs z rest)
+
+-- ---- of all elements
+
+pub map-twice : {A B C : Type 0} (f : A → B) (g : B → C) (xs : List A) → map g (map f xs) ≡ map (λ x. g (f x)) xs
+map-twice f g [] = refl
+map-twice f g (x ∷ xs) = ap (λ z. g (f x) ∷ z) (map-twice f g xs)
+
+pub map-same : {A B : Type 0} (f g : A → B) (xs : List A) → ((x : A) → f x ≡ g x) → map f xs ≡ map g xs
+map-same f g [] e = refl
+map-same f g (x ∷ xs) e = rw (e x, map-same f g xs e)
+
+pub map-itself : {A : Type 0} (xs : List A) → map (λ x. x) xs ≡ xs
+map-itself [] = refl
+map-itself (x ∷ xs) = ap (λ z. x ∷ z) (map-itself xs)
+
+pub keep-map : {A B : Type 0} (p : B → Bool) (f : A → B) (xs : List A) → keep p (map f xs) ≡ map f (keep (λ x. p (f x)) xs)
+unfolding keep
+keep-map p f [] = refl
+keep-map {A = A} p f (x ∷ xs) = ap (λ z. cond (p (f x)) (f x ∷ z) z) (keep-map p f xs) ∙ go (p (f x)) (keep (λ x. p (f x)) xs)
+  where
+    go : (b : Bool) (ys : List A) → cond b (f x ∷ map f ys) (map f ys) ≡ map f (cond b (x ∷ ys) ys)
+    go true ys = refl
+    go false ys = refl
+
+-- two tests that agree on every element
+pub keep-same : {A : Type 0} (p q : A → Bool) (xs : List A) → ((x : A) → p x ≡ q x) → keep p xs ≡ keep q xs
+unfolding keep
+keep-same p q [] e = refl
+keep-same p q (x ∷ xs) e = rw (e x, keep-same p q xs e)
+
+-- one filter after another
+pub keep-twice : {A : Type 0} (p q : A → Bool) (xs : List A) → keep p (keep q xs) ≡ keep (λ x. q x && p x) xs
+unfolding keep
+keep-twice p q [] = refl
+keep-twice {A = A} p q (x ∷ xs) = go (q x) (keep-twice p q xs)
+  where
+    go : (b : Bool) → keep p (keep q xs) ≡ keep (λ x. q x && p x) xs → keep p (cond b (x ∷ keep q xs) (keep q xs)) ≡ cond (b && p x) (x ∷ keep (λ x. q x && p x) xs) (keep (λ x. q x && p x) xs)
+    go true e = ap (λ z. cond (p x) (x ∷ z) z) e
+    go false e = e
+
+pub length-without : (x : ℕ) (ys : List ℕ) → length (without x ys) ≤ length ys
+unfolding without
+length-without x ys = length-keep (λ y. not (eqb x y)) ys

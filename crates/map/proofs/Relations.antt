@@ -15,7 +15,7 @@ use Rattle.lists.specs.Rows.{reads, keys, rowWith, later}
 use Rattle.lists.specs.Select.{any, find, has, ascending}
 use Rattle.lists.specs.declared.Found.{Found}
 use Rattle.lists.specs.declared.Found.the-variants.{At, Nothing}
-use Rattle.lists.proofs.Booleans.{and-fst, and-snd}
+use Rattle.lists.proofs.Booleans.{and-fst, and-snd, and-false}
 use Rattle.lists.proofs.Select.{onFound, any-one}
 use Rattle.entities.specs.Records.{Lane, Map}
 use Rattle.entities.specs.Types.{same, opposing}
@@ -92,10 +92,6 @@ placeOf Right = 16
 and-true : (a : Bool) → (a && true) ≡ a
 and-true true = refl
 and-true false = refl
-
-and-false : (a : Bool) → (a && false) ≡ false
-and-false true = refl
-and-false false = refl
 
 holds-slot : (x y j : ℕ) (d : NeighborDirection) → x ≤ 2 → S.holds (slotOf x y) j d ≡ (eqb x (markOf d) && eqb y j)
 holds-slot zero y j Same h = refl

@@ -1,28 +1,30 @@
--- Calls on two lanes, computed: what the claim asks of them, and two editors that it turns down. Assumes nothing.
+-- Calls on two lanes, computed: what the claim asks of them, document 01's case 6, and two editors that the claim turns down. Assumes nothing.
 use mathlib.Core.Path.{_≡_, refl, sym, ap, _∙_}
 use mathlib.Core.Bool.{Bool, true, false, true≢false}
 use mathlib.Core.List.{List, [], _∷_, _++_, map}
 use Prim.Native.Nat.{ℕ}
+use lib.Ieee.{Float, binary64, ofBits}
 use lib.ListN.{replicate}
 use Rattle.lists.specs.Rows.{reads, over}
 use Rattle.entities.specs.Types.{preset}
-use Rattle.rules.specs.Names.{OwnPartner}
+use Rattle.rules.specs.Names.{LaneAbsent, OwnPartner}
 use Rattle.rules.specs.Map.{leads-to}
 use Rattle.rules.specs.Ops as O
 use Rattle.rules.proofs.Opened.{opened}
 use Rattle.tables.specs.View.{part, rows, view, laneOf, boundaryOf, roadOf, junctionOf, ruleOf, stopLineOf, crosswalkOf}
 use Rattle.tables.specs.Formed.{allClear, spans, laneFormed, ruleFormed, formed, soundTables}
 use Rattle.store.specs.Store.{laneOnto, boundaryOnto, roadOnto, junctionOnto, ruleOnto, writes, packed, storeRows, store}
+use Rattle.report.specs.Report.{listed, warned}
 use Rattle.report.specs.declared.Answer.{Answer}
 use Rattle.report.specs.declared.Answer.the-variants.{Changed, Refused}
 use Rattle.store.specs.Store.{roomOf}
-use Rattle.edit.specs.Step.{Ended, ended}
+use Rattle.edit.specs.Step.{Ended, ended, step}
 use Rattle.ops.specs.Run.{Held, Lending, lend, heldIn, mapIn, callOn, runTables, closings}
-use Rattle.ops.proofs.Relinking.{AllRelink, demand-3-relinking-tables}
+use Rattle.ops.proofs.Claim.{demand-3-tables}
 
 -- the definitions of lent memory, opened
 unfoldable opened-tables : ℕ
-unfolding allClear spans laneFormed ruleFormed formed soundTables part rows view reads over laneOf boundaryOf roadOf junctionOf ruleOf stopLineOf crosswalkOf laneOnto boundaryOnto roadOnto junctionOnto ruleOnto writes packed storeRows store closings
+unfolding allClear spans laneFormed ruleFormed formed soundTables part rows view reads over laneOf boundaryOf roadOf junctionOf ruleOf stopLineOf crosswalkOf laneOnto boundaryOnto roadOnto junctionOnto ruleOnto writes packed storeRows store listed warned step runTables closings
 opened-tables = 0
 
 -- ---- two lanes
@@ -73,8 +75,8 @@ abbrev pub asked : List Lending → List Ended
 asked cs = closings cs (O.run preset (roomOf (two .tables)) (map (callOn two) cs) (mapIn two)) two
 
 -- the editor gives it
-pub asked-given : (cs : List Lending) → AllRelink cs → runTables preset cs two ≡ asked cs
-asked-given cs r = demand-3-relinking-tables preset two two-sound cs r .calls-closed
+pub asked-given : (cs : List Lending) → runTables preset cs two ≡ asked cs
+asked-given cs = demand-3-tables preset two two-sound cs .calls-closed
 
 -- whether a call has left lane 2 as a successor of lane 1
 abbrev pub linked : Ended → Bool
@@ -94,6 +96,61 @@ pub answers-asked :
     map (λ e. e .answer) (asked (connects ∷ refuses ∷ disconnects ∷ [])) ≡ two-modified ∷ Refused (OwnPartner 1) ∷ two-modified ∷ []
 unfolding opened-tables opened
 answers-asked = refl
+
+-- ---- case 6: lane 2, between 102 and 103, is right of lane 1
+
+-- a lane with its boundaries and the words of its two slots
+abbrev laneBeside : ℕ → ℕ → ℕ → List ℕ → List ℕ
+laneBeside i l r slots = i ∷ 0 ∷ l ∷ 0 ∷ r ∷ 0 ∷ replicate 8 0 ++ (slots ++ replicate 34 0)
+
+-- two points from 0 to 10 along
+abbrev across : Float → List Float
+across y =
+    let nought = ofBits binary64 0 in
+    let ten = ofBits binary64 0x4024000000000000 in
+    nought ∷ y ∷ nought ∷ ten ∷ y ∷ nought ∷ []
+
+-- "Case 5's map before the split", with this lane table and so many boundaries
+abbrev rightOf : List ℕ → ℕ → Held
+rightOf lanes n =
+    record {
+      counter = 104;
+      tables =
+          record {
+            lanes = lanes;
+            boundaries = n ∷ (101 ∷ 1 ∷ 0 ∷ 2 ∷ 0 ∷ []) ++ ((102 ∷ 1 ∷ 2 ∷ 2 ∷ 0 ∷ []) ++ (103 ∷ 1 ∷ 4 ∷ 2 ∷ 0 ∷ []));
+            roads = 0 ∷ [];
+            junctions = 0 ∷ [];
+            rules = 0 ∷ [];
+            stop-lines = 0 ∷ [];
+            crosswalks = 0 ∷ [];
+            coordinates = across (ofBits binary64 0x4000000000000000) ++ (across (ofBits binary64 0xC000000000000000) ++ across (ofBits binary64 0xC018000000000000));
+          };
+    }
+
+abbrev pub pair : Held
+pair = rightOf (2 ∷ laneBeside 1 101 102 (0 ∷ 0 ∷ 1 ∷ 2 ∷ []) ++ laneBeside 2 102 103 (1 ∷ 1 ∷ 0 ∷ 0 ∷ [])) 3
+
+-- one lane and two boundaries are left; the words that are not used stay
+abbrev pub single : Held
+single = rightOf (1 ∷ laneBeside 1 101 102 (0 ∷ 0 ∷ 0 ∷ 2 ∷ []) ++ laneBeside 2 102 103 (1 ∷ 1 ∷ 0 ∷ 0 ∷ [])) 2
+
+pub pair-sound : soundTables (pair .counter) (pair .tables) ≡ true
+unfolding opened-tables opened
+pair-sound = refl
+
+abbrev pub removes : Lending
+removes = record { command = O.RemoveLane 2; created = []; modified = replicate 2 0; deleted = replicate 4 0; warnings = [] }
+
+-- "remove 2: deleted lane 2, boundary 103; modified lane 1"; then connect 1 to 2: refusal 1 of lane 2. All that the two calls leave and answer.
+pub case-6 :
+    runTables preset (removes ∷ connects ∷ []) pair
+    ≡ ended (lend single (record { command = O.RemoveLane 2; created = []; modified = 0 ∷ 1 ∷ []; deleted = 0 ∷ 2 ∷ 1 ∷ 103 ∷ []; warnings = [] }))
+    (Changed (record { created = 0; modified = 1; deleted = 2; warnings = 0 }))
+    ∷ ended (lend single connects) (Refused (LaneAbsent 2))
+    ∷ []
+unfolding opened-tables opened
+case-6 = refl
 
 -- ---- editors that the claim turns down
 

@@ -9,16 +9,16 @@ use native.Mathlib.Omega.{arith}
 use lib.Dec.{leb}
 use lib.ListN.{getD}
 use Rattle.rules.specs.Names.{Tolerance, Refusal, Unsound, NoRoom, NoIds}
-use Rattle.rules.specs.Sound.{Room, Lists, fitsRoom, lastCounter}
-use Rattle.entities.specs.Records.{ChangeSet}
+use Rattle.rules.specs.Sound.{Room, Lists, sound, fitsRoom, lastCounter}
+use Rattle.entities.specs.Records.{Map, ChangeSet}
 use Rattle.rules.specs.Edit.{Res, refuse, yield, Edited}
 use Rattle.rules.specs.Ops as O
 use Rattle.rules.specs.Demand.{Told}
 use Rattle.laws.proofs.Law.{Lawful, AllLawful, step-kept, demand-3}
-use Rattle.tables.specs.View.{Tables}
+use Rattle.tables.specs.View.{Tables, view}
 use Rattle.tables.specs.Formed.{soundTables}
 use Rattle.store.specs.Store.{roomOf}
-use Rattle.edit.specs.Step.{Lent, listsOf, callOf, stateOf, refusing, changing, closing, step}
+use Rattle.edit.specs.Step.{Lent, listsOf, callOf, stateOf, refusing, stored, changing, closing, step}
 use Rattle.edit.proofs.Steps.{sound-map}
 use Rattle.ops.specs.Run.{Held, Lending, lend, heldIn, mapIn, call, callOn, runTables, heldAfter, closings, lengthsOf, TableDemand3}
 
@@ -50,9 +50,9 @@ room-same t u e = ap roomBy e
 
 module _ (tol : Tolerance) (c : O.Command) (l : Lent) (s : soundTables (l .counter) (l .tables) ≡ true) where
   -- a call on sound memory closes as its outcome on the map does
-  pub closed : step tol c l ≡ closing l (outcome tol c l .state) (outcome tol c l .answer)
+  pub closed : step tol c l ≡ closing c l (outcome tol c l .state) (outcome tol c l .answer)
   unfolding step
-  closed = ap (λ b. cond b (closing l (outcome tol c l .state) (outcome tol c l .answer)) (refusing l Unsound)) s
+  closed = ap (λ b. cond b (closing c l (outcome tol c l .state) (outcome tol c l .answer)) (refusing l Unsound)) s
 
   -- accepted or refused
   pub call-kept : Lawful tol c → Keeps tol c → Kept l (outcome tol c l) (step tol c l .lent)
@@ -65,7 +65,7 @@ module _ (tol : Tolerance) (c : O.Command) (l : Lent) (s : soundTables (l .count
       go (O.accepted cs second) e = keeps l s cs second e
       go (O.refused r) e =
           let stays : outcome tol c l .state ≡ stateOf l = subst (λ a. Told (stateOf l) (record { state = outcome tol c l .state; answer = a })) e told in
-          subst (λ x. Kept l (outcome tol c l) (x .lent)) (sym (closed ∙ ap (closing l (outcome tol c l .state)) e))
+          subst (λ x. Kept l (outcome tol c l) (x .lent)) (sym (closed ∙ ap (closing c l (outcome tol c l .state)) e))
           (record { stays-sound = s; map-left = sym stays; lengths-left = refl })
 
 -- ---- an accepted call
@@ -77,34 +77,74 @@ not-accepted r cs second e = let z : _≡_ {A = ℕ} 0 1 = cc in nothing z
     nothing z = omega arith
 
 finish-yields : (room : Room) (ls : Lists) (s : O.State) (cs : ChangeSet) (second : Option ℕ) (r : Res Edited) → O.finish room ls s r .answer ≡ O.accepted cs second
-    → (e : Edited) × (r ≡ yield e) × (O.finish room ls s r .state ≡ O.acceptedAs s e .state)
+    → (e : Edited) × (r ≡ yield e) × (O.finish room ls s r .state ≡ O.acceptedAs s e .state) × (fitsRoom room (e .result) ≡ true)
 finish-yields room ls s cs second (refuse r) a = absurd (not-accepted r cs second a)
-finish-yields room ls s cs second (yield e) a = go (leb (O.counterAfter (s .counter) (e .ids)) lastCounter) (fitsRoom room (e .result) && O.fitsLists ls (e .changes)) a
+finish-yields room ls s cs second (yield e) a =
+    go (leb (O.counterAfter (s .counter) (e .ids)) lastCounter) (fitsRoom room (e .result)) (O.fitsLists ls (e .changes)) refl a
   where
     ending : Bool → Bool → O.Outcome
     ending p q = cond p (cond q (O.acceptedAs s e) (O.refusedAs s NoRoom)) (O.refusedAs s NoIds)
 
-    go : (p q : Bool) → ending p q .answer ≡ O.accepted cs second
-        → (d : Edited) × (_≡_ {A = Res Edited} (yield e) (yield d)) × (ending p q .state ≡ O.acceptedAs s d .state)
-    go true true b = (e, refl, refl)
-    go true false b = absurd (not-accepted NoRoom cs second b)
-    go false q b = absurd (not-accepted NoIds cs second b)
+    go : (p f g : Bool) → fitsRoom room (e .result) ≡ f → ending p (f && g) .answer ≡ O.accepted cs second
+        → (d : Edited) × (_≡_ {A = Res Edited} (yield e) (yield d)) × (ending p (f && g) .state ≡ O.acceptedAs s d .state) × (fitsRoom room (d .result) ≡ true)
+    go true true true fits b = (e, refl, refl, fits)
+    go true true false fits b = absurd (not-accepted NoRoom cs second b)
+    go true false g fits b = absurd (not-accepted NoRoom cs second b)
+    go false f g fits b = absurd (not-accepted NoIds cs second b)
 
 module _ (tol : Tolerance) (c : O.Command) (l : Lent) (s : soundTables (l .counter) (l .tables) ≡ true) (cs : ChangeSet) (second : Option ℕ)
     (a : outcome tol c l .answer ≡ O.accepted cs second) where
   -- what it leaves
-  pub closed-accepted : step tol c l ≡ changing l (outcome tol c l .state) cs
-  closed-accepted = closed tol c l s ∙ ap (closing l (outcome tol c l .state)) a
+  pub closed-accepted : step tol c l ≡ changing c l (outcome tol c l .state) cs
+  closed-accepted = closed tol c l s ∙ ap (closing c l (outcome tol c l .state)) a
 
-  -- the edit behind it
+  -- the edit behind it, and that its result has room
   pub accepted-edit : (e : Edited) × (O.edit tol c (stateOf l) ≡ yield e) × (outcome tol c l .state ≡ O.acceptedAs (stateOf l) e .state)
+      × (fitsRoom (roomOf (l .tables)) (e .result) ≡ true)
   unfolding O.step
   accepted-edit =
       let finished : outcome tol c l ≡ O.finish (roomOf (l .tables)) (listsOf l) (stateOf l) (O.edit tol c (stateOf l)) =
       ap (λ b. cond b (O.finish (roomOf (l .tables)) (listsOf l) (stateOf l) (O.edit tol c (stateOf l))) (O.refusedAs (stateOf l) Unsound))
       (sound-map (l .counter) (l .tables) s) in
-      let (e, y, is) = finish-yields (roomOf (l .tables)) (listsOf l) (stateOf l) cs second (O.edit tol c (stateOf l)) (ap (λ o. o .answer) (sym finished) ∙ a) in
-      (e, y, ap (λ o. o .state) finished ∙ is)
+      let (e, y, is, fits) = finish-yields (roomOf (l .tables)) (listsOf l) (stateOf l) cs second (O.edit tol c (stateOf l)) (ap (λ o. o .answer) (sym finished) ∙ a) in
+      (e, y, ap (λ o. o .state) finished ∙ is, fits)
+
+-- ---- a command whose results can be written
+
+-- how a map is written to tables: `store` or `laid`
+abbrev pub Writing : Type 0
+Writing = Tables → Map → Tables
+
+-- Tables hold a map that is written to them: they are sound, what is read from them is that map, and their lengths stay.
+pub record Holds (w : Writing) (counter : ℕ) (t : Tables) (m : Map) : Type 0 where
+  pub stays-sound : soundTables counter (w t m) ≡ true
+  pub map-held : view (w t m) ≡ m
+  pub lengths-left : lengthsOf (w t m) ≡ lengthsOf t
+
+-- An edit's result can be written: if it is sound and has room, the tables hold it.
+abbrev pub Writable : Writing → ℕ → Tables → Edited → Type 0
+Writable w counter t e =
+    sound (O.counterAfter counter (e .ids)) (e .result) ≡ true → fitsRoom (roomOf t) (e .result) ≡ true → Holds w (O.counterAfter counter (e .ids)) t (e .result)
+
+-- of every edit of a command, on any sound memory
+abbrev pub Writes : Tolerance → O.Command → Type 0
+Writes tol c =
+    (counter : ℕ) (t : Tables) → soundTables counter t ≡ true → (e : Edited) → O.edit tol c (record { map = view t; counter = counter }) ≡ yield e
+    → Writable (stored c) counter t e
+
+-- A lawful command whose results can be written keeps lent memory.
+pub writes-keep : (tol : Tolerance) (c : O.Command) → Lawful tol c → Writes tol c → Keeps tol c
+writes-keep tol c law writes l s cs second a =
+    let (e, y, is, fits) = accepted-edit tol c l s cs second a in
+    let sane = subst (λ x. sound (x .counter) (x .map) ≡ true) is
+    (step-kept tol (roomOf (l .tables)) (callOf c l) (stateOf l) (sound-map (l .counter) (l .tables) s) law .sound-left) in
+    let held = writes (l .counter) (l .tables) s e y sane fits in
+    subst (λ x. Kept l (outcome tol c l) (x .lent)) (sym (closed-accepted tol c l s cs second a ∙ ap (λ x. changing c l x cs) is))
+    (record {
+      stays-sound = held .stays-sound;
+      map-left = ap (λ m. record { map = m; counter = O.counterAfter (l .counter) (e .ids) }) (held .map-held) ∙ sym is;
+      lengths-left = held .lengths-left;
+    })
 
 -- ---- every list of calls
 

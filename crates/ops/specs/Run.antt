@@ -59,7 +59,7 @@ heldAfter tol (c ∷ cs) h = heldAfter tol cs (heldIn (call tol h c .lent))
 unfoldable pub closings : List Lending → List O.Outcome → Held → List Ended
 closings [] os h = []
 closings (c ∷ cs) [] h = []
-closings (c ∷ cs) (o ∷ os) h = let e = closing (lend h c) (o .state) (o .answer) in e ∷ closings cs os (heldIn (e .lent))
+closings (c ∷ cs) (o ∷ os) h = let e = closing (c .command) (lend h c) (o .state) (o .answer) in e ∷ closings cs os (heldIn (e .lent))
 
 abbrev pub lengthsOf : Tables → List ℕ
 lengthsOf t =

@@ -14,12 +14,12 @@ use Rattle.lists.specs.Select.{each}
 use Rattle.lists.proofs.Booleans.{and-fst, and-snd}
 use Rattle.entities.specs.Types.{kindNumber, severityNumber, codeNumber, laneEntity}
 use Rattle.entities.specs.Records.{Issue}
-use Rattle.rules.specs.Names.{LaneKind, IssueCode, NoOp, Info, Warning}
+use Rattle.rules.specs.Names.{EntityKind, LaneKind, Severity, Warning, IssueCode}
 use Rattle.rules.specs.Edit.{warning, no-op}
-use Rattle.store.specs.Store.{writes}
+use Rattle.store.specs.Store.{flag, writes}
 use Rattle.report.specs.declared.Notice.{Notice}
 use Rattle.report.specs.declared.Notice.the-variants.{Nothing, NoOp as NoOpNotice, Pair}
-use Rattle.report.specs.Report.{issueOnto, warned, warnedAt, issues, fits}
+use Rattle.report.specs.Report.{issueOnto, warned, warnedAt, single, issues, fits}
 
 -- ---- a row's words
 
@@ -59,16 +59,17 @@ put-row w at l i h f =
     ap (λ z. stores z (at * 10) l) (sym (take-append-drop (at * 10) w))
     ∙ (ap (λ n. stores (a ++ r) n l) (sym e) ∙ (stores-in a r l ∙ ap (λ z. a ++ z) (f r k)))
 
-abbrev noOpStores : ℕ → ℕ → ℕ → ℕ → List (ℕ × ℕ)
-noOpStores s c k lane = (0, s) ∷ (1, c) ∷ (2, k) ∷ (3, lane) ∷ (4, 0) ∷ (9, 0) ∷ []
+abbrev singleStores : ℕ → ℕ → ℕ → ℕ → ℕ → List (ℕ × ℕ)
+singleStores s c k id f = (0, s) ∷ (1, c) ∷ (2, k) ∷ (3, id) ∷ (4, 0) ∷ (9, f) ∷ []
 
-pub no-op-put : (w : List ℕ) (at lane s c k : ℕ) → at * 10 + 10 ≤ length w → s ≡ severityNumber Info → c ≡ codeNumber NoOp → k ≡ kindNumber LaneKind
-    → stores w (at * 10) (noOpStores s c k lane) ≡ warnedAt at w (no-op lane ∷ [])
+pub single-put : (w : List ℕ) (at : ℕ) (severity : Severity) (code : IssueCode) (kind : EntityKind) (id : ℕ) (fix : Bool) (s c k f : ℕ) → at * 10 + 10 ≤ length w
+    → s ≡ severityNumber severity → c ≡ codeNumber code → k ≡ kindNumber kind → f ≡ flag fix
+    → stores w (at * 10) (singleStores s c k id f) ≡ warnedAt at w (single severity code kind id fix ∷ [])
 unfolding warned writes issueOnto over each
-no-op-put w at lane s c k h p q u =
-    rw (p, q, u)
-    (put-row w at (noOpStores 0 1 0 lane) (no-op lane) h
-    (by-words 10 (λ r. stores r 0 (noOpStores 0 1 0 lane) ≡ warned r (no-op lane ∷ [])) (λ x0 x1 x2 x3 x4 x5 x6 x7 x8 x9 rest. refl)))
+single-put w at severity code kind id fix s c k f h p q u v =
+    rw (p, q, u, v)
+    (put-row w at (singleStores (severityNumber severity) (codeNumber code) (kindNumber kind) id (flag fix)) (single severity code kind id fix) h
+    (by-words 10 (λ r. stores r 0 (singleStores (severityNumber severity) (codeNumber code) (kindNumber kind) id (flag fix)) ≡ warned r (single severity code kind id fix ∷ [])) (λ x0 x1 x2 x3 x4 x5 x6 x7 x8 x9 rest. refl)))
 
 abbrev pairStores : ℕ → ℕ → ℕ → ℕ → ℕ → ℕ → List (ℕ × ℕ)
 pairStores s c k lane j other = (0, s) ∷ (1, c) ∷ (2, k) ∷ (3, lane) ∷ (4, 1) ∷ (5, j) ∷ (6, other) ∷ (9, 0) ∷ []

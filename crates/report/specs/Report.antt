@@ -1,6 +1,6 @@
 -- A change set in the slices lent for it: design, "Answers".
 use Prim.Native.Nat.{ℕ, suc, _+_, _*_, _/_}
-use mathlib.Core.Bool.{Bool, _&&_}
+use mathlib.Core.Bool.{Bool, true, _&&_}
 use mathlib.Core.List.{List, [], _∷_, _++_}
 use mathlib.Core.Option.{Option, none, some}
 use lib.Dec.{leb}
@@ -9,7 +9,7 @@ use Rattle.lists.specs.Rows.{over}
 use Rattle.lists.specs.Select.{each}
 use Rattle.entities.specs.Types.{kindNumber, severityNumber, codeNumber, laneEntity, refusalNumber, refusalEntity}
 use Rattle.entities.specs.Records.{Issue, ChangeSet}
-use Rattle.rules.specs.Names.{EntityRef}
+use Rattle.rules.specs.Names.{EntityKind, EntityRef, RuleKind, Severity, Warning, IssueCode, OrphanRule}
 use Rattle.rules.specs.Edit.{warning, no-op}
 use Rattle.store.specs.Store.{flag, writes}
 use Rattle.report.specs.declared.Counts.{Counts}
@@ -62,6 +62,13 @@ abbrev pub issues : Notice → List Issue
 issues Nothing = []
 issues (NoOp l) = no-op l ∷ []
 issues (Pair code l other) = warning code (laneEntity l) (laneEntity other ∷ []) ∷ []
+
+-- a warning of one entity; of a rule that a removal leaves with no lane
+abbrev pub single : Severity → IssueCode → EntityKind → ℕ → Bool → Issue
+single severity code kind i fix = record { severity = severity; code = code; entity = record { kind = kind; id = i }; related = []; fix = fix }
+
+abbrev pub orphanRule : ℕ → Issue
+orphanRule i = single Warning OrphanRule RuleKind i true
 
 -- warnings written from row `at` on
 unfoldable pub warnedAt : ℕ → List ℕ → List Issue → List ℕ

@@ -9,6 +9,7 @@ ghost use Rattle.lists.specs.Select.{has, place, ascending};
 ghost use Rattle.rules.specs.Names.{LaneKind};
 ghost use Rattle.rules.specs.Edit as E;
 ghost use Rattle.report.specs.declared.Notice.the-variants as N;
+ghost use Rattle.store.specs.Store.{flag};
 ghost use Rattle.report.specs.Report as R;
 use entities::EntityKind;
 use entities::IssueCode;
@@ -17,9 +18,9 @@ use entities::Severity;
 use lists::both;
 
 // Words of an entity and of a warning in a lent list.
-const ENTITY: usize = 2;
+pub const ENTITY: usize = 2;
 
-const WARNING: usize = 10;
+pub const WARNING: usize = 10;
 
 // Words of a warning.
 const SEVERITY: usize = 0;
@@ -128,18 +129,36 @@ fn notice_count(notice: Notice) -> usize
     }
 }
 
-// The note that nothing was to do for a lane, in row `at`.
-fn put_no_op(warnings: &mut [u64], at: usize, lane: u64)
+// A mark for the removal fix.
+fn fix_mark(fix: bool) -> u64
+    ensures { λ r. ⌜ r ≡ flag fix ⌝ }
+{
+    if fix {
+        return 1;
+    }
+    0
+}
+
+// A warning of one entity, in row `at`.
+fn put_single(
+    warnings: &mut [u64],
+    at: usize,
+    severity: Severity,
+    code: IssueCode,
+    kind: EntityKind,
+    id: u64,
+    fix: bool,
+)
     requires { ⌜ at * 10 + 10 ≤ length (now warnings) ⌝ }
-    ensures { λ _. ⌜ now (warnings .exit) ≡ R.warnedAt at (now (warnings .entry)) (R.issues (N.NoOp lane)) ⌝ }
+    ensures { λ _. ⌜ now (warnings .exit) ≡ R.warnedAt at (now (warnings .entry)) (R.single severity code kind id fix ∷ []) ⌝ }
 {
     let row = at * WARNING;
-    warnings[row + SEVERITY] = Severity::Info.number();
-    warnings[row + CODE] = IssueCode::NoOp.number();
-    warnings[row + KIND] = EntityKind::Lane.number();
-    warnings[row + ID] = lane;
+    warnings[row + SEVERITY] = severity.number();
+    warnings[row + CODE] = code.number();
+    warnings[row + KIND] = kind.number();
+    warnings[row + ID] = id;
     warnings[row + RELATED] = 0;
-    warnings[row + FIX] = 0;
+    warnings[row + FIX] = fix_mark(fix);
 }
 
 // A warning of a lane and another, in row `at`.
@@ -158,6 +177,23 @@ fn put_pair(warnings: &mut [u64], at: usize, code: IssueCode, lane: u64, other: 
     warnings[row + FIX] = 0;
 }
 
+// The warning that a rule is left with no lane, in row `at`.
+pub fn put_orphan(warnings: &mut [u64], at: usize, rule: u64)
+    requires { ⌜ at * 10 + 10 ≤ length (now warnings) ⌝ }
+    ensures { λ _. ⌜ now (warnings .exit) ≡ R.warnedAt at (now (warnings .entry)) (R.orphanRule rule ∷ []) ⌝ }
+{
+    let rules = EntityKind::RegulatoryElement;
+    put_single(
+        warnings,
+        at,
+        Severity::Warning,
+        IssueCode::OrphanRule,
+        rules,
+        rule,
+        true,
+    );
+}
+
 fn put_notice(warnings: &mut [u64], at: usize, notice: Notice)
     requires { ⌜ (at + length (R.issues notice)) * 10 ≤ length (now warnings) ⌝ }
     ensures { λ _. ⌜ now (warnings .exit) ≡ R.warnedAt at (now (warnings .entry)) (R.issues notice) ⌝ }
@@ -165,7 +201,16 @@ fn put_notice(warnings: &mut [u64], at: usize, notice: Notice)
     match notice {
         Notice::Nothing => {}
         Notice::NoOp(lane) => {
-            put_no_op(warnings, at, lane);
+            let lanes = EntityKind::Lane;
+            put_single(
+                warnings,
+                at,
+                Severity::Info,
+                IssueCode::NoOp,
+                lanes,
+                lane,
+                false,
+            );
         }
         Notice::Pair(code, lane, other) => {
             put_pair(warnings, at, code, lane, other);

@@ -11,7 +11,7 @@ use lib.Seq.{length-take-le}
 use borrow.Author.Tests.{leb-true, le-leb, eqb-true, eq-eqb}
 use Rattle.lists.specs.Every.{all}
 use Rattle.lists.proofs.Every.{all-split}
-use Rattle.lists.proofs.Booleans.{and-both, and-fst, and-snd, same-test}
+use Rattle.lists.proofs.Booleans.{and-both, and-fst, and-snd, same-test, not-not}
 use Rattle.entities.specs.Records.{Rule}
 use Rattle.rules.specs.Sound.{handleWidth, optionalId, ruleNames, ruleLegal, hasContent, stopLinesFit, given}
 use Rattle.tables.specs.View.{word, idsAt, idsWhere, ruleOf}
@@ -42,10 +42,6 @@ crosswalk-named most true i = one (leb i most)
     one true = refl
     one false = refl
 crosswalk-named most false i = refl
-
-not-not : (b : Bool) → not (not b) ≡ b
-not-not true = refl
-not-not false = refl
 
 -- lists one after the other
 four : (p : ℕ → Bool) (a b c d : List ℕ) → all p (a ++ (b ++ (c ++ d))) ≡ (all p a && (all p b && (all p c && all p d)))

@@ -9,11 +9,11 @@ use lib.ListN.{length, getD, take, drop, length-append, length-drop, length-take
 use lib.Seq.{getD-drop, drop-drop, length-take-le, take-at, drop-at}
 use lib.Dec.{eqb, leb}
 use lib.Ieee.{Float}
-use borrow.Author.Tests.{eqb-true}
+use borrow.Author.Tests.{eqb-true, le-leb}
 use Rattle.lists.specs.Every.{all}
 use Rattle.lists.specs.Rows.{reads, over}
 use Rattle.lists.specs.Select.{keep, each, has}
-use Rattle.lists.proofs.Booleans.{and-fst, and-snd}
+use Rattle.lists.proofs.Booleans.{and-fst, and-snd, and-both}
 use Rattle.lists.proofs.Rows.{length-over}
 use Rattle.entities.specs.declared.BoundaryRef.{BoundaryRef}
 use Rattle.entities.specs.declared.Neighbor.{Neighbor}
@@ -23,7 +23,7 @@ use Rattle.entities.specs.Types.{same, opposing}
 use Rattle.entities.specs.Records.{Line, Lane, Boundary, Road, Junction, Rule, StopLine, Crosswalk, Map}
 use Rattle.rules.specs.Sound.{hasContent, stopLinesFit, given, ruleLegal}
 use Rattle.tables.specs.View.{Tables, word, idsAt, idsWhere, lineAt, optionLineAt, rows, view, laneOf, boundaryOf, roadOf, junctionOf, ruleOf}
-use Rattle.tables.specs.Formed.{laneFormed}
+use Rattle.tables.specs.Formed.{laneFormed, ruleFormed}
 use Rattle.store.proofs.Rows.{passing}
 use Rattle.store.proofs.Marks.{marks-formed}
 use Rattle.store.specs.Store.{flag, present, numberOr, directionMark, slotMark, slotLane, idsOnto, idsOr, laneOnto, boundaryOnto, roadOnto, junctionOnto, ruleOnto, writes, packed, storeRows, store}
@@ -66,6 +66,23 @@ or-length false w ids l h = length-take-le 65 w l
 where-back : (b : Bool) (k : ℕ) (w v ids rest : List ℕ) → (b ≡ false → ids ≡ []) → drop k w ≡ idsOr b v ids ++ rest → idsWhere b k w ≡ ids
 where-back true k w v ids rest n e = ids-back k w (take 64 (drop 1 v)) ids rest e
 where-back false k w v ids rest n e = sym (n refl)
+
+-- the count of a list that was written
+onto-count : (k : ℕ) (w p ids rest : List ℕ) → drop k w ≡ idsOnto p ids ++ rest → length ids ≤ 64 → leb (word k w) 64 ≡ true
+onto-count k w p ids rest e h =
+    let z : k + 0 ≡ k = omega arith in
+    let a : getD w k 0 ≡ length ids = ap (λ i. getD w i 0) (sym z) ∙ (sym (getD-drop k w 0 0) ∙ ap (λ x. getD x 0 0) e) in
+    le-leb (word k w) 64 (omega (arith, a, h))
+
+-- the counts of lists that the kind may lack, of one and of two
+or-one : (b : Bool) (k : ℕ) (w v ids rest : List ℕ) → drop k w ≡ idsOr (not b) v ids ++ rest → length ids ≤ 64 → (b || leb (word k w) 64) ≡ true
+or-one true k w v ids rest e h = refl
+or-one false k w v ids rest e h = onto-count k w (take 64 (drop 1 v)) ids rest e h
+
+or-two : (b : Bool) (j k : ℕ) (w u v is ks rest more : List ℕ) → drop j w ≡ idsOr b u is ++ rest → drop k w ≡ idsOr b v ks ++ more
+    → length is ≤ 64 → length ks ≤ 64 → (not b || (leb (word j w) 64 && leb (word k w) 64)) ≡ true
+or-two true j k w u v is ks rest more d e g h = and-both (leb (word j w) 64) (leb (word k w) 64) (onto-count j w (take 64 (drop 1 u)) is rest d g) (onto-count k w (take 64 (drop 1 v)) ks more e h)
+or-two false j k w u v is ks rest more d e g h = refl
 
 none-left : (ids : List ℕ) → eqb (length ids) 0 ≡ true → ids ≡ []
 none-left [] h = refl
@@ -209,6 +226,15 @@ junction-length w h j few =
     let a = onto-length p (j .lanes) 64 lp few in
     omega (arith, a)
 
+-- the counts of rows that were written
+pub road-formed : (w : List ℕ) (r : Road) → length (r .lanes) ≤ 64 → leb (word 3 (roadOnto w r)) 64 ≡ true
+unfolding roadOnto
+road-formed w r few = le-leb (length (r .lanes)) 64 few
+
+pub junction-formed : (w : List ℕ) (j : Junction) → length (j .lanes) ≤ 64 → leb (word 4 (junctionOnto w j)) 64 ≡ true
+unfolding junctionOnto
+junction-formed w j few = le-leb (length (j .lanes)) 64 few
+
 -- five lists of at most 64 ids
 pub record RuleFew (r : Rule) : Type 0 where
   pub lanes : length (r .lanes) ≤ 64
@@ -346,6 +372,18 @@ module _ (w : List ℕ) (h : length w ≡ 330) (r : Rule) (n : RuleFew r) where
       let d = length-append part4 part5 in
       omega (arith, a, b, c, d, len1, len2, len3, len4, len5)
 
+  -- the counts of a row that was written
+  pub rule-formed : ruleFormed (ruleOnto w r) ≡ true
+  unfolding ruleFormed ruleOnto
+  rule-formed =
+      let row = ruleOnto w r in
+      rw (
+        le-leb (length (r .lanes)) 64 (n .lanes),
+        onto-count 70 row p2 (r .controlled-crosswalks) (part3 ++ (part4 ++ part5)) from2 (n .crosswalks),
+        or-one (eqb (r .kind) 5) 135 row (drop 135 w) (r .stop-lines) (part4 ++ part5) from3 (n .stops),
+        or-two (eqb (r .kind) 3) 200 265 row (drop 200 w) (drop 265 w) (r .priority) (r .yielding) part5 [] from4 (from5 ∙ sym (append-nil part5)) (n .priority) (n .yielding),
+      )
+
 -- ---- tables
 
 -- each record fits the row of s words that it is written over, in the order in which `writes` goes
@@ -446,7 +484,7 @@ table-back : {R : Type 0} (s : ℕ) (onto : List ℕ → R → List ℕ) (dec : 
     → (key : R → ℕ) (t : List ℕ) (rs : List R) → TableFits R s key ok t rs → rows s dec (storeRows s onto key t rs) ≡ rs
 table-back s onto dec ok back key t rs f = rows-back s onto dec ok back key t rs (f .held) (f .room) (f .rows)
 
-map-fields : {l k : List Lane} {b d : List Boundary} {r s : List Road} {j i : List Junction} {u v : List Rule} {x y : List StopLine} {p q : List Crosswalk}
+pub map-fields : {l k : List Lane} {b d : List Boundary} {r s : List Road} {j i : List Junction} {u v : List Rule} {x y : List StopLine} {p q : List Crosswalk}
     → l ≡ k → b ≡ d → r ≡ s → j ≡ i → u ≡ v → x ≡ y → p ≡ q
     → _≡_ {A = Map} (record { lanes = l; boundaries = b; roads = r; junctions = j; rules = u; stop-lines = x; crosswalks = p })
     (record { lanes = k; boundaries = d; roads = s; junctions = i; rules = v; stop-lines = y; crosswalks = q })

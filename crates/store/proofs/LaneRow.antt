@@ -41,7 +41,7 @@ over-cons x n b ids =
     rw (z, y)
 
 -- behind a part a of known length stand a count and its slots b
-list-written : (a b c ids : List ℕ) (x k : ℕ) → length a ≡ k → length ids ≤ length b → setList k ids (a ++ (x ∷ b ++ c)) ≡ a ++ (idsOnto b ids ++ c)
+pub list-written : (a b c ids : List ℕ) (x k : ℕ) → length a ≡ k → length ids ≤ length b → setList k ids (a ++ (x ∷ b ++ c)) ≡ a ++ (idsOnto b ids ++ c)
 unfolding setList
 list-written a b c ids x k e h =
     let i : 0 + suc (length ids) ≤ suc (length b) = omega arith in

@@ -4,3 +4,8 @@ pub mod Marks
 pub mod LaneRow
 pub mod OtherRows
 pub mod Back
+pub mod Packing
+pub mod Lists
+pub mod Turns
+pub mod LaidRows
+pub mod LaidTables

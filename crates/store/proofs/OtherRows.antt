@@ -13,6 +13,7 @@ use lib.Ieee.{Float}
 use borrow.Author.Tests.{leb-true}
 use Rattle.lists.specs.Rows.{over}
 use Rattle.lists.proofs.Booleans.{and-fst, and-snd}
+use Rattle.lists.proofs.Rows.{over-itself}
 use Rattle.rules.specs.Sound.{hasContent}
 use Rattle.tables.specs.View.{word, idsAt, idsWhere, laneOf, boundaryOf, roadOf, junctionOf, ruleOf}
 use Rattle.tables.specs.Formed.{laneFormed, ruleFormed}
@@ -38,20 +39,14 @@ words-front (suc n) k w h =
     sym (drop-cons w k 0 i ∙ ap (λ z. getD w k 0 ∷ z) (sym (words-front n (suc k) w j) ∙ rw e))
 
 -- n words as they lie, and what follows
-part-front : (n k m : ℕ) (w : List ℕ) → k + n ≡ m → take n (drop k w) ++ drop m w ≡ drop k w
+pub part-front : (n k m : ℕ) (w : List ℕ) → k + n ≡ m → take n (drop k w) ++ drop m w ≡ drop k w
 part-front n k m w e = ap (λ z. take n (drop k w) ++ z) (ap (λ z. drop z w) (sym e) ∙ sym (drop-drop n k w)) ∙ take-append-drop n (drop k w)
 
 -- the last n words
-part-last : (n k : ℕ) (w : List ℕ) → length w ≡ k + n → take n (drop k w) ≡ drop k w
+pub part-last : (n k : ℕ) (w : List ℕ) → length w ≡ k + n → take n (drop k w) ≡ drop k w
 part-last n k w e = let h : length (drop k w) ≤ n = rw length-drop (omega arith) in take-all n (drop k w) h
 
 -- ---- lists of ids
-
-over-same : (b : List ℕ) (n : ℕ) → n ≤ length b → over b 0 (take n b) ≡ b
-unfolding over
-over-same b n h =
-    let z : 0 + n ≡ n = omega arith in
-    rw (length-take-le n b h, z, take-append-drop)
 
 -- a list in m slots, written where it was read
 module _ (m k : ℕ) (w : List ℕ) (few : word k w ≤ m) (room : suc k + m ≤ length w) where
@@ -64,12 +59,12 @@ module _ (m k : ℕ) (w : List ℕ) (few : word k w ≤ m) (room : suc k + m ≤
       let a : take (word k w) (take m (drop (suc k) w)) ≡ idsAt k w = take-take (word k w) m (drop (suc k) w) few in
       let l : length (take m (drop (suc k) w)) ≡ m = length-take-le m (drop (suc k) w) (rw length-drop (omega arith)) in
       let b : over (take m (drop (suc k) w)) 0 (idsAt k w) ≡ take m (drop (suc k) w) =
-      ap (over (take m (drop (suc k) w)) 0) (sym a) ∙ over-same (take m (drop (suc k) w)) (word k w) (rw l few) in
+      ap (over (take m (drop (suc k) w)) 0) (sym a) ∙ over-itself (take m (drop (suc k) w)) (word k w) (rw l few) in
       let c : take (suc m) (drop k w) ≡ word k w ∷ take m (drop (suc k) w) = ap (take (suc m)) (drop-cons w k 0 i) in
       rw (ids-length, b) (sym c)
 
 -- a list that the rule's kind may lack
-or-same : (b : Bool) (k : ℕ) (w : List ℕ) → (b ≡ true → word k w ≤ 64) → k + 65 ≤ length w → idsOr b (drop k w) (idsWhere b k w) ≡ take 65 (drop k w)
+pub or-same : (b : Bool) (k : ℕ) (w : List ℕ) → (b ≡ true → word k w ≤ 64) → k + 65 ≤ length w → idsOr b (drop k w) (idsWhere b k w) ≡ take 65 (drop k w)
 or-same false k w few room = refl
 or-same true k w few room =
     let j : suc k + 64 ≤ length w = omega arith in

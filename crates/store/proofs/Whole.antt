@@ -23,7 +23,7 @@ use Rattle.store.proofs.Rows.{passing, rows-written, rows-stay}
 
 -- ---- a list of rows, one after the other
 
-joined-rows : (s n : ℕ) (w : List ℕ) → each (λ r. r) (reads s (λ r. r) n w) ≡ take (n * s) w
+pub joined-rows : (s n : ℕ) (w : List ℕ) → each (λ r. r) (reads s (λ r. r) n w) ≡ take (n * s) w
 unfolding each reads
 joined-rows s zero w = rw zero-mul
 joined-rows s (suc n) w =
@@ -31,7 +31,7 @@ joined-rows s (suc n) w =
     rw (joined-rows s n (drop s w), ← take-add s (n * s) w, e)
 
 -- every element's key is among the keys
-all-keyed : {A : Type 0} (h : A → ℕ) (xs : List A) → all (λ x. has (h x) (map h xs)) xs ≡ true
+pub all-keyed : {A : Type 0} (h : A → ℕ) (xs : List A) → all (λ x. has (h x) (map h xs)) xs ≡ true
 unfolding all has
 all-keyed h [] = refl
 all-keyed h (x ∷ xs) =
@@ -42,13 +42,13 @@ all-keyed h (x ∷ xs) =
     either true = refl
     either false = refl
 
-same-reads : {B : Type 0} (s : ℕ) (f g : List ℕ → B) → ((r : List ℕ) → f r ≡ g r) → (n : ℕ) (w : List ℕ) → reads s f n w ≡ reads s g n w
+pub same-reads : {B : Type 0} (s : ℕ) (f g : List ℕ → B) → ((r : List ℕ) → f r ≡ g r) → (n : ℕ) (w : List ℕ) → reads s f n w ≡ reads s g n w
 unfolding reads
 same-reads s f g e zero w = refl
 same-reads s f g e (suc n) w = rw (e (take s w), same-reads s f g e n (drop s w))
 
 -- no row goes
-packed-all : (s n : ℕ) (w : List ℕ) → n * s ≤ length w → packed s (reads s (λ r. getD r 0 0) n w) n w ≡ w
+pub packed-all : (s n : ℕ) (w : List ℕ) → n * s ≤ length w → packed s (reads s (λ r. getD r 0 0) n w) n w ≡ w
 unfolding packed
 packed-all s n w h =
     let rs = reads s (λ r. r) n w in

@@ -1,13 +1,14 @@
 -- Rows of a table changed one by one, in words. Nothing that a host calls rests on this page.
 use Prim.Native.Nat.{ℕ, zero, suc}
-use mathlib.Core.Bool.{cond}
+use mathlib.Core.Bool.{Bool, not, _||_, cond}
 use mathlib.Core.List.{List, [], _∷_, _++_}
 use mathlib.Core.Option.{Option, none, some}
 use lib.Dec.{eqb}
 use lib.ListN.{length, take, drop}
 use Rattle.lists.specs.Rows.{over}
+use Rattle.lists.specs.Select.{keep, each}
 use Rattle.entities.specs.declared.Neighbor.{Neighbor}
-use Rattle.tables.specs.View.{word}
+use Rattle.tables.specs.View.{word, rows}
 use Rattle.store.specs.Store.{directionMark}
 
 -- the first n rows of s words, each changed by g; what lies behind them stays
@@ -15,9 +16,17 @@ unfoldable pub mapRows : ℕ → (List ℕ → List ℕ) → ℕ → List ℕ �
 mapRows s g zero w = w
 mapRows s g (suc n) w = g (take s w) ++ mapRows s g n (drop s w)
 
--- every row of the lane table changed by g
-unfoldable pub onRows : (List ℕ → List ℕ) → List ℕ → List ℕ
-onRows g t = word 0 t ∷ mapRows 52 g (word 0 t) (drop 1 t)
+-- every row of a table changed by g
+unfoldable pub onRows : ℕ → (List ℕ → List ℕ) → List ℕ → List ℕ
+onRows s g t = word 0 t ∷ mapRows s g (word 0 t) (drop 1 t)
+
+-- neither of two ids
+abbrev pub stays : ℕ → ℕ → ℕ → Bool
+stays a b i = not (eqb i a || eqb i b)
+
+-- the rows whose ids pass, with all their words, at the front of a table; what lies behind them stays
+unfoldable pub keptRows : ℕ → (ℕ → Bool) → List ℕ → List ℕ
+keptRows s q t = let rs = keep (λ r. q (word 0 r)) (rows s (λ r. r) t) in length rs ∷ over (drop 1 t) 0 (each (λ r. r) rs)
 
 -- a change of the row of lane `id`
 abbrev pub keyed : ℕ → (List ℕ → List ℕ) → List ℕ → List ℕ

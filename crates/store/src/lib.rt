@@ -1,1 +1,51 @@
-// How a map is written back into lent memory: definitions and their theorems, no code.
+// How a map is written back into lent memory: the definitions and their theorems, and the two moves of words that edits share.
+ghost use mathlib.Core.Path.{_≡_};
+ghost use mathlib.Core.Bool.{cond};
+ghost use Prim.Native.Nat.{_+_, _*_, _≤_, _<_};
+ghost use lib.ListN.{length, take, drop};
+ghost use Rattle.lists.specs.Rows.{over};
+ghost use Rattle.lists.specs.Select.{without};
+ghost use Rattle.tables.specs.View.{word, idsAt};
+ghost use Rattle.store.specs.Rows.{setList, stays, keptRows};
+use lists::both;
+
+// An id taken out of the list at place k of a row, wherever it stands there.
+pub fn forget(row: &mut [u64], k: usize, id: u64)
+    requires { ⌜ k + 1 + word k (now row) ≤ length (now row) ⌝ }
+    ensures { λ _. ⌜ now (row .exit) ≡ setList k (without id (idsAt k (now (row .entry)))) (now (row .entry)) ⌝ }
+{
+    let n = row[k] as usize;
+    let from = k + 1;
+    let to = from + n;
+    let left = lists::remove(&mut row[from..to], n, id);
+    row[k] = left as u64;
+}
+
+// Row i moved down to row `kept`, unless its id is one of two; how many rows are kept then.
+fn keep_row(t: &mut [u64], s: usize, a: u64, b: u64, i: usize, kept: usize) -> usize
+    requires { ⌜ (0 < s) × ((1 + i * s + s ≤ length (now t)) × (kept ≤ i)) ⌝ }
+    ensures { λ r. ⌜ (r ≡ cond (stays a b (word (1 + i * s) (now (t .entry)))) (kept + 1) kept) × (now (t .exit) ≡ cond (stays a b (word (1 + i * s) (now (t .entry)))) (over (now (t .entry)) (1 + kept * s) (take s (drop (1 + i * s) (now (t .entry))))) (now (t .entry))) ⌝ }
+{
+    let from = 1 + i * s;
+    let id = t[from];
+    if both(id != a, id != b) {
+        lists::move_down(t, 1 + kept * s, from, s);
+        return kept + 1;
+    }
+    kept
+}
+
+// The rows with neither of two ids, moved to the front of a table; what lies behind them stays.
+pub fn keep_rows(t: &mut [u64], s: usize, a: u64, b: u64)
+    requires { ⌜ (0 < s) × (1 + word 0 (now t) * s ≤ length (now t)) ⌝ }
+    ensures { λ _. ⌜ now (t .exit) ≡ keptRows s (stays a b) (now (t .entry)) ⌝ }
+{
+    let n = t[0] as usize;
+    let mut i = 0;
+    let mut kept = 0;
+    while i < n {
+        kept = keep_row(t, s, a, b, i, kept);
+        i += 1;
+    }
+    t[0] = kept as u64;
+}

@@ -132,7 +132,7 @@ module _ (t : List ℕ) (h : searchable t ≡ true) (i j : ℕ) (li : i < word 0
   first-keeps = keyed-keeps a (setList 35 qs) (list-keeps 35 qs (inr refl) few-after)
 
   -- the table after the first list
-  pub first-list : over t (1 + i * 52 + 35) (linkWords qs) ≡ onRows (keyed a (setList 35 qs)) t
+  pub first-list : over t (1 + i * 52 + 35) (linkWords qs) ≡ onRows 52 (keyed a (setList 35 qs)) t
   unfolding setList
   first-list =
       let r = lane-room t h i li in
@@ -140,7 +140,7 @@ module _ (t : List ℕ) (h : searchable t ≡ true) (i j : ℕ) (li : i < word 0
       over-row t i 35 (linkWords qs) r (omega arith) ∙ sym (one-lane t h (setList 35 qs) i li (list-keeps 35 qs (inr refl) few-after (laneAt t i) n (row-formed t h i li) .0))
 
   abbrev written : List ℕ
-  written = onRows (keyed a (setList 35 qs)) t
+  written = onRows 52 (keyed a (setList 35 qs)) t
 
   pub first-kept : searchable written ≡ true
   first-kept = lanes-kept t h (keyed a (setList 35 qs)) first-keeps
@@ -168,7 +168,7 @@ module _ (t : List ℕ) (h : searchable t ≡ true) (i j : ℕ) (li : i < word 0
       ∙ first-keeps w (row-words t j (lane-room t h j lj)) (row-formed t h j lj) .1 .1
 
   -- the table after the second list
-  second-list : over written (1 + j * 52 + 18) (linkWords ps) ≡ onRows (keyed b (setList 18 ps)) written
+  second-list : over written (1 + j * 52 + 18) (linkWords ps) ≡ onRows 52 (keyed b (setList 18 ps)) written
   unfolding setList
   second-list =
       let l : j < word 0 written = rw first-count lj in
@@ -176,7 +176,7 @@ module _ (t : List ℕ) (h : searchable t ≡ true) (i j : ℕ) (li : i < word 0
       let n = row-words written j r in
       over-row written j 18 (linkWords ps) r (omega arith)
       ∙ (sym (one-lane written first-kept (setList 18 ps) j l (list-keeps 18 ps (inl refl) few-before (laneAt written j) n (row-formed written first-kept j l) .0))
-      ∙ ap (λ z. onRows (keyed z (setList 18 ps)) written) second-id)
+      ∙ ap (λ z. onRows 52 (keyed z (setList 18 ps)) written) second-id)
 
   -- one row
   module _ (k : ℕ) (l : k < word 0 t) where
@@ -262,7 +262,7 @@ module _ (t : List ℕ) (h : searchable t ≡ true) (i j : ℕ) (li : i < word 0
   both-read f g m n t1 t2 e q =
       let u = f (idAt t j) in
       let v = g (idAt t i) in
-      let r = onRows (keyed (idAt t i) (setList 35 (u (linksAt t i 35)))) t in
+      let r = onRows 52 (keyed (idAt t i) (setList 35 (u (linksAt t i 35)))) t in
       let one : t1 ≡ r = e ∙ (ap (λ z. over t (1 + i * 52 + 35) (linkWords (f z (linksAt t i 35)))) (id-at t j) ∙ first-list t h i j li lj u v m n) in
       let two : t2 ≡ over r (1 + j * 52 + 18) (linkWords (v (linksAt r j 18))) = q ∙ (ap (λ z. over t1 (1 + j * 52 + 18) (linkWords (g z (linksAt t1 j 18)))) (id-at t i) ∙ ap (λ z. over z (1 + j * 52 + 18) (linkWords (v (linksAt z j 18)))) one) in (
         (rw one (first-kept t h i j li lj u v m n), (rw (one, first-count t h i j li lj u v m n) lj, rw one (second-links t h i j li lj u v m n))),

@@ -16,55 +16,13 @@ use Rattle.lists.specs.Select.{has, place, without, keep, ascending}
 use Rattle.lists.proofs.Rows.{drop-front, over-part, length-over, store-before, drop-take}
 use Rattle.lists.proofs.Place.{length-place}
 use Rattle.lists.proofs.Select.{length-keep}
+use Rattle.store.proofs.Lists.{list-room, list-put}
 use Rattle.tables.specs.View.{word, idsAt}
 use Rattle.map.specs.Returned.{searchable, laneAt}
 use Rattle.map.proofs.Lanes.{lane-room, word-at, ids-at, links-within, row-formed}
 use Rattle.map.proofs.Formed.{lane-before, lane-after}
 use Rattle.topology.specs.Topology.{linksAt, linkWords, Open}
 use Rattle.topology.proofs.Table.{links-room}
-
--- ids written over the n slots behind a count, and the count
-slots-again : (t ids : List ℕ) (a x n : ℕ) → a + 1 + n ≤ length t → length ids ≤ n → over t a (x ∷ over (take n (drop (a + 1) t)) 0 ids) ≡ over t a (x ∷ ids)
-unfolding over
-slots-again t ids a x n r h =
-    let z : 0 + length ids ≡ length ids = omega arith in
-    let w = drop (a + 1) t in
-    let s = take n w in
-    let l : length s ≡ n = length-take-le n w (rw length-drop (omega arith)) in
-    let v : length (ids ++ drop (0 + length ids) s) ≡ n = length-over s 0 ids (rw l (omega arith)) ∙ l in
-    let behind : drop (a + suc n) t ≡ drop n w = let e : a + suc n ≡ a + 1 + n = omega arith in rw (e, drop-drop) in
-    let after : drop (a + suc (length ids)) t ≡ drop (length ids) w = let e : a + suc (length ids) ≡ a + 1 + length ids = omega arith in rw (e, drop-drop) in
-    let whole : drop (length ids) s ++ drop n w ≡ drop (length ids) w = sym (drop-front (length ids) s (drop n w) (rw l h)) ∙ ap (drop (length ids)) (take-append-drop n w) in
-    ap (λ k. take a t ++ (x ∷ (ids ++ drop (0 + length ids) s) ++ drop (a + suc k) t)) v
-    ∙ rw (behind, after, z) (ap (λ k. take a t ++ (x ∷ k)) (append-assoc ids (drop (length ids) s) (drop n w) ∙ ap (λ k. ids ++ k) whole))
-
--- a part put back
-put-over : (t v : List ℕ) (a e : ℕ) → a + length v ≡ e → a ≤ e → putMid a (e - a) t v ≡ over t a v
-unfolding over
-put-over t v a e q h = rw (post-is a e t h, q)
-
--- the part with its slots put back, and the count stored
-module _ (t v ids : List ℕ) (a : ℕ) (r : a + 17 ≤ length t) (h : length ids ≤ 16) (e : v ≡ over (midOf (a + 1) (a + 1 + 16 - (a + 1)) t) 0 ids) where
-  slots-are : v ≡ over (take 16 (drop (a + 1) t)) 0 ids
-  slots-are = let n : a + 1 + 16 - (a + 1) ≡ 16 = omega arith in e ∙ ap (λ k. over (take k (drop (a + 1) t)) 0 ids) n
-
-  slots-many : length v ≡ 16
-  slots-many =
-      let q : length (take 16 (drop (a + 1) t)) ≡ 16 = length-take-le 16 (drop (a + 1) t) (rw length-drop (omega arith)) in
-      ap length slots-are ∙ (length-over (take 16 (drop (a + 1) t)) 0 ids (rw q (omega arith)) ∙ q)
-
-  slots-put : putMid (a + 1) (a + 1 + 16 - (a + 1)) t v ≡ over t (a + 1) v
-  slots-put = put-over t v (a + 1) (a + 1 + 16) (omega (arith, slots-many)) (omega arith)
-
-  pub list-room : a < length (putMid (a + 1) (a + 1 + 16 - (a + 1)) t v)
-  list-room =
-      let l : length (over t (a + 1) v) ≡ length t = length-over t (a + 1) v (omega (arith, slots-many)) in
-      rw (slots-put, l) (omega arith)
-
-  pub list-put : (x : ℕ) → set (putMid (a + 1) (a + 1 + 16 - (a + 1)) t v) a x ≡ over t a (x ∷ ids)
-  list-put x =
-      ap (λ z. set z a x) slots-put
-      ∙ (store-before t a v x (omega (arith, slots-many)) ∙ (ap (λ z. over t a (x ∷ z)) slots-are ∙ slots-again t ids a x 16 (omega arith) h))
 
 -- a count is at most 16
 list-few : (t : List ℕ) (h : searchable t ≡ true) (i k : ℕ) → i < word 0 t → (k ≡ 18) ⊎ (k ≡ 35) → getD t (1 + i * 52 + k) 0 ≤ 16
@@ -109,6 +67,9 @@ module _ (t : List ℕ) (h : searchable t ≡ true) (i k : ℕ) (l : i < word 0 
   abbrev slots : List ℕ
   slots = midOf (1 + i * 52 + k + 1) (1 + i * 52 + k + 1 + 16 - (1 + i * 52 + k + 1)) t
 
+  room : 1 + i * 52 + k + 1 + 16 ≤ length t
+  room = omega (arith, links-room t h i k l e)
+
   many : length slots ≡ 16
   many =
       let f : 1 + i * 52 + k + 1 + 16 - (1 + i * 52 + k + 1) ≡ 16 = omega arith in
@@ -134,8 +95,8 @@ module _ (t : List ℕ) (h : searchable t ≡ true) (i k : ℕ) (l : i < word 0 
       let w : v ≡ over slots 0 ids = f ∙ ap (λ z. over slots 0 (place id z)) p in
       let x : n + 1 ≡ length ids = omega (arith, q .0) in
       let s : length ids ≤ 16 = omega (arith, o .0) in (
-        list-room t v ids (1 + i * 52 + k) (links-room t h i k l e) s w,
-        list-put t v ids (1 + i * 52 + k) (links-room t h i k l e) s w (n + 1) ∙ ap (λ z. over t (1 + i * 52 + k) (z ∷ ids)) x,
+        list-room t v ids (1 + i * 52 + k) 16 room s w,
+        list-put t v ids (1 + i * 52 + k) 16 room s w (n + 1) ∙ ap (λ z. over t (1 + i * 52 + k) (z ∷ ids)) x,
       )
 
   pub remove-leaves : (id r : ℕ) (v : List ℕ) → r ≡ length (without id (take n slots)) → v ≡ over slots 0 (without id (take n slots))
@@ -150,6 +111,6 @@ module _ (t : List ℕ) (h : searchable t ≡ true) (i k : ℕ) (l : i < word 0 
       let x : r ≡ length ids = c ∙ ap (λ z. length (without id z)) p in
       let y = length-keep (λ y. not (eqb id y)) (linksAt t i k) in
       let s : length ids ≤ 16 = omega (arith, y, q .1) in (
-        list-room t v ids (1 + i * 52 + k) (links-room t h i k l e) s w,
-        list-put t v ids (1 + i * 52 + k) (links-room t h i k l e) s w r ∙ ap (λ z. over t (1 + i * 52 + k) (z ∷ ids)) x,
+        list-room t v ids (1 + i * 52 + k) 16 room s w,
+        list-put t v ids (1 + i * 52 + k) 16 room s w r ∙ ap (λ z. over t (1 + i * 52 + k) (z ∷ ids)) x,
       )

@@ -314,7 +314,7 @@ module _ (t : List ℕ) (h : searchable t ≡ true) where
   slot-room i l side p e = omega (arith, lane-room t h i l, slot-small side)
 
   slot-stored : (i : ℕ) → i < word 0 t → (side : Side) (v : Option Neighbor)
-      → over t (1 + i * 52 + slotPlace side) (slotWords v) ≡ onRows (keyed (idAt t i) (setSlot (slotPlace side) v)) t
+      → over t (1 + i * 52 + slotPlace side) (slotWords v) ≡ onRows 52 (keyed (idAt t i) (setSlot (slotPlace side) v)) t
   slot-stored i l side v =
       let r = lane-room t h i l in
       let n = row-words t i r in
@@ -326,13 +326,13 @@ module _ (t : List ℕ) (h : searchable t ≡ true) where
       named w = unfold setSlot in refl
 
   pub slot-freed : (i : ℕ) → i < word 0 t → (side : Side) (p : ℕ) → p ≡ slotPlace side
-      → set t (1 + i * 52 + p) 0 ≡ onRows (keyed (idAt t i) (setSlot (slotPlace side) none)) t
+      → set t (1 + i * 52 + p) 0 ≡ onRows 52 (keyed (idAt t i) (setSlot (slotPlace side) none)) t
   slot-freed i l side p e =
       one-store t (1 + i * 52 + p) 0 (omega (arith, slot-room i l side p e))
       ∙ (ap (λ k. over t (1 + i * 52 + k) (0 ∷ [])) e ∙ slot-stored i l side none)
 
   pub slot-put : (i : ℕ) → i < word 0 t → (side : Side) (p : ℕ) → p ≡ slotPlace side → (n : Neighbor) (x : ℕ) → x ≡ directionMark (n .direction)
-      → set (set t (1 + i * 52 + p) x) (1 + i * 52 + p + 1) (n .lane) ≡ onRows (keyed (idAt t i) (setSlot (slotPlace side) (some n))) t
+      → set (set t (1 + i * 52 + p) x) (1 + i * 52 + p + 1) (n .lane) ≡ onRows 52 (keyed (idAt t i) (setSlot (slotPlace side) (some n))) t
   slot-put i l side p e n x q =
       two-stores t (1 + i * 52 + p) x (n .lane) (slot-room i l side p e)
       ∙ (ap (λ k. over t (1 + i * 52 + k) (x ∷ n .lane ∷ [])) e
@@ -340,7 +340,7 @@ module _ (t : List ℕ) (h : searchable t ≡ true) where
 
   -- ---- free_answer
 
-  rows-same : onRows (λ w. w) t ≡ t
+  rows-same : onRows 52 (λ w. w) t ≡ t
   unfolding onRows
   rows-same =
       ap (λ z. word 0 t ∷ z) (rows-stay 52 laneFormed (λ w. w) (λ r l q. refl) (word 0 t) (drop 1 t) (lanes-room t h) (all-formed t h))
@@ -359,30 +359,30 @@ module _ (t : List ℕ) (h : searchable t ≡ true) where
       lost j z = let f : _≡_ {A = ℕ} 0 1 = cc in omega arith
 
   module _ (side : Side) (held : OptionNeighbor) where
-    pub freed-none : held ≡ None → t ≡ onRows (freedBy side held) t
-    freed-none e = sym (ap (λ x. onRows (freedBy side x) t) e ∙ rows-same)
+    pub freed-none : held ≡ None → t ≡ onRows 52 (freedBy side held) t
+    freed-none e = sym (ap (λ x. onRows 52 (freedBy side x) t) e ∙ rows-same)
 
     module _ (n : Neighbor) (e : held ≡ Some n) where
       abbrev r : Side
       r = reciprocal-side side (n .direction)
 
-      pub freed-lost : placeOf 52 t (n .lane) ≡ Nothing → t ≡ onRows (freedBy side held) t
+      pub freed-lost : placeOf 52 t (n .lane) ≡ Nothing → t ≡ onRows 52 (freedBy side held) t
       freed-lost q =
-          sym (ap (λ x. onRows (freedBy side x) t) e
+          sym (ap (λ x. onRows 52 (freedBy side x) t) e
           ∙ (lanes-agree-at t h (keyed (n .lane) (setSlot (slotPlace r) none)) (λ w. w) (λ j l. ap (λ b. cond b (setSlot (slotPlace r) none (laneAt t j)) (laneAt t j)) (ne-eqb (idAt t j) (n .lane) (not-there (n .lane) j q l))) ∙ rows-same))
 
       module _ (j : ℕ) (q : placeOf 52 t (n .lane) ≡ At j) where
         pub found-row : j < word 0 t
         found-row = place-within 52 t (n .lane) j q
 
-        pub freed-at : (p : ℕ) → p ≡ slotPlace r → set t (1 + j * 52 + p) 0 ≡ onRows (freedBy side held) t
+        pub freed-at : (p : ℕ) → p ≡ slotPlace r → set t (1 + j * 52 + p) 0 ≡ onRows 52 (freedBy side held) t
         freed-at p f =
             slot-freed j found-row r p f
-            ∙ (ap (λ z. onRows (keyed z (setSlot (slotPlace r) none)) t) (place-id 52 t (n .lane) j q) ∙ sym (ap (λ x. onRows (freedBy side x) t) e))
+            ∙ (ap (λ z. onRows 52 (keyed z (setSlot (slotPlace r) none)) t) (place-id 52 t (n .lane) j q) ∙ sym (ap (λ x. onRows 52 (freedBy side x) t) e))
 
 -- ---- one change of rows after another
 
-module _ (t : List ℕ) (h : searchable t ≡ true) (g : List ℕ → List ℕ) (k : Keeps g) (u : List ℕ) (e : u ≡ onRows g t) where
+module _ (t : List ℕ) (h : searchable t ≡ true) (g : List ℕ → List ℕ) (k : Keeps g) (u : List ℕ) (e : u ≡ onRows 52 g t) where
   changed-search : searchable u ≡ true
   changed-search = ap searchable e ∙ lanes-kept t h g k
 
@@ -398,13 +398,13 @@ module _ (t : List ℕ) (h : searchable t ≡ true) (g : List ℕ → List ℕ) 
       ap (λ z. idAt z i) e
       ∙ (ap (word 0) (lane-changed t h g k i l) ∙ k (laneAt t i) (row-words t i (lane-room t h i l)) (row-formed t h i l) .1 .1)
 
-  changed-next : (f : List ℕ → List ℕ) (v : List ℕ) → v ≡ onRows f u → v ≡ onRows (λ w. f (g w)) t
-  changed-next f v q = q ∙ (ap (onRows f) e ∙ lanes-twice t h g f k)
+  changed-next : (f : List ℕ → List ℕ) (v : List ℕ) → v ≡ onRows 52 f u → v ≡ onRows 52 (λ w. f (g w)) t
+  changed-next f v q = q ∙ (ap (onRows 52 f) e ∙ lanes-twice t h g f k)
 
 -- ---- clear_slot
 
 module _ (t : List ℕ) (h : searchable t ≡ true) (i : ℕ) (li : i < word 0 t) (side : Side) (old : OptionNeighbor) (eo : old ≡ optional (slotHeld t i side))
-    (t1 : List ℕ) (e1 : t1 ≡ onRows (freedBy side old) t) where
+    (t1 : List ℕ) (e1 : t1 ≡ onRows 52 (freedBy side old) t) where
   pub clear-search : searchable t1 ≡ true
   clear-search = changed-search t h (freedBy side old) (freed-keeps side old) t1 e1
 
@@ -419,9 +419,9 @@ module _ (t : List ℕ) (h : searchable t ≡ true) (i : ℕ) (li : i < word 0 t
       let k = freed-keeps side old in
       let f = slotAfter a side none (slotHeld t i side) none in
       slot-freed t1 clear-search i clear-within side p e
-      ∙ (ap (λ z. onRows (keyed z free) t1) (changed-id t h (freedBy side old) k t1 e1 i li)
-      ∙ (changed-next t h (freedBy side old) k t1 e1 (keyed a free) (onRows (keyed a free) t1) refl
-      ∙ (ap (λ x. onRows (λ w. keyed a free (freedBy side x w)) t) eo
+      ∙ (ap (λ z. onRows 52 (keyed z free) t1) (changed-id t h (freedBy side old) k t1 e1 i li)
+      ∙ (changed-next t h (freedBy side old) k t1 e1 (keyed a free) (onRows 52 (keyed a free) t1) refl
+      ∙ (ap (λ x. onRows 52 (λ w. keyed a free (freedBy side x w)) t) eo
       ∙ (lanes-agree t h (λ w. keyed a free (freedBy side (optional (slotHeld t i side)) w)) (λ w. laneOnto w (reslotted f (laneOf [] w))) (λ w l q. row-cleared w l q a side (slotHeld t i side))
       ∙ sym (lanes-changed t h (reslotted f) (λ l. refl))))))
 
@@ -456,43 +456,43 @@ module _ (t : List ℕ) (h : searchable t ≡ true) (i j : ℕ) (li : i < word 0
   k3 : Keeps g3
   k3 = keeps-twice g2 (keyed (idAt t i) (setSlot (slotPlace side) (some to))) k2 (keyed-keeps (idAt t i) (setSlot (slotPlace side) (some to)) (slot-keeps side (some to)))
 
-  module _ (t1 : List ℕ) (e1 : t1 ≡ onRows (freedBy side old) t) where
+  module _ (t1 : List ℕ) (e1 : t1 ≡ onRows 52 (freedBy side old) t) where
     pub set-search1 : searchable t1 ≡ true
     set-search1 = changed-search t h g1 k1 t1 e1
 
-    module _ (t2 : List ℕ) (e2 : t2 ≡ onRows (freedBy ans other) t1) where
-      at2 : t2 ≡ onRows g2 t
+    module _ (t2 : List ℕ) (e2 : t2 ≡ onRows 52 (freedBy ans other) t1) where
+      at2 : t2 ≡ onRows 52 g2 t
       at2 = changed-next t h g1 k1 t1 e1 (freedBy ans other) t2 e2
 
       pub set-may2 : (searchable t2 ≡ true) × (i < word 0 t2)
       set-may2 = (changed-search t h g2 k2 t2 at2, changed-within t h g2 k2 t2 at2 i li)
 
-      module _ (t3 : List ℕ) (e3 : t3 ≡ onRows (keyed (idAt t2 i) (setSlot (slotPlace side) (some (record { lane = getD t (1 + j * 52) 0; direction = d })))) t2) where
-        at3 : t3 ≡ onRows g3 t
+      module _ (t3 : List ℕ) (e3 : t3 ≡ onRows 52 (keyed (idAt t2 i) (setSlot (slotPlace side) (some (record { lane = getD t (1 + j * 52) 0; direction = d })))) t2) where
+        at3 : t3 ≡ onRows 52 g3 t
         at3 =
             changed-next t h g2 k2 t2 at2 (keyed (idAt t i) (setSlot (slotPlace side) (some to))) t3
             (e3
-            ∙ (ap (λ z. onRows (keyed z (setSlot (slotPlace side) (some (record { lane = getD t (1 + j * 52) 0; direction = d })))) t2) (changed-id t h g2 k2 t2 at2 i li)
-            ∙ ap (λ z. onRows (keyed (idAt t i) (setSlot (slotPlace side) (some (record { lane = z; direction = d })))) t2) (id-at t j)))
+            ∙ (ap (λ z. onRows 52 (keyed z (setSlot (slotPlace side) (some (record { lane = getD t (1 + j * 52) 0; direction = d })))) t2) (changed-id t h g2 k2 t2 at2 i li)
+            ∙ ap (λ z. onRows 52 (keyed (idAt t i) (setSlot (slotPlace side) (some (record { lane = z; direction = d })))) t2) (id-at t j)))
 
         pub set-may3 : (searchable t3 ≡ true) × (j < word 0 t3)
         set-may3 = (changed-search t h g3 k3 t3 at3, changed-within t h g3 k3 t3 at3 j lj)
 
-        module _ (t4 : List ℕ) (e4 : t4 ≡ onRows (keyed (idAt t3 j) (setSlot (slotPlace ans) (some (record { lane = getD t (1 + i * 52) 0; direction = d })))) t3) where
-          at4 : t4 ≡ onRows g4 t
+        module _ (t4 : List ℕ) (e4 : t4 ≡ onRows 52 (keyed (idAt t3 j) (setSlot (slotPlace ans) (some (record { lane = getD t (1 + i * 52) 0; direction = d })))) t3) where
+          at4 : t4 ≡ onRows 52 g4 t
           at4 =
               changed-next t h g3 k3 t3 at3 (keyed (idAt t j) (setSlot (slotPlace ans) (some from))) t4
               (e4
-              ∙ (ap (λ z. onRows (keyed z (setSlot (slotPlace ans) (some (record { lane = getD t (1 + i * 52) 0; direction = d })))) t3) (changed-id t h g3 k3 t3 at3 j lj)
-              ∙ ap (λ z. onRows (keyed (idAt t j) (setSlot (slotPlace ans) (some (record { lane = z; direction = d })))) t3) (id-at t i)))
+              ∙ (ap (λ z. onRows 52 (keyed z (setSlot (slotPlace ans) (some (record { lane = getD t (1 + i * 52) 0; direction = d })))) t3) (changed-id t h g3 k3 t3 at3 j lj)
+              ∙ ap (λ z. onRows 52 (keyed (idAt t j) (setSlot (slotPlace ans) (some (record { lane = z; direction = d })))) t3) (id-at t i)))
 
           -- the changes in terms of the records
-          told : onRows g4 t
-              ≡ onRows (λ w. keyed (idAt t j) (setSlot (slotPlace (reciprocal-side side d)) (some from)) (keyed (idAt t i) (setSlot (slotPlace side) (some to)) (freedBy (reciprocal-side side d) (optional (slotHeld t j (reciprocal-side side d))) (freedBy side (optional (slotHeld t i side)) w)))) t
+          told : onRows 52 g4 t
+              ≡ onRows 52 (λ w. keyed (idAt t j) (setSlot (slotPlace (reciprocal-side side d)) (some from)) (keyed (idAt t i) (setSlot (slotPlace side) (some to)) (freedBy (reciprocal-side side d) (optional (slotHeld t j (reciprocal-side side d))) (freedBy side (optional (slotHeld t i side)) w)))) t
           told =
-              ap (λ x. onRows (λ w. keyed (idAt t j) (setSlot (slotPlace ans) (some from)) (keyed (idAt t i) (setSlot (slotPlace side) (some to)) (freedBy ans other (freedBy side x w)))) t) eo
-              ∙ (ap (λ x. onRows (λ w. keyed (idAt t j) (setSlot (slotPlace ans) (some from)) (keyed (idAt t i) (setSlot (slotPlace side) (some to)) (freedBy ans x (freedBy side (optional (slotHeld t i side)) w)))) t) er
-              ∙ ap (λ x. onRows (λ w. keyed (idAt t j) (setSlot (slotPlace x) (some from)) (keyed (idAt t i) (setSlot (slotPlace side) (some to)) (freedBy x (optional (slotHeld t j x)) (freedBy side (optional (slotHeld t i side)) w)))) t) ea)
+              ap (λ x. onRows 52 (λ w. keyed (idAt t j) (setSlot (slotPlace ans) (some from)) (keyed (idAt t i) (setSlot (slotPlace side) (some to)) (freedBy ans other (freedBy side x w)))) t) eo
+              ∙ (ap (λ x. onRows 52 (λ w. keyed (idAt t j) (setSlot (slotPlace ans) (some from)) (keyed (idAt t i) (setSlot (slotPlace side) (some to)) (freedBy ans x (freedBy side (optional (slotHeld t i side)) w)))) t) er
+              ∙ ap (λ x. onRows 52 (λ w. keyed (idAt t j) (setSlot (slotPlace x) (some from)) (keyed (idAt t i) (setSlot (slotPlace side) (some to)) (freedBy x (optional (slotHeld t j x)) (freedBy side (optional (slotHeld t i side)) w)))) t) ea)
 
           pub set-both : t4 ≡ lanesChanged (reslotted (slotAfter (idAt t i) side (some to) (slotHeld t i side) (slotHeld t j (reciprocal-side side d)))) t
           set-both =

@@ -104,33 +104,33 @@ module _ (t : List ℕ) (h : searchable t ≡ true) where
   all-formed = lanes-formed t h
 
   -- changes that agree on formed rows
-  pub lanes-agree : (f g : List ℕ → List ℕ) → ((w : List ℕ) → length w ≡ 52 → laneFormed w ≡ true → f w ≡ g w) → onRows f t ≡ onRows g t
+  pub lanes-agree : (f g : List ℕ → List ℕ) → ((w : List ℕ) → length w ≡ 52 → laneFormed w ≡ true → f w ≡ g w) → onRows 52 f t ≡ onRows 52 g t
   unfolding onRows
   lanes-agree f g e = ap (λ z. word 0 t ∷ z) (rows-agree 52 laneFormed f g e (word 0 t) (drop 1 t) (lanes-room t h) all-formed)
 
   -- changes that agree on every row there is
-  pub lanes-agree-at : (f g : List ℕ → List ℕ) → ((j : ℕ) → j < word 0 t → f (laneAt t j) ≡ g (laneAt t j)) → onRows f t ≡ onRows g t
+  pub lanes-agree-at : (f g : List ℕ → List ℕ) → ((j : ℕ) → j < word 0 t → f (laneAt t j) ≡ g (laneAt t j)) → onRows 52 f t ≡ onRows 52 g t
   unfolding onRows
   lanes-agree-at f g e =
       ap (λ z. word 0 t ∷ z) (rows-agree-at 52 f g (word 0 t) (drop 1 t) (λ j l. ap f (same-row t j) ∙ (e j l ∙ ap g (sym (same-row t j)))))
 
   -- a change that leaves every row there is
-  pub lanes-stay : (f : List ℕ → List ℕ) → ((j : ℕ) → j < word 0 t → f (laneAt t j) ≡ laneAt t j) → onRows f t ≡ t
+  pub lanes-stay : (f : List ℕ → List ℕ) → ((j : ℕ) → j < word 0 t → f (laneAt t j) ≡ laneAt t j) → onRows 52 f t ≡ t
   unfolding onRows
   lanes-stay f e =
-      let a : onRows f t ≡ onRows (λ w. w) t = lanes-agree-at f (λ w. w) e in
+      let a : onRows 52 f t ≡ onRows 52 (λ w. w) t = lanes-agree-at f (λ w. w) e in
       let b : mapRows 52 (λ w. w) (word 0 t) (drop 1 t) ≡ drop 1 t = rows-stay 52 laneFormed (λ w. w) (λ w l q. refl) (word 0 t) (drop 1 t) (lanes-room t h) all-formed in
       let c : t ≡ word 0 t ∷ drop 1 t = drop-cons t 0 0 (lanes-some t h) in
       a ∙ (ap (λ z. word 0 t ∷ z) b ∙ sym c)
 
   -- one change after another
-  pub lanes-twice : (f g : List ℕ → List ℕ) → Keeps f → onRows g (onRows f t) ≡ onRows (λ w. g (f w)) t
+  pub lanes-twice : (f g : List ℕ → List ℕ) → Keeps f → onRows 52 g (onRows 52 f t) ≡ onRows 52 (λ w. g (f w)) t
   unfolding onRows
   lanes-twice f g k =
       ap (λ z. word 0 t ∷ z) (rows-twice 52 laneFormed f g (λ w l q. k w l q .0) (word 0 t) (drop 1 t) (lanes-room t h) all-formed)
 
   -- the row of one lane
-  pub one-lane : (g : List ℕ → List ℕ) (i : ℕ) → i < word 0 t → length (g (laneAt t i)) ≡ 52 → onRows (keyed (idAt t i) g) t ≡ over t (1 + i * 52) (g (laneAt t i))
+  pub one-lane : (g : List ℕ → List ℕ) (i : ℕ) → i < word 0 t → length (g (laneAt t i)) ≡ 52 → onRows 52 (keyed (idAt t i) g) t ≡ over t (1 + i * 52) (g (laneAt t i))
   unfolding onRows
   one-lane g i l k =
       let w = drop 1 t in
@@ -145,12 +145,12 @@ module _ (t : List ℕ) (h : searchable t ≡ true) where
       only j m f = unique i j l m (ap (word 0) (sym (same-row t j)) ∙ f)
 
   -- records changed, in words
-  pub lanes-changed : (f : Lane → Lane) → ((l : Lane) → f l .id ≡ l .id) → lanesChanged f t ≡ onRows (λ w. laneOnto w (f (laneOf [] w))) t
+  pub lanes-changed : (f : Lane → Lane) → ((l : Lane) → f l .id ≡ l .id) → lanesChanged f t ≡ onRows 52 (λ w. laneOnto w (f (laneOf [] w))) t
   unfolding lanesChanged onRows
   lanes-changed f same = store-changed 52 laneOnto (λ l. l .id) (laneOf []) t (lanes-room t h) f (λ w. same (laneOf [] w) ∙ lane-id w)
 
   -- a change that keeps rows keeps the table
-  pub lanes-kept : (g : List ℕ → List ℕ) → Keeps g → searchable (onRows g t) ≡ true
+  pub lanes-kept : (g : List ℕ → List ℕ) → Keeps g → searchable (onRows 52 g t) ≡ true
   unfolding searchable onRows rows keys
   lanes-kept g k =
       let n = word 0 t in
@@ -166,7 +166,7 @@ module _ (t : List ℕ) (h : searchable t ≡ true) where
       rw (whole, ids, forms) h
 
   -- a row of the changed table
-  pub lane-changed : (g : List ℕ → List ℕ) → Keeps g → (j : ℕ) → j < word 0 t → laneAt (onRows g t) j ≡ g (laneAt t j)
+  pub lane-changed : (g : List ℕ → List ℕ) → Keeps g → (j : ℕ) → j < word 0 t → laneAt (onRows 52 g t) j ≡ g (laneAt t j)
   unfolding onRows
   lane-changed g k j l =
       let n = word 0 t in

@@ -123,7 +123,7 @@ pub fn neighbor(lanes: &[u64], i: usize, side: Side) -> OptionNeighbor
 // The slot that answers what a slot on a side held is freed.
 fn free_answer(lanes: &mut [u64], side: Side, held: OptionNeighbor)
     requires { ⌜ searchable (now lanes) ≡ true ⌝ }
-    ensures { λ _. ⌜ now (lanes .exit) ≡ onRows (T.freedBy side held) (now (lanes .entry)) ⌝ }
+    ensures { λ _. ⌜ now (lanes .exit) ≡ onRows 52 (T.freedBy side held) (now (lanes .entry)) ⌝ }
 {
     let OptionNeighbor::Some(n) = held else {
         return;
@@ -140,7 +140,7 @@ fn free_answer(lanes: &mut [u64], side: Side, held: OptionNeighbor)
 // A neighbour put into the slot of the lane in row i on a side.
 fn put_slot(lanes: &mut [u64], i: usize, side: Side, n: Neighbor)
     requires { ⌜ (searchable (now lanes) ≡ true) × (i < word 0 (now lanes)) ⌝ }
-    ensures { λ _. ⌜ now (lanes .exit) ≡ onRows (keyed (T.idAt (now (lanes .entry)) i) (setSlot (T.slotPlace side) (some n))) (now (lanes .entry)) ⌝ }
+    ensures { λ _. ⌜ now (lanes .exit) ≡ onRows 52 (keyed (T.idAt (now (lanes .entry)) i) (setSlot (T.slotPlace side) (some n))) (now (lanes .entry)) ⌝ }
 {
     let direction = n.direction;
     let at = 1 + i * LANE + slot_place(side);

@@ -1,45 +1,34 @@
+-- `edit::disconnect` meets its contract. Assumes nothing.
 use borrow.Author.Needs.{needs}
 use Rattle.edit.proofs.disconnect.Statement.{statement}
 use Rattle.edit.proofs.disconnect.Tie as tie
-use Rattle.edit.proofs.disconnect.Reads as reads
-use Rattle.edit.proofs.disconnect.Lts as lts
-use Rattle.edit.proofs.disconnect_sound.Reads as disconnect-sound-reads
-use Rattle.soundness.proofs.sound.Reads as sound-reads
 use mathlib.Core.Path.{sym, _∙_}
 use Rattle.entities.specs.Types.{preset}
 use Rattle.rules.specs.Ops as O
 use Rattle.edit.specs.Step.{lentOf}
 use Rattle.edit.proofs.Steps.{step-unsound}
 
--- src/lib.rt:84:8
 sound-requires : tie.Need-sound-requires
 sound-requires c κs = search needs
 
--- src/lib.rt:95:9
 disconnect-sound-requires : tie.Need-disconnect-sound-requires
 disconnect-sound-requires c κs = sym (c .before .before .before .before .sound .ensures) ∙ c .before .before .before .if1 .taken
 
--- src/lib.rt:95:9
 same-length : tie.Need-same-length
 same-length c = search needs
 
--- src/lib.rt:95:9
 same-length-2 : tie.Need-same-length-2
 same-length-2 c = search needs
 
--- src/lib.rt:95:9
 same-length-3 : tie.Need-same-length-3
 same-length-3 c = search needs
 
--- src/lib.rt:95:9
 returns : tie.Need-returns
 returns c = search needs
 
--- src/lib.rt:65:1
 same-length-4 : tie.Need-same-length-4
 same-length-4 c = search needs
 
--- src/lib.rt:65:1
 returns-2 : tie.Need-returns-2
 returns-2 c = step-unsound preset (O.DisconnectLanes (c .before .before .before .before .before .before .before .before .before .before .before .before .before .before .before .args .from) (c .before .before .before .before .before .before .before .before .before .before .before .before .before .before .before .args .to)) (lentOf (c .before .before .before .before .before .before .before .before .before .before .before .before .before .before .before .args .counter) (c .before .before .before .before .before .before .before .before .before .before .before .before .before .before .before .args .lanes .now) (c .before .before .before .before .before .before .before .before .before .before .before .before .before .before .before .args .boundaries .now) (c .before .before .before .before .before .before .before .before .before .before .before .before .before .before .before .args .roads .now) (c .before .before .before .before .before .before .before .before .before .before .before .before .before .before .before .args .junctions .now) (c .before .before .before .before .before .before .before .before .before .before .before .before .before .before .before .args .rules .now) (c .before .before .before .before .before .before .before .before .before .before .before .before .before .before .before .args .stop-lines .now) (c .before .before .before .before .before .before .before .before .before .before .before .before .before .before .before .args .crosswalks .now) (c .before .before .before .before .before .before .before .before .before .before .before .before .before .before .before .args .coordinates .now) (c .before .before .before .before .before .before .before .before .before .before .before .before .before .before .before .args .created .now) (c .before .before .before .before .before .before .before .before .before .before .before .before .before .before .before .args .modified .now) (c .before .before .before .before .before .before .before .before .before .before .before .before .before .before .before .args .deleted .now) (c .before .before .before .before .before .before .before .before .before .before .before .before .before .before .before .args .warnings .now)) (sym (c .before .sound .ensures) ∙ c .if1 .left)
 

@@ -1,10 +1,7 @@
+-- `lists::find_near` meets its contract. Assumes nothing.
 use borrow.Author.Needs.{needs}
 use Rattle.lists.proofs.find_near.Statement.{statement}
 use Rattle.lists.proofs.find_near.Tie as tie
-use Rattle.lists.proofs.find_near.Reads as reads
-use Rattle.lists.proofs.find_near.Lts as lts
-use Rattle.lists.proofs.find_among.Reads as find-among-reads
-use Rattle.lists.proofs.least.Reads as least-reads
 use mathlib.Core.Path.{_≡_, refl, sym, ap, _∙_}
 use mathlib.Core.List.{List}
 use mathlib.Core.Logic.{_⊎_, inl, inr, ⊎-elim}
@@ -59,59 +56,45 @@ ahead c = let b = c .before .before .before .before in omega (arith, some c .1 .
 behind : (c : tie.After-least2) → c .before .before .before .before .args .near - c .least2 .result < c .before .before .before .before .args .n
 behind c = let b = c .before .before .before .before in omega (arith, b .pre .1 .1 .1)
 
--- src/lib.rt:130:21
 mul-here : tie.Need-mul-here
 mul-here c = omega (arith, starts (c .before) (c .before .args .near) (c .before .pre .1 .1 .1))
 
--- src/lib.rt:130:16
 mul-here-2 : tie.Need-mul-here-2
 mul-here-2 c = omega (arith, starts (c .before) (c .before .args .near) (c .before .pre .1 .1 .1))
 
--- src/lib.rt:130:16
 shared-slice-read-here : tie.Need-shared-slice-read-here
 shared-slice-read-here c = starts (c .before .before) (c .before .before .args .near) (c .before .before .pre .1 .1 .1)
 
--- src/lib.rt:132:49
 sub-least : tie.Need-sub-least
 sub-least c = omega (arith, c .if1 .taken)
 
--- src/lib.rt:132:49
 sub-least-2 : tie.Need-sub-least-2
 sub-least-2 c = omega (arith, c .before .before .before .pre .1 .1 .1)
 
--- src/lib.rt:132:13
 least-requires : tie.Need-least-requires
 least-requires c κs = search needs
 
--- src/lib.rt:133:18
 add-if2 : tie.Need-add-if2
 add-if2 c = omega (arith, starts (c .before .before .before .before) _ (ahead c), ahead c)
 
--- src/lib.rt:133:17
 mul-if2 : tie.Need-mul-if2
 mul-if2 c = omega (arith, starts (c .before .before .before .before) _ (ahead c))
 
--- src/lib.rt:133:12
 mul-if2-2 : tie.Need-mul-if2-2
 mul-if2-2 c = omega (arith, starts (c .before .before .before .before) _ (ahead c))
 
--- src/lib.rt:133:12
 shared-slice-read-if2 : tie.Need-shared-slice-read-if2
 shared-slice-read-if2 c = starts (c .before .before .before .before .before) _ (ahead (c .before))
 
--- src/lib.rt:134:30
 add-t20 : tie.Need-add-t20
 add-t20 c = omega (arith, ahead (c .before .before))
 
--- src/lib.rt:134:13
 returns : tie.Need-returns
 returns c = here (c .before .before .before .before .before .before) _ (ahead (c .before .before)) (c .if2 .taken)
 
--- src/lib.rt:136:49
 add-find-among : tie.Need-add-find-among
 add-find-among c = omega (arith, ahead (c .before .before), c .before .before .before .before .before .before .good .0)
 
--- src/lib.rt:136:9
 find-among-requires : tie.Need-find-among-requires
 find-among-requires c κs =
     let b = c .before .before .before .before .before .before in
@@ -121,51 +104,39 @@ find-among-requires c κs =
     let m = many b in
     (b .pre .0, (b .pre .1 .0, (b .pre .1 .1 .0, among-ahead (ks b) (b .pre .1 .1 .0) (b .args .id) (b .args .near) (c .before .before .least .result) (rw k (c .before .before .before .if1 .taken)) (rw m a) (⊎-elim (λ e. inl (e ∙ ap (λ z. b .args .id - z) (sym k))) (λ (e : c .before .before .least .result ≡ b .args .n - 1 - b .args .near). inr (rw m (omega arith))) w))))
 
--- src/lib.rt:136:9
 returns-2 : tie.Need-returns-2
 returns-2 c = search needs
 
--- src/lib.rt:138:23
 sub-least-3 : tie.Need-sub-least-3
 sub-least-3 c = omega (arith, c .if1 .left)
 
--- src/lib.rt:138:9
 least-requires-2 : tie.Need-least-requires-2
 least-requires-2 c κs = search needs
 
--- src/lib.rt:139:14
 sub-if3 : tie.Need-sub-if3
 sub-if3 c = less (c) .1 .0
 
--- src/lib.rt:139:13
 mul-if3 : tie.Need-mul-if3
 mul-if3 c = omega (arith, starts (c .before .before .before .before) _ (behind c))
 
--- src/lib.rt:139:8
 mul-if3-2 : tie.Need-mul-if3-2
 mul-if3-2 c = omega (arith, starts (c .before .before .before .before) _ (behind c))
 
--- src/lib.rt:139:8
 shared-slice-read-if3 : tie.Need-shared-slice-read-if3
 shared-slice-read-if3 c = starts (c .before .before .before .before .before) _ (behind (c .before))
 
--- src/lib.rt:140:26
 sub-t23 : tie.Need-sub-t23
 sub-t23 c = less (c .before .before) .1 .0
 
--- src/lib.rt:140:9
 returns-3 : tie.Need-returns-3
 returns-3 c = here (c .before .before .before .before .before .before) _ (behind (c .before .before)) (c .if3 .taken)
 
--- src/lib.rt:142:32
 sub-find-among : tie.Need-sub-find-among
 sub-find-among c = less (c .before .before) .1 .0
 
--- src/lib.rt:142:45
 add-find-among-2 : tie.Need-add-find-among-2
 add-find-among-2 c = omega (arith, less (c .before .before) .1 .0, c .before .before .before .before .before .before .pre .1 .1 .1)
 
--- src/lib.rt:142:5
 find-among-requires-2 : tie.Need-find-among-requires-2
 find-among-requires-2 c κs =
     let b = c .before .before .before .before .before .before in
@@ -174,7 +145,6 @@ find-among-requires-2 c κs =
     let m = many b in
     (b .pre .0, (b .pre .1 .0, (b .pre .1 .1 .0, among-back (ks b) (b .pre .1 .1 .0) (b .args .id) (b .args .near) (c .before .before .least2 .result) (rw k (omega (arith, c .before .before .before .if1 .left))) (w .1 .0) (rw m (b .pre .1 .1 .1)) (⊎-elim (λ e. inl (e ∙ ap (λ z. z - b .args .id) (sym k))) (λ e. inr e) (w .1 .1)))))
 
--- src/lib.rt:126:1
 returns-4 : tie.Need-returns-4
 returns-4 c = search needs
 

@@ -1,23 +1,18 @@
+-- `lists::find_row` meets its contract. Assumes nothing.
 use borrow.Author.Needs.{needs}
 use Rattle.lists.proofs.find_row.Statement.{statement}
 use Rattle.lists.proofs.find_row.Tie as tie
-use Rattle.lists.proofs.find_row.Reads as reads
-use Rattle.lists.proofs.find_row.Lts as lts
-use Rattle.lists.proofs.find_among.Reads as find-among-reads
 use mathlib.Core.Path.{_≡_, sym}
 use native.Mathlib.Omega.{arith}
 use Rattle.lists.specs.Rows.{keys}
 use Rattle.lists.proofs.Rows.{length-keys, row-none}
 
--- src/lib.rt:109:9
 returns : tie.Need-returns
 returns c = let m = length-keys (c .before .before .args .s) (c .before .before .args .n) (c .before .before .args .rows .now) in sym (row-none (c .before .before .args .id) (keys (c .before .before .args .s) (c .before .before .args .n) (c .before .before .args .rows .now)) (λ k l e. omega (arith, c .if1 .taken)))
 
--- src/lib.rt:111:5
 find-among-requires : tie.Need-find-among-requires
 find-among-requires c κs = let m = length-keys (c .before .before .args .s) (c .before .before .args .n) (c .before .before .args .rows .now) in (c .before .before .pre .0, (c .before .before .pre .1 .0, (c .before .before .pre .1 .1, (omega (arith, c .if1 .left), (omega arith, (λ k l. omega arith, λ k l h. omega arith))))))
 
--- src/lib.rt:104:1
 returns-2 : tie.Need-returns-2
 returns-2 c = search needs
 

@@ -1,15 +1,12 @@
+-- `lists::least` meets its contract. Assumes nothing.
 use Rattle.lists.proofs.least.Statement.{statement}
 use Rattle.lists.proofs.least.Tie as tie
-use Rattle.lists.proofs.least.Reads as reads
-use Rattle.lists.proofs.least.Lts as lts
 use borrow.Author.Tests.{lt-ltb, le-ltb}
 use native.Mathlib.Omega.{arith}
 
--- src/lib.rt:119:9
 returns : tie.Need-returns
 returns c = rw (lt-ltb (c .before .args .a) (c .before .args .b) (c .if1 .taken))
 
--- src/lib.rt:115:1
 returns-2 : tie.Need-returns-2
 returns-2 c = rw (le-ltb (c .before .args .a) (c .before .args .b) (omega (arith, c .if1 .left)))
 

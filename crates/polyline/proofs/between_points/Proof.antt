@@ -1,12 +1,6 @@
 -- `polyline::between_points` meets its contract: what was counted and what is left make the whole. Assumes nothing.
 use Rattle.polyline.proofs.between_points.Statement.{statement}
 use Rattle.polyline.proofs.between_points.Tie as tie
-use Rattle.polyline.proofs.between_points.Reads as reads
-use Rattle.polyline.proofs.between_points.Lts as lts
-use Rattle.geometry.proofs.Point3.distance.Reads as distance-reads
-use Rattle.polyline.proofs.count.Reads as count-reads
-use Rattle.polyline.proofs.inside.Reads as inside-reads
-use Rattle.polyline.proofs.point.Reads as point-reads
 use Prim.Native.Nat.{_+_, _≤_, _<_, _-_}
 use mathlib.Core.Path.{_≡_, sym, ap}
 use mathlib.Core.Logic.{⊎-elim}
@@ -22,47 +16,36 @@ Inv-loop line from to n at₀ p₀ i₀ found₀ at p i found = (i ≤ n) × ((f
 abbrev μ-loop : tie.MeasureT-loop
 μ-loop line from to n at₀ p₀ i₀ found₀ at p i found = n - i
 
--- src/lib.rt:265:9
 count-requires : tie.Need-count-requires Inv-loop μ-loop
 count-requires c κs = search needs
 
--- src/lib.rt:267:9
 returns : tie.Need-returns Inv-loop μ-loop
 returns c = sym (ap length (between-none (c .before .before .before .args .from) (c .before .before .before .args .to) (points (c .before .before .before .args .line .now)) (omega arith)))
 
--- src/lib.rt:270:9
 point-requires : tie.Need-point-requires Inv-loop μ-loop
 point-requires c κs = omega arith
 
--- src/lib.rt:273:5
 loop-holds : tie.Need-loop-holds Inv-loop μ-loop
 loop-holds c = (omega arith, (omega arith, rw (c .point .ensures, ← between-begins (c .before .before .before .before .args .from) (c .before .before .before .before .args .to) (points (c .before .before .before .before .args .line .now)) (omega arith)) (omega arith)))
 
--- src/lib.rt:274:13
 point-requires-2 : tie.Need-point-requires-2 Inv-loop μ-loop
 point-requires-2 c κs = omega (arith, c .before .before .before .before .count .ensures, c .loop-test .taken)
 
--- src/lib.rt:275:19
 distance-requires : tie.Need-distance-requires Inv-loop μ-loop
 distance-requires c κs = search needs
 
--- src/lib.rt:276:12
 inside-requires : tie.Need-inside-requires Inv-loop μ-loop
 inside-requires c κs = search needs
 
--- src/lib.rt:277:13
 add-found : tie.Need-add-found Inv-loop μ-loop
 add-found c = omega (arith, c .before .before .before .before .before .before .before .before .count .ok, c .before .before .before .before .loop-test .taken, c .before .before .before .before .before .loop .inv .1 .0)
 
--- src/lib.rt:280:9
 add-i : tie.Need-add-i Inv-loop μ-loop
 add-i c = omega (arith, c .before .before .before .before .before .before .before .before .count .ok, c .before .before .before .before .loop-test .taken)
 
--- src/lib.rt:273:5
 loop-less : tie.Need-loop-less Inv-loop μ-loop
 loop-less c = omega (arith, c .before .before .before .before .loop-test .taken)
 
--- src/lib.rt:273:5
 loop-again : tie.Need-loop-again Inv-loop μ-loop
 loop-again c =
     let ps = points (c .before .before .before .before .before .before .before .before .before .before .args .line .now) in
@@ -78,7 +61,6 @@ loop-again c =
       ),
     )
 
--- src/lib.rt:262:1
 returns-2 : tie.Need-returns-2 Inv-loop μ-loop
 returns-2 c =
     let ps = points (c .before .before .before .before .before .before .args .line .now) in

@@ -2,39 +2,26 @@
 use borrow.Author.Needs.{needs}
 use Rattle.polyline.proofs.candidate.Statement.{statement}
 use Rattle.polyline.proofs.candidate.Tie as tie
-use Rattle.polyline.proofs.candidate.Reads as reads
-use Rattle.polyline.proofs.candidate.Lts as lts
-use Rattle.geometry.proofs.Point2.distance.Reads as distance-reads
-use Rattle.geometry.proofs.Point3.lerp.Reads as lerp-reads
-use Rattle.geometry.proofs.Point3.xy.Reads as xy-reads
-use Rattle.geometry.proofs.project_on_segment.Reads as project-on-segment-reads
 use Rattle.polyline.specs.Polyline.{candidate}
 
--- src/lib.rt:177:46
 xy-requires : tie.Need-xy-requires
 xy-requires c κs = search needs
 
--- src/lib.rt:177:54
 xy-requires-2 : tie.Need-xy-requires-2
 xy-requires-2 c κs = search needs
 
--- src/lib.rt:177:9
 project-on-segment-requires : tie.Need-project-on-segment-requires
 project-on-segment-requires c κs = search needs
 
--- src/lib.rt:178:9
 lerp-requires : tie.Need-lerp-requires
 lerp-requires c κs = search needs
 
--- src/lib.rt:181:19
 xy-requires-3 : tie.Need-xy-requires-3
 xy-requires-3 c κs = search needs
 
--- src/lib.rt:181:19
 distance-requires : tie.Need-distance-requires
 distance-requires c κs = search needs
 
--- src/lib.rt:173:1
 returns : tie.Need-returns
 unfolding candidate
 returns c = rw (c .distance .ensures, c .before .xy3 .ensures, c .before .before .lerp .ensures, c .before .before .before .project-on-segment .ensures, c .before .before .before .before .xy2 .ensures, c .before .before .before .before .before .xy .ensures, c .before .before .before .before .before .before .pre)

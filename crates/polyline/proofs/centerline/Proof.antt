@@ -1,14 +1,6 @@
 -- `polyline::centerline` meets its contract: what is left, written behind what was written, makes the whole. Assumes nothing.
 use Rattle.polyline.proofs.centerline.Statement.{statement}
 use Rattle.polyline.proofs.centerline.Tie as tie
-use Rattle.polyline.proofs.centerline.Reads as reads
-use Rattle.polyline.proofs.centerline.Lts as lts
-use Rattle.polyline.proofs.centerline_points.Reads as centerline-points-reads
-use Rattle.polyline.proofs.length.Reads as length-reads
-use Rattle.polyline.proofs.middle.Reads as middle-reads
-use Rattle.polyline.proofs.point_at.Reads as point-at-reads
-use Rattle.polyline.proofs.put_optional.Reads as put-optional-reads
-use Rattle.polyline.proofs.share.Reads as share-reads
 use Prim.Native.Nat.{_+_, _*_, _-_, _≤_, _<_}
 use mathlib.Core.Path.{refl, sym, ap, _∙_}
 use mathlib.Core.List.{List, _++_}
@@ -28,25 +20,20 @@ Inv-loop left right out₀ n l r i₀ out i = (i ≤ n) × Left out₀ out 0 i (
 abbrev μ-loop : tie.MeasureT-loop
 μ-loop left right out₀ n l r i₀ out i = n - i
 
--- src/lib.rt:506:9
 centerline-points-requires : tie.Need-centerline-points-requires Inv-loop μ-loop
 centerline-points-requires c κs = search needs
 
--- src/lib.rt:508:9
 returns : tie.Need-returns Inv-loop μ-loop
 returns c =
     let e = no-point (centerline (points (c .before .before .before .before .before .args .left .now)) (points (c .before .before .before .before .before .args .right .now))) (omega arith) in
     rw e (refl, sym (over-none (c .before .before .before .before .before .args .out .now) 0))
 
--- src/lib.rt:510:9
 length-requires : tie.Need-length-requires Inv-loop μ-loop
 length-requires c κs = search needs
 
--- src/lib.rt:511:9
 length-requires-2 : tie.Need-length-requires-2 Inv-loop μ-loop
 length-requires-2 c κs = search needs
 
--- src/lib.rt:513:5
 loop-holds : tie.Need-loop-holds Inv-loop μ-loop
 loop-holds c =
     let ps = points (c .before .before .before .before .before .before .before .args .left .now) in
@@ -81,49 +68,38 @@ next c = rw (halved-goes (left-of c) (right-of c) (c .before .before .before .be
 room : (c : tie.In-loop Inv-loop μ-loop) → (0 + length (centerline (left-of c) (right-of c))) * 3 ≤ length (c .before .before .before .before .before .before .before .before .before .args .out .now)
 room c = omega (arith, c .before .before .before .before .before .before .before .before .before .pre .1)
 
--- src/lib.rt:514:64
 sub-share : tie.Need-sub-share Inv-loop μ-loop
 sub-share c = omega (arith, c .before .loop-test .taken)
 
--- src/lib.rt:514:52
 share-requires : tie.Need-share-requires Inv-loop μ-loop
 share-requires c κs = omega (arith, c .before .loop-test .taken, c .before .before .before .before .before .before .centerline-points .ensures, c .before .before .before .before .before .before .before .before .before .before .pre .0)
 
--- src/lib.rt:514:37
 point-at-requires : tie.Need-point-at-requires Inv-loop μ-loop
 point-at-requires c κs = search needs
 
--- src/lib.rt:514:101
 sub-share-2 : tie.Need-sub-share-2 Inv-loop μ-loop
 sub-share-2 c = omega (arith, c .before .before .before .loop-test .taken)
 
--- src/lib.rt:514:89
 share-requires-2 : tie.Need-share-requires-2 Inv-loop μ-loop
 share-requires-2 c κs = omega (arith, c .before .before .before .loop-test .taken, c .before .before .before .before .before .before .before .before .centerline-points .ensures, c .before .before .before .before .before .before .before .before .before .before .before .before .pre .0)
 
--- src/lib.rt:514:73
 point-at-requires-2 : tie.Need-point-at-requires-2 Inv-loop μ-loop
 point-at-requires-2 c κs = search needs
 
--- src/lib.rt:514:30
 middle-requires : tie.Need-middle-requires Inv-loop μ-loop
 middle-requires c κs = search needs
 
--- src/lib.rt:514:9
 put-optional-requires : tie.Need-put-optional-requires Inv-loop μ-loop
 put-optional-requires c κs =
     rw (c .middle .ensures, c .before .before .before .point-at .ensures, c .before .point-at2 .ensures, c .before .before .before .before .share .ensures, c .before .before .share2 .ensures, c .before .before .before .before .before .before .before .before .before .length .ensures, c .before .before .before .before .before .before .before .before .length2 .ensures)
     (fits-more _ _ _ _ (centerline (left-of (c .before .before .before .before .before .before)) (right-of (c .before .before .before .before .before .before))) (piece (c .before .before .before .before .before .before)) (rest (c .before .before .before .before .before .before)) (room (c .before .before .before .before .before .before)) (next (c .before .before .before .before .before .before)))
 
--- src/lib.rt:515:9
 add-i : tie.Need-add-i Inv-loop μ-loop
 add-i c = omega (arith, c .before .before .before .before .before .before .before .before .before .loop-test .taken, c .before .before .before .before .before .before .before .before .before .before .before .before .before .before .centerline-points .ok)
 
--- src/lib.rt:513:5
 loop-less : tie.Need-loop-less Inv-loop μ-loop
 loop-less c = omega (arith, c .before .before .before .before .before .before .before .before .before .loop-test .taken)
 
--- src/lib.rt:513:5
 loop-again : tie.Need-loop-again Inv-loop μ-loop
 loop-again c =
     let one = middle-one _ _ (point-at-one (left-of (c .before .before .before .before .before .before .before .before .before)) _ (some (c .before .before .before .before .before .before .before .before .before) .0)) (point-at-one (right-of (c .before .before .before .before .before .before .before .before .before)) _ (some (c .before .before .before .before .before .before .before .before .before) .1)) in (
@@ -132,11 +108,9 @@ loop-again c =
           (goes-on _ _ _ _ (centerline (left-of (c .before .before .before .before .before .before .before .before .before)) (right-of (c .before .before .before .before .before .before .before .before .before))) (piece (c .before .before .before .before .before .before .before .before .before)) (rest (c .before .before .before .before .before .before .before .before .before)) (room (c .before .before .before .before .before .before .before .before .before)) (next (c .before .before .before .before .before .before .before .before .before)) (c .before .before .before .before .before .before .before .before .before .before .loop .i + 1) (ap (λ k. c .before .before .before .before .before .before .before .before .before .before .loop .i + k) one)),
     )
 
--- src/lib.rt:502:1
 same-length : tie.Need-same-length Inv-loop μ-loop
 same-length c = c .before .loop .inv .1 .same
 
--- src/lib.rt:502:1
 returns-2 : tie.Need-returns-2 Inv-loop μ-loop
 returns-2 c =
     let ps = points (c .before .before .before .before .before .before .before .before .before .args .left .now) in

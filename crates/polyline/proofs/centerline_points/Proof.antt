@@ -2,11 +2,6 @@
 use borrow.Author.Needs.{needs}
 use Rattle.polyline.proofs.centerline_points.Statement.{statement}
 use Rattle.polyline.proofs.centerline_points.Tie as tie
-use Rattle.polyline.proofs.centerline_points.Reads as reads
-use Rattle.polyline.proofs.centerline_points.Lts as lts
-use Rattle.polyline.proofs.at_least_two.Reads as at-least-two-reads
-use Rattle.polyline.proofs.count.Reads as count-reads
-use Rattle.polyline.proofs.larger.Reads as larger-reads
 use mathlib.Core.Path.{sym, ap}
 use mathlib.Core.Logic.{inl, inr}
 use native.Mathlib.Omega.{arith}
@@ -14,31 +9,24 @@ use lib.ListN.{length}
 use Rattle.polyline.specs.Polyline.{points}
 use Rattle.polyline.proofs.Lines.{length-centerline, centerline-none}
 
--- src/lib.rt:478:9
 count-requires : tie.Need-count-requires
 count-requires c κs = search needs
 
--- src/lib.rt:479:9
 count-requires-2 : tie.Need-count-requires-2
 count-requires-2 c κs = search needs
 
--- src/lib.rt:481:9
 returns : tie.Need-returns
 returns c = sym (ap length (centerline-none (points (c .before .before .before .before .before .args .left .now)) (points (c .before .before .before .before .before .args .right .now)) (inl (omega arith))))
 
--- src/lib.rt:484:9
 returns-2 : tie.Need-returns-2
 returns-2 c = sym (ap length (centerline-none (points (c .before .before .before .before .before .before .args .left .now)) (points (c .before .before .before .before .before .before .args .right .now)) (inr (omega arith))))
 
--- src/lib.rt:486:18
 larger-requires : tie.Need-larger-requires
 larger-requires c κs = search needs
 
--- src/lib.rt:486:5
 at-least-two-requires : tie.Need-at-least-two-requires
 at-least-two-requires c κs = search needs
 
--- src/lib.rt:475:1
 returns-3 : tie.Need-returns-3
 returns-3 c = rw (c .at-least-two .ensures, c .before .larger .ensures, c .before .before .before .before .before .count .ensures, c .before .before .before .before .count2 .ensures) (sym (length-centerline (points (c .before .before .before .before .before .before .before .before .args .left .now)) (points (c .before .before .before .before .before .before .before .before .args .right .now)) (omega arith) (omega arith)))
 

@@ -2,11 +2,6 @@
 use borrow.Author.Needs.{needs}
 use Rattle.polyline.proofs.concat.Statement.{statement}
 use Rattle.polyline.proofs.concat.Tie as tie
-use Rattle.polyline.proofs.concat.Reads as reads
-use Rattle.polyline.proofs.concat.Lts as lts
-use Rattle.polyline.proofs.copy_points.Reads as copy-points-reads
-use Rattle.polyline.proofs.count.Reads as count-reads
-use Rattle.polyline.proofs.shared_ends.Reads as shared-ends-reads
 use mathlib.Core.Path.{ap}
 use native.Mathlib.Omega.{arith}
 use lib.ListN.{length, drop, length-drop}
@@ -14,19 +9,15 @@ use Rattle.polyline.specs.Polyline.{points, skipped, concat}
 use Rattle.polyline.proofs.Points.{over-flat}
 use Rattle.polyline.proofs.Lines.{skipped-few, length-concat}
 
--- src/lib.rt:461:9
 shared-ends-requires : tie.Need-shared-ends-requires
 shared-ends-requires c κs = search needs
 
--- src/lib.rt:462:9
 count-requires : tie.Need-count-requires
 count-requires c κs = search needs
 
--- src/lib.rt:463:5
 copy-points-requires : tie.Need-copy-points-requires
 copy-points-requires c κs = omega (arith, length-concat (c .before .before .before .before .before .before .args .join) (points (c .before .before .before .before .before .before .args .one .now)) (points (c .before .before .before .before .before .before .args .other .now)), c .before .before .before .before .before .before .pre)
 
--- src/lib.rt:464:5
 copy-points-requires-2 : tie.Need-copy-points-requires-2
 copy-points-requires-2 c κs =
     let e = ap (λ n. length (drop n (points (c .before .before .before .before .before .before .before .before .before .before .args .other .now)))) (c .before .before .before .before .before .before .shared-ends .ensures) in
@@ -40,15 +31,12 @@ copy-points-requires-2 c κs =
       length-drop (skipped (c .before .before .before .before .before .before .before .before .before .before .args .join) (points (c .before .before .before .before .before .before .before .before .before .before .args .one .now)) (points (c .before .before .before .before .before .before .before .before .before .before .args .other .now))) (points (c .before .before .before .before .before .before .before .before .before .before .args .other .now)),
     )
 
--- src/lib.rt:465:10
 count-requires-2 : tie.Need-count-requires-2
 count-requires-2 c κs = search needs
 
--- src/lib.rt:465:10
 sub-result : tie.Need-sub-result
 sub-result c = omega (arith, c .count2 .ensures, c .before .before .before .before .before .before .before .before .before .before .shared-ends .ensures, skipped-few (c .before .before .before .before .before .before .before .before .before .before .before .before .before .before .args .join) (points (c .before .before .before .before .before .before .before .before .before .before .before .before .before .before .args .one .now)) (points (c .before .before .before .before .before .before .before .before .before .before .before .before .before .before .args .other .now)))
 
--- src/lib.rt:465:5
 add-result : tie.Need-add-result
 add-result c =
     omega (
@@ -61,11 +49,9 @@ add-result c =
       length-concat (c .before .before .before .before .before .before .before .before .before .before .before .before .before .before .args .join) (points (c .before .before .before .before .before .before .before .before .before .before .before .before .before .before .args .one .now)) (points (c .before .before .before .before .before .before .before .before .before .before .before .before .before .before .args .other .now)),
     )
 
--- src/lib.rt:457:1
 same-length : tie.Need-same-length
 same-length c = search needs
 
--- src/lib.rt:457:1
 returns : tie.Need-returns
 unfolding concat
 returns c =

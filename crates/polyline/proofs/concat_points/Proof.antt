@@ -2,36 +2,26 @@
 use borrow.Author.Needs.{needs}
 use Rattle.polyline.proofs.concat_points.Statement.{statement}
 use Rattle.polyline.proofs.concat_points.Tie as tie
-use Rattle.polyline.proofs.concat_points.Reads as reads
-use Rattle.polyline.proofs.concat_points.Lts as lts
-use Rattle.polyline.proofs.count.Reads as count-reads
-use Rattle.polyline.proofs.shared_ends.Reads as shared-ends-reads
 use native.Mathlib.Omega.{arith}
 use Rattle.polyline.specs.Polyline.{points}
 use Rattle.polyline.proofs.Points.{length-points}
 use Rattle.polyline.proofs.Lines.{skipped-few, length-concat}
 
--- src/lib.rt:454:5
 count-requires : tie.Need-count-requires
 count-requires c κs = search needs
 
--- src/lib.rt:454:19
 count-requires-2 : tie.Need-count-requires-2
 count-requires-2 c κs = search needs
 
--- src/lib.rt:454:34
 shared-ends-requires : tie.Need-shared-ends-requires
 shared-ends-requires c κs = search needs
 
--- src/lib.rt:454:19
 sub-result : tie.Need-sub-result
 sub-result c = omega (arith, skipped-few (c .before .before .before .before .before .args .join) (points (c .before .before .before .before .before .args .one .now)) (points (c .before .before .before .before .before .args .other .now)))
 
--- src/lib.rt:454:5
 add-result : tie.Need-add-result
 add-result c = omega (arith, length-points (c .before .before .before .before .before .args .one .now), length-points (c .before .before .before .before .before .args .other .now))
 
--- src/lib.rt:450:1
 returns : tie.Need-returns
 returns c = omega (arith, length-concat (c .before .before .before .before .before .args .join) (points (c .before .before .before .before .before .args .one .now)) (points (c .before .before .before .before .before .args .other .now)))
 

@@ -1,11 +1,6 @@
 -- `polyline::copy_points` meets its contract: what is left, written behind what was written, makes the whole. Assumes nothing.
 use Rattle.polyline.proofs.copy_points.Statement.{statement}
 use Rattle.polyline.proofs.copy_points.Tie as tie
-use Rattle.polyline.proofs.copy_points.Reads as reads
-use Rattle.polyline.proofs.copy_points.Lts as lts
-use Rattle.polyline.proofs.count.Reads as count-reads
-use Rattle.polyline.proofs.point.Reads as point-reads
-use Rattle.polyline.proofs.put_point.Reads as put-point-reads
 use Prim.Native.Nat.{_+_, _≤_, _<_, _-_}
 use mathlib.Core.Path.{refl}
 use mathlib.Core.List.{List, [], _∷_, _++_}
@@ -23,11 +18,9 @@ Inv-loop line from out₀ k n i₀ to₀ out i to = Left out₀ out k to (drop f
 abbrev μ-loop : tie.MeasureT-loop
 μ-loop line from out₀ k n i₀ to₀ out i to = n - i
 
--- src/lib.rt:412:9
 count-requires : tie.Need-count-requires Inv-loop μ-loop
 count-requires c κs = search needs
 
--- src/lib.rt:415:5
 loop-holds : tie.Need-loop-holds Inv-loop μ-loop
 loop-holds c = begins (c .before .before .before .args .out .now) (c .before .before .before .args .k) (drop (c .before .before .before .args .from) (points (c .before .before .before .args .line .now)))
 
@@ -44,41 +37,33 @@ next c =
     let h : c .before .loop .i < length (line-of c) = omega (arith, c .before .before .count .ensures) in
     rw (left-more (line-of c) (c .before .loop .i) h) at (c .before .loop .inv)
 
--- src/lib.rt:416:28
 point-requires : tie.Need-point-requires Inv-loop μ-loop
 point-requires c κs = omega (arith, c .before .before .before .count .ensures, c .before .loop-test .taken)
 
--- src/lib.rt:416:9
 put-point-requires : tie.Need-put-point-requires Inv-loop μ-loop
 put-point-requires c κs =
     let r = fits-more _ _ _ _ (whole (c .before .before)) (at (line-of (c .before .before)) (c .before .before .before .loop .i) ∷ []) (drop (c .before .before .before .loop .i + 1) (line-of (c .before .before))) (c .before .before .before .before .before .before .before .pre) (next (c .before .before)) in
     omega (arith, r)
 
--- src/lib.rt:417:9
 add-i : tie.Need-add-i Inv-loop μ-loop
 add-i c = omega (arith, c .before .before .before .before .before .before .before .count .ok, c .before .before .before .before .before .loop-test .taken)
 
--- src/lib.rt:418:9
 add-to : tie.Need-add-to Inv-loop μ-loop
 add-to c =
     let r = fits-more _ _ _ _ (whole (c .before .before .before .before .before)) (at (line-of (c .before .before .before .before .before)) (c .before .before .before .before .before .before .loop .i) ∷ []) (drop (c .before .before .before .before .before .before .loop .i + 1) (line-of (c .before .before .before .before .before))) (c .before .before .before .before .before .before .before .before .before .before .pre) (next (c .before .before .before .before .before)) in
     omega (arith, r, c .before .before .before .before .before .before .loop .inv .same, c .before .before .before .before .before .before .before .before .before .before .good .1 .1 .0 .0)
 
--- src/lib.rt:415:5
 loop-less : tie.Need-loop-less Inv-loop μ-loop
 loop-less c = omega (arith, c .before .before .before .before .before .loop-test .taken)
 
--- src/lib.rt:415:5
 loop-again : tie.Need-loop-again Inv-loop μ-loop
 loop-again c =
     rw (c .before .before .put-point .ensures, c .before .before .before .point .ensures)
     (goes-on _ _ _ _ (whole (c .before .before .before .before .before)) (at (line-of (c .before .before .before .before .before)) (c .before .before .before .before .before .before .loop .i) ∷ []) (drop (c .before .before .before .before .before .before .loop .i + 1) (line-of (c .before .before .before .before .before))) (c .before .before .before .before .before .before .before .before .before .before .pre) (next (c .before .before .before .before .before)) (c .before .before .before .before .before .before .loop .to + 1) refl)
 
--- src/lib.rt:408:1
 same-length : tie.Need-same-length Inv-loop μ-loop
 same-length c = c .before .loop .inv .same
 
--- src/lib.rt:408:1
 returns : tie.Need-returns Inv-loop μ-loop
 returns c =
     let ps = points (c .before .before .before .before .before .args .line .now) in

@@ -3,8 +3,6 @@ use mathlib.Core.Path.{sym}
 use Rattle.polyline.proofs.Points.{length-points}
 use Rattle.polyline.proofs.count.Statement.{statement}
 use Rattle.polyline.proofs.count.Tie as tie
-use Rattle.polyline.proofs.count.Reads as reads
-use Rattle.polyline.proofs.count.Lts as lts
 
 returns : tie.Need-returns
 returns c = sym (length-points (c .args .line .now))

@@ -2,29 +2,21 @@
 use borrow.Author.Needs.{needs}
 use Rattle.polyline.proofs.first.Statement.{statement}
 use Rattle.polyline.proofs.first.Tie as tie
-use Rattle.polyline.proofs.first.Reads as reads
-use Rattle.polyline.proofs.first.Lts as lts
-use Rattle.polyline.proofs.count.Reads as count-reads
-use Rattle.polyline.proofs.point.Reads as point-reads
 use native.Mathlib.Omega.{arith}
 use mathlib.Core.Path.{_∙_, ap}
 use Rattle.polyline.specs.Polyline.{points}
 use Rattle.polyline.specs.declared.OptionPoint3.the-variants as P
 use Rattle.polyline.proofs.Walk.{first-none, first-some}
 
--- src/lib.rt:76:8
 count-requires : tie.Need-count-requires
 count-requires c κs = search needs
 
--- src/lib.rt:77:9
 returns : tie.Need-returns
 returns c = first-none (points (c .before .before .before .args .line .now)) (omega arith)
 
--- src/lib.rt:79:24
 point-requires : tie.Need-point-requires
 point-requires c κs = search needs
 
--- src/lib.rt:73:1
 returns-2 : tie.Need-returns-2
 returns-2 c = ap P.Some (c .point .ensures) ∙ first-some (points (c .before .before .before .before .args .line .now)) (omega arith)
 

@@ -1,17 +1,13 @@
 -- `polyline::inside` meets its contract. Assumes nothing.
 use Rattle.polyline.proofs.inside.Statement.{statement}
 use Rattle.polyline.proofs.inside.Tie as tie
-use Rattle.polyline.proofs.inside.Reads as reads
-use Rattle.polyline.proofs.inside.Lts as lts
 use Rattle.geometry.specs.Float.{epsilon}
 use Rattle.polyline.specs.Polyline.{inside}
 
--- src/lib.rt:243:1
 returns : tie.Need-returns
 unfolding inside epsilon
 returns c = rw (c .if1 .taken)
 
--- src/lib.rt:243:1
 returns-2 : tie.Need-returns-2
 unfolding inside epsilon
 returns-2 c = rw (c .if1 .left)

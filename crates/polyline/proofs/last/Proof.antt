@@ -2,31 +2,22 @@
 use borrow.Author.Needs.{needs}
 use Rattle.polyline.proofs.last.Statement.{statement}
 use Rattle.polyline.proofs.last.Tie as tie
-use Rattle.polyline.proofs.last.Reads as reads
-use Rattle.polyline.proofs.last.Lts as lts
-use Rattle.polyline.proofs.count.Reads as count-reads
-use Rattle.polyline.proofs.point.Reads as point-reads
 use native.Mathlib.Omega.{arith}
 use Rattle.polyline.specs.Polyline.{points}
 use Rattle.polyline.proofs.Walk.{last-none, last-some}
 
--- src/lib.rt:85:9
 count-requires : tie.Need-count-requires
 count-requires c κs = search needs
 
--- src/lib.rt:87:9
 returns : tie.Need-returns
 returns c = last-none (points (c .before .before .before .args .line .now)) (omega arith)
 
--- src/lib.rt:89:36
 sub-point : tie.Need-sub-point
 sub-point c = search needs
 
--- src/lib.rt:89:24
 point-requires : tie.Need-point-requires
 point-requires c κs = search needs
 
--- src/lib.rt:82:1
 returns-2 : tie.Need-returns-2
 returns-2 c = rw (c .point .ensures, c .before .before .count .ensures) (last-some (points (c .before .before .before .before .args .line .now)) (omega arith))
 

@@ -1,11 +1,6 @@
 -- `polyline::length` meets its contract: the length is what is left added to the sum so far. Assumes nothing.
 use Rattle.polyline.proofs.length.Statement.{statement}
 use Rattle.polyline.proofs.length.Tie as tie
-use Rattle.polyline.proofs.length.Reads as reads
-use Rattle.polyline.proofs.length.Lts as lts
-use Rattle.geometry.proofs.Point3.distance.Reads as distance-reads
-use Rattle.polyline.proofs.count.Reads as count-reads
-use Rattle.polyline.proofs.point.Reads as point-reads
 use Prim.Native.Nat.{_≤_, _<_, _-_}
 use mathlib.Core.Path.{_≡_, sym, _∙_}
 use native.Mathlib.Omega.{arith}
@@ -21,47 +16,37 @@ Inv-loop line n sum₀ p₀ i₀ sum p i = (i ≤ n) × (lineLength (points line
 abbrev μ-loop : tie.MeasureT-loop
 μ-loop line n sum₀ p₀ i₀ sum p i = n - i
 
--- src/lib.rt:95:9
 count-requires : tie.Need-count-requires Inv-loop μ-loop
 count-requires c κs = search needs
 
--- src/lib.rt:97:9
 returns : tie.Need-returns Inv-loop μ-loop
 unfolding neg ofBits
 returns c = length-none (points (c .before .before .before .args .line .now)) (omega arith)
 
--- src/lib.rt:100:9
 point-requires : tie.Need-point-requires Inv-loop μ-loop
 point-requires c κs = omega arith
 
--- src/lib.rt:102:5
 loop-holds : tie.Need-loop-holds Inv-loop μ-loop
 unfolding neg ofBits
 loop-holds c = (omega arith, rw (c .point .ensures) (length-begins (points (c .before .before .before .before .args .line .now)) (omega arith)))
 
--- src/lib.rt:103:13
 point-requires-2 : tie.Need-point-requires-2 Inv-loop μ-loop
 point-requires-2 c κs = omega arith
 
--- src/lib.rt:104:21
 distance-requires : tie.Need-distance-requires Inv-loop μ-loop
 distance-requires c κs = search needs
 
--- src/lib.rt:106:9
 add-i : tie.Need-add-i Inv-loop μ-loop
 add-i c = omega arith
 
--- src/lib.rt:102:5
 loop-less : tie.Need-loop-less Inv-loop μ-loop
 loop-less c = omega arith
 
--- src/lib.rt:102:5
 loop-again : tie.Need-loop-again Inv-loop μ-loop
 loop-again c =
     let h : c .before .before .before .loop .i < length (points (c .before .before .before .before .before .before .before .before .args .line .now)) = omega arith in
     (omega arith, rw (c .distance .ensures, c .before .point2 .ensures) (c .before .before .before .loop .inv .1 ∙ length-goes (points (c .before .before .before .before .before .before .before .before .args .line .now)) (c .before .before .before .loop .i) (c .before .before .before .loop .sum) (c .before .before .before .loop .p) h))
 
--- src/lib.rt:92:1
 returns-2 : tie.Need-returns-2 Inv-loop μ-loop
 returns-2 c =
     let h : length (points (c .before .before .before .before .before .before .args .line .now)) ≤ c .before .loop .i = omega arith in

@@ -1,12 +1,6 @@
 -- `polyline::locate` meets its contract: the place is the place on what is left. Assumes nothing.
 use Rattle.polyline.proofs.locate.Statement.{statement}
 use Rattle.polyline.proofs.locate.Tie as tie
-use Rattle.polyline.proofs.locate.Reads as reads
-use Rattle.polyline.proofs.locate.Lts as lts
-use Rattle.geometry.proofs.Point3.distance.Reads as distance-reads
-use Rattle.polyline.proofs.count.Reads as count-reads
-use Rattle.polyline.proofs.held.Reads as held-reads
-use Rattle.polyline.proofs.point.Reads as point-reads
 use Prim.Native.Nat.{_+_, _≤_, _<_, _-_}
 use mathlib.Core.Path.{_≡_, sym, _∙_}
 use mathlib.Core.Logic.{⊎-elim}
@@ -22,51 +16,39 @@ Inv-loop line station n at₀ p₀ i₀ at p i = (i + 1 ≤ n) × (locate (point
 abbrev μ-loop : tie.MeasureT-loop
 μ-loop line station n at₀ p₀ i₀ at p i = n - i
 
--- src/lib.rt:124:9
 count-requires : tie.Need-count-requires Inv-loop μ-loop
 count-requires c κs = search needs
 
--- src/lib.rt:126:9
 returns : tie.Need-returns Inv-loop μ-loop
 returns c = locate-none (points (c .before .before .before .args .line .now)) (c .before .before .before .args .station) (omega arith)
 
--- src/lib.rt:129:9
 returns-2 : tie.Need-returns-2 Inv-loop μ-loop
 returns-2 c = locate-one (points (c .before .before .before .before .args .line .now)) (c .before .before .before .before .args .station) (omega arith)
 
--- src/lib.rt:132:9
 returns-3 : tie.Need-returns-3 Inv-loop μ-loop
 returns-3 c = locate-before (points (c .before .before .before .before .before .args .line .now)) (c .before .before .before .before .before .args .station) (omega arith) (c .if3 .taken)
 
--- src/lib.rt:135:9
 point-requires : tie.Need-point-requires Inv-loop μ-loop
 point-requires c κs = omega arith
 
--- src/lib.rt:137:5
 loop-holds : tie.Need-loop-holds Inv-loop μ-loop
 loop-holds c = (omega arith, rw (c .point .ensures) (locate-begins (points (c .before .before .before .before .before .before .args .line .now)) (c .before .before .before .before .before .before .args .station) (omega arith) (c .before .if3 .left)))
 
--- src/lib.rt:137:11
 add-loop : tie.Need-add-loop Inv-loop μ-loop
 add-loop c = omega arith
 
--- src/lib.rt:138:29
 add-point : tie.Need-add-point Inv-loop μ-loop
 add-point c = omega arith
 
--- src/lib.rt:138:13
 point-requires-2 : tie.Need-point-requires-2 Inv-loop μ-loop
 point-requires-2 c κs = omega arith
 
--- src/lib.rt:139:13
 distance-requires : tie.Need-distance-requires Inv-loop μ-loop
 distance-requires c κs = search needs
 
--- src/lib.rt:143:39
 held-requires : tie.Need-held-requires Inv-loop μ-loop
 held-requires c κs = search needs
 
--- src/lib.rt:143:17
 returns-4 : tie.Need-returns-4 Inv-loop μ-loop
 returns-4 c =
     let h : c .before .before .before .before .before .before .loop .i + 1 < length (points (c .before .before .before .before .before .before .before .before .before .before .before .before .before .args .line .now)) = omega (arith, c .before .before .before .before .before .before .before .before .before .before .before .count .ensures, c .before .before .before .before .before .loop-test .taken) in
@@ -75,15 +57,12 @@ returns-4 c =
     let u = rw (c .before .before .before .distance .ensures, c .before .before .before .before .point2 .ensures) at (c .before .if5 .taken) in
     rw (c .held .ensures, c .before .before .before .distance .ensures, c .before .before .before .before .point2 .ensures) (sym (l .inv .1 ∙ locate-found (points (c .before .before .before .before .before .before .before .before .before .before .before .before .before .args .line .now)) (l .i) (l .at) (c .before .before .before .before .before .before .before .before .before .before .before .before .before .args .station) (l .p) h t u))
 
--- src/lib.rt:148:9
 add-i : tie.Need-add-i Inv-loop μ-loop
 add-i c = omega arith
 
--- src/lib.rt:137:5
 loop-less : tie.Need-loop-less Inv-loop μ-loop
 loop-less c = omega arith
 
--- src/lib.rt:137:5
 loop-again : tie.Need-loop-again Inv-loop μ-loop
 loop-again c =
     let h : c .before .before .before .before .loop .i + 1 < length (points (c .before .before .before .before .before .before .before .before .before .before .before .args .line .now)) = omega (arith, c .before .before .before .before .before .before .before .before .before .count .ensures, c .before .before .before .loop-test .taken) in
@@ -95,11 +74,9 @@ loop-again c =
           (⊎-elim (λ w. rw (rw (d, q) at (w .0 .taken), rw (d, q) at (w .1 .left))) (λ w. rw (rw (d, q) at (w .left))) (c .if4 .came))),
     )
 
--- src/lib.rt:150:17
 sub-t17 : tie.Need-sub-t17 Inv-loop μ-loop
 sub-t17 c = omega arith
 
--- src/lib.rt:121:1
 returns-5 : tie.Need-returns-5 Inv-loop μ-loop
 returns-5 c =
     let h : length (points (c .before .before .before .before .before .before .before .before .args .line .now)) ≤ c .before .loop .i + 1 = omega arith in

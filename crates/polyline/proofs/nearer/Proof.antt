@@ -1,17 +1,13 @@
 -- `polyline::nearer` meets its contract. Assumes nothing.
 use Rattle.polyline.proofs.nearer.Statement.{statement}
 use Rattle.polyline.proofs.nearer.Tie as tie
-use Rattle.polyline.proofs.nearer.Reads as reads
-use Rattle.polyline.proofs.nearer.Lts as lts
 use Rattle.geometry.specs.Float.{epsilon}
 use Rattle.polyline.specs.Polyline.{nearer}
 
--- src/lib.rt:191:9
 returns : tie.Need-returns
 unfolding nearer epsilon
 returns c = rw (c .if1 .taken)
 
--- src/lib.rt:187:1
 returns-2 : tie.Need-returns-2
 unfolding nearer epsilon
 returns-2 c = rw (c .if1 .left)

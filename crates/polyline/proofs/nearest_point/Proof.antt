@@ -1,15 +1,6 @@
 -- `polyline::nearest_point` meets its contract: the answer is the best so far against what is left. Assumes nothing.
 use Rattle.polyline.proofs.nearest_point.Statement.{statement}
 use Rattle.polyline.proofs.nearest_point.Tie as tie
-use Rattle.polyline.proofs.nearest_point.Reads as reads
-use Rattle.polyline.proofs.nearest_point.Lts as lts
-use Rattle.geometry.proofs.Point2.distance.Reads as Point2-distance-reads
-use Rattle.geometry.proofs.Point3.distance.Reads as Point3-distance-reads
-use Rattle.geometry.proofs.Point3.xy.Reads as xy-reads
-use Rattle.polyline.proofs.candidate.Reads as candidate-reads
-use Rattle.polyline.proofs.count.Reads as count-reads
-use Rattle.polyline.proofs.nearer.Reads as nearer-reads
-use Rattle.polyline.proofs.point.Reads as point-reads
 use Prim.Native.Nat.{_+_, _≤_, _<_, _-_}
 use mathlib.Core.Path.{_≡_, sym, _∙_, ap}
 use native.Mathlib.Omega.{arith}
@@ -25,86 +16,66 @@ Inv-loop line to n p₀ seg best₀ at₀ i₀ p best at i = (i + 1 ≤ n) × (n
 abbrev μ-loop : tie.MeasureT-loop
 μ-loop line to n p₀ seg best₀ at₀ i₀ p best at i = n - i
 
--- src/lib.rt:199:9
 count-requires : tie.Need-count-requires Inv-loop μ-loop
 count-requires c κs = search needs
 
--- src/lib.rt:201:9
 returns : tie.Need-returns Inv-loop μ-loop
 returns c = nearest-none (points (c .before .before .before .args .line .now)) (c .before .before .before .args .to) (omega arith)
 
--- src/lib.rt:203:9
 point-requires : tie.Need-point-requires Inv-loop μ-loop
 point-requires c κs = omega arith
 
--- src/lib.rt:207:23
 xy-requires : tie.Need-xy-requires Inv-loop μ-loop
 xy-requires c κs = search needs
 
--- src/lib.rt:207:23
 distance-requires : tie.Need-distance-requires Inv-loop μ-loop
 distance-requires c κs = search needs
 
--- src/lib.rt:205:9
 returns-2 : tie.Need-returns-2 Inv-loop μ-loop
 returns-2 c = rw (c .distance .ensures, c .before .xy .ensures, c .before .before .before .point .ensures) (nearest-one (points (c .before .before .before .before .before .before .before .args .line .now)) (c .before .before .before .before .before .before .before .args .to) (omega arith))
 
--- src/lib.rt:212:9
 point-requires-2 : tie.Need-point-requires-2 Inv-loop μ-loop
 point-requires-2 c κs = omega arith
 
--- src/lib.rt:213:9
 distance-requires-2 : tie.Need-distance-requires-2 Inv-loop μ-loop
 distance-requires-2 c κs = search needs
 
--- src/lib.rt:214:9
 candidate-requires : tie.Need-candidate-requires Inv-loop μ-loop
 candidate-requires c κs = c .distance2 .ensures
 
--- src/lib.rt:217:5
 loop-holds : tie.Need-loop-holds Inv-loop μ-loop
 loop-holds c = (omega arith, rw (c .candidate .ensures, c .before .distance2 .ensures, c .before .before .point2 .ensures, c .before .before .before .before .point .ensures) (nearest-begins (points (c .before .before .before .before .before .before .before .before .args .line .now)) (c .before .before .before .before .before .before .before .before .args .to) (omega arith)))
 
--- src/lib.rt:217:11
 add-loop : tie.Need-add-loop Inv-loop μ-loop
 add-loop c = omega arith
 
--- src/lib.rt:218:29
 add-point : tie.Need-add-point Inv-loop μ-loop
 add-point c = omega arith
 
--- src/lib.rt:218:13
 point-requires-3 : tie.Need-point-requires-3 Inv-loop μ-loop
 point-requires-3 c κs = omega arith
 
--- src/lib.rt:219:13
 distance-requires-3 : tie.Need-distance-requires-3 Inv-loop μ-loop
 distance-requires-3 c κs = search needs
 
--- src/lib.rt:220:29
 candidate-requires-2 : tie.Need-candidate-requires-2 Inv-loop μ-loop
 candidate-requires-2 c κs = c .distance3 .ensures
 
--- src/lib.rt:220:9
 nearer-requires : tie.Need-nearer-requires Inv-loop μ-loop
 nearer-requires c κs = search needs
 
--- src/lib.rt:223:9
 add-i : tie.Need-add-i Inv-loop μ-loop
 add-i c = omega (arith, c .before .before .before .before .before .before .before .before .before .before .before .before .count .ensures, c .before .before .before .before .loop-test .taken, c .before .before .before .before .before .before .before .before .before .before .before .before .count .ok)
 
--- src/lib.rt:217:5
 loop-less : tie.Need-loop-less Inv-loop μ-loop
 loop-less c = omega arith
 
--- src/lib.rt:217:5
 loop-again : tie.Need-loop-again Inv-loop μ-loop
 loop-again c =
     let h : c .before .before .before .before .before .loop .i + 1 < length (points (c .before .before .before .before .before .before .before .before .before .before .before .before .before .before .args .line .now)) = omega (arith, c .before .before .before .before .before .before .before .before .before .before .before .before .count .ensures, c .before .before .before .before .loop-test .taken) in
     let l = c .before .before .before .before .before .loop in
     (omega (arith, c .before .before .before .before .before .before .before .before .before .before .before .before .count .ensures, c .before .before .before .before .loop-test .taken), rw (c .nearer .ensures, c .before .candidate2 .ensures, c .before .before .distance3 .ensures, c .before .before .before .point3 .ensures) (l .inv .1 ∙ ap N.Some (nearest-goes (points (c .before .before .before .before .before .before .before .before .before .before .before .before .before .before .args .line .now)) (l .i) (l .at) (c .before .before .before .before .before .before .before .before .before .before .before .before .before .before .args .to) (l .best) (l .p) h)))
 
--- src/lib.rt:196:1
 returns-3 : tie.Need-returns-3 Inv-loop μ-loop
 returns-3 c =
     let h : length (points (c .before .before .before .before .before .before .before .before .before .before .args .line .now)) ≤ c .before .loop .i + 1 = omega (arith, c .before .before .before .before .before .before .before .before .count .ensures, c .loop-test .left) in

@@ -2,72 +2,52 @@
 use borrow.Author.Needs.{needs}
 use Rattle.polyline.proofs.point_at.Statement.{statement}
 use Rattle.polyline.proofs.point_at.Tie as tie
-use Rattle.polyline.proofs.point_at.Reads as reads
-use Rattle.polyline.proofs.point_at.Lts as lts
-use Rattle.geometry.proofs.Point3.lerp.Reads as lerp-reads
-use Rattle.polyline.proofs.count.Reads as count-reads
-use Rattle.polyline.proofs.last.Reads as last-reads
-use Rattle.polyline.proofs.locate.Reads as locate-reads
-use Rattle.polyline.proofs.point.Reads as point-reads
 use native.Mathlib.Omega.{arith}
 use mathlib.Core.Path.{sym, _∙_}
 use Rattle.polyline.specs.Polyline.{points}
 use Rattle.polyline.proofs.Points.{length-points}
 use Rattle.polyline.proofs.Walk.{locate-inside, point-at-none, point-at-in, point-at-last}
 
--- src/lib.rt:156:9
 locate-requires : tie.Need-locate-requires
 locate-requires c κs = search needs
 
--- src/lib.rt:157:21
 enum-known-place : tie.Need-enum-known-place
 enum-known-place c = search needs
 
--- src/lib.rt:158:9
 enum-told : tie.Need-enum-told
 enum-told c = search needs
 
--- src/lib.rt:158:9
 returns : tie.Need-returns
 returns c = point-at-none (points (c .before .before .before .before .args .line .now)) (c .before .before .before .before .args .station) (sym (c .before .before .locate .ensures) ∙ c .enum-told .given .1)
 
--- src/lib.rt:160:8
 add-if1 : tie.Need-add-if1
 add-if1 c =
     let e = sym (c .before .before .before .locate .ensures) ∙ c .before .place .given .1 in
     omega (arith, locate-inside (points (c .before .before .before .before .before .args .line .now)) (c .before .before .before .before .before .args .station) _ _ e, length-points (c .before .before .before .before .before .args .line .now))
 
--- src/lib.rt:160:16
 count-requires : tie.Need-count-requires
 count-requires c κs = search needs
 
--- src/lib.rt:161:35
 point-requires : tie.Need-point-requires
 point-requires c κs = search needs
 
--- src/lib.rt:161:67
 add-point : tie.Need-add-point
 add-point c = search needs
 
--- src/lib.rt:161:55
 point-requires-2 : tie.Need-point-requires-2
 point-requires-2 c κs = search needs
 
--- src/lib.rt:161:35
 lerp-requires : tie.Need-lerp-requires
 lerp-requires c κs = search needs
 
--- src/lib.rt:161:9
 returns-2 : tie.Need-returns-2
 returns-2 c =
     let e = sym (c .before .before .before .before .before .before .before .before .locate .ensures) ∙ c .before .before .before .before .before .before .place .given .1 in
     rw (c .lerp .ensures, c .before .point2 .ensures, c .before .before .point .ensures) (point-at-in (points (c .before .before .before .before .before .before .before .before .before .before .args .line .now)) (c .before .before .before .before .before .before .before .before .before .before .args .station) _ _ e (omega (arith, c .before .before .before .before .count .ensures)))
 
--- src/lib.rt:163:5
 last-requires : tie.Need-last-requires
 last-requires c κs = search needs
 
--- src/lib.rt:153:1
 returns-3 : tie.Need-returns-3
 returns-3 c =
     let e = sym (c .before .before .before .before .before .before .locate .ensures) ∙ c .before .before .before .before .place .given .1 in

@@ -1,13 +1,6 @@
 -- `polyline::put_between` meets its contract: what is left, written behind what was written, makes the whole. Assumes nothing.
 use Rattle.polyline.proofs.put_between.Statement.{statement}
 use Rattle.polyline.proofs.put_between.Tie as tie
-use Rattle.polyline.proofs.put_between.Reads as reads
-use Rattle.polyline.proofs.put_between.Lts as lts
-use Rattle.geometry.proofs.Point3.distance.Reads as distance-reads
-use Rattle.polyline.proofs.count.Reads as count-reads
-use Rattle.polyline.proofs.inside.Reads as inside-reads
-use Rattle.polyline.proofs.point.Reads as point-reads
-use Rattle.polyline.proofs.put_if.Reads as put-if-reads
 use mathlib.Core.Path.{refl, sym}
 use native.Mathlib.Omega.{arith}
 use native.Mathlib.Nat.{add-zero}
@@ -30,29 +23,23 @@ Inv-loop line from to out₀ k n at₀ p₀ i₀ found₀ out at p i found = (i 
 abbrev μ-loop : tie.MeasureT-loop
 μ-loop line from to out₀ k n at₀ p₀ i₀ found₀ out at p i found = n - i
 
--- src/lib.rt:290:9
 count-requires : tie.Need-count-requires Inv-loop μ-loop
 count-requires c κs = search needs
 
--- src/lib.rt:292:9
 returns : tie.Need-returns Inv-loop μ-loop
 returns c = rw (between-none (c .before .before .before .before .args .from) (c .before .before .before .before .args .to) (points (c .before .before .before .before .args .line .now)) (omega arith)) (refl, sym (over-none (c .before .before .before .before .args .out .now) (c .before .before .before .before .args .k)))
 
--- src/lib.rt:295:9
 point-requires : tie.Need-point-requires Inv-loop μ-loop
 point-requires c κs = omega arith
 
--- src/lib.rt:298:5
 loop-holds : tie.Need-loop-holds Inv-loop μ-loop
 loop-holds c =
     let ps = points (c .before .before .before .before .before .args .line .now) in
     (omega arith, rw (c .point .ensures, ← between-begins (c .before .before .before .before .before .args .from) (c .before .before .before .before .before .args .to) ps (omega arith), add-zero) (begins (c .before .before .before .before .before .args .out .now) (c .before .before .before .before .before .args .k) (between (c .before .before .before .before .before .args .from) (c .before .before .before .before .before .args .to) ps)))
 
--- src/lib.rt:299:13
 point-requires-2 : tie.Need-point-requires-2 Inv-loop μ-loop
 point-requires-2 c κs = omega (arith, c .before .before .before .before .count .ensures, c .loop-test .taken)
 
--- src/lib.rt:300:19
 distance-requires : tie.Need-distance-requires Inv-loop μ-loop
 distance-requires c κs = search needs
 
@@ -78,36 +65,29 @@ next c =
     let h : c .before .loop .i < length (line-of c) = omega (arith, c .before .before .before .before .count .ensures) in
     rw (inner-goes (c .before .before .before .before .before .before .before .args .from) (c .before .before .before .before .before .before .before .args .to) (line-of c) (c .before .loop .i) (c .before .loop .at) (c .before .loop .p) h) at (c .before .loop .inv .1)
 
--- src/lib.rt:301:37
 add-put-if : tie.Need-add-put-if Inv-loop μ-loop
 add-put-if c =
     let l = c .before .before .before .before .loop in
     omega (arith, l .inv .1 .total, c .before .before .before .before .before .before .before .before .before .before .pre, c .before .before .before .before .before .before .before .before .before .before .good .1 .1 .1 .0 .0)
 
--- src/lib.rt:301:51
 inside-requires : tie.Need-inside-requires Inv-loop μ-loop
 inside-requires c κs = search needs
 
--- src/lib.rt:301:25
 put-if-requires : tie.Need-put-if-requires Inv-loop μ-loop
 put-if-requires c κs = rw (c .inside .ensures, c .before .before .distance .ensures, c .before .before .before .point2 .ensures) (fits-more _ _ _ _ (whole (c .before .before .before .before)) (piece (c .before .before .before .before)) (rest (c .before .before .before .before)) (c .before .before .before .before .before .before .before .before .before .before .before .pre) (next (c .before .before .before .before)))
 
--- src/lib.rt:301:17
 add-found : tie.Need-add-found Inv-loop μ-loop
 add-found c =
     let r = fits-more _ _ _ _ (whole (c .before .before .before .before .before .before .before)) (piece (c .before .before .before .before .before .before .before)) (rest (c .before .before .before .before .before .before .before)) (c .before .before .before .before .before .before .before .before .before .before .before .before .before .before .pre) (next (c .before .before .before .before .before .before .before)) in
     let e = rw (c .before .before .before .inside .ensures, c .before .before .before .before .before .distance .ensures, c .before .before .before .before .before .before .point2 .ensures) at (c .before .before .put-if .ensures) in
     omega (arith, r, e .0, c .before .before .before .before .before .before .before .before .loop .inv .1 .same, c .before .before .before .before .before .before .before .before .before .before .before .before .before .before .good .1 .1 .1 .0 .0)
 
--- src/lib.rt:303:9
 add-i : tie.Need-add-i Inv-loop μ-loop
 add-i c = omega (arith, c .before .before .before .before .before .before .before .before .before .before .before .count .ok, c .before .before .before .before .before .before .before .loop-test .taken)
 
--- src/lib.rt:298:5
 loop-less : tie.Need-loop-less Inv-loop μ-loop
 loop-less c = omega (arith, c .before .before .before .before .before .before .before .loop-test .taken)
 
--- src/lib.rt:298:5
 loop-again : tie.Need-loop-again Inv-loop μ-loop
 loop-again c =
     let e = rw (c .before .before .before .inside .ensures, c .before .before .before .before .before .distance .ensures, c .before .before .before .before .before .before .point2 .ensures) at (c .before .before .put-if .ensures) in (
@@ -116,11 +96,9 @@ loop-again c =
           (goes-on _ _ _ _ (whole (c .before .before .before .before .before .before .before)) (piece (c .before .before .before .before .before .before .before)) (rest (c .before .before .before .before .before .before .before)) (c .before .before .before .before .before .before .before .before .before .before .before .before .before .before .pre) (next (c .before .before .before .before .before .before .before)) (c .before .before .before .before .before .before .before .before .before .before .before .before .before .before .args .k + (c .before .before .before .before .before .before .before .before .loop .found + c .before .before .put-if .result)) (omega (arith, e .0))),
     )
 
--- src/lib.rt:286:1
 same-length : tie.Need-same-length Inv-loop μ-loop
 same-length c = c .before .loop .inv .1 .same
 
--- src/lib.rt:286:1
 returns-2 : tie.Need-returns-2 Inv-loop μ-loop
 returns-2 c =
     let ps = points (c .before .before .before .before .before .before .before .args .line .now) in

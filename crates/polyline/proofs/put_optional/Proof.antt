@@ -2,34 +2,25 @@
 use borrow.Author.Needs.{needs}
 use Rattle.polyline.proofs.put_optional.Statement.{statement}
 use Rattle.polyline.proofs.put_optional.Tie as tie
-use Rattle.polyline.proofs.put_optional.Reads as reads
-use Rattle.polyline.proofs.put_optional.Lts as lts
-use Rattle.polyline.proofs.put_point.Reads as put-point-reads
 use mathlib.Core.Path.{refl, sym}
 use native.Mathlib.Omega.{arith}
 use Rattle.polyline.proofs.Points.{over-none}
 
--- src/lib.rt:235:28
 enum-known-p : tie.Need-enum-known-p
 enum-known-p c = search needs
 
--- src/lib.rt:236:9
 enum-told : tie.Need-enum-told
 enum-told c = search needs
 
--- src/lib.rt:236:9
 returns : tie.Need-returns
 returns c = rw (c .enum-told .given .1) (refl, sym (over-none (c .before .before .before .args .out .now) (c .before .before .before .args .i)))
 
--- src/lib.rt:238:5
 put-point-requires : tie.Need-put-point-requires
 put-point-requires c κs = let h = rw (c .before .before .p .given .1) at (c .before .before .before .before .before .pre) in omega arith
 
--- src/lib.rt:231:1
 same-length : tie.Need-same-length
 same-length c = search needs
 
--- src/lib.rt:231:1
 returns-2 : tie.Need-returns-2
 returns-2 c = rw (c .before .before .before .before .before .p .given .1) (refl, c .before .before .put-point .ensures)
 

@@ -2,54 +2,41 @@
 use borrow.Author.Needs.{needs}
 use Rattle.polyline.proofs.put_point.Statement.{statement}
 use Rattle.polyline.proofs.put_point.Tie as tie
-use Rattle.polyline.proofs.put_point.Reads as reads
-use Rattle.polyline.proofs.put_point.Lts as lts
 use native.Mathlib.Omega.{arith}
 use lib.ListN.{length-set}
 use Rattle.polyline.specs.Polyline.{flat}
 use Rattle.lists.proofs.Rows.{over-three}
 
--- src/lib.rt:67:14
 mul-at : tie.Need-mul-at
 mul-at c = search needs
 
--- src/lib.rt:68:5
 mul-out : tie.Need-mul-out
 mul-out c = search needs
 
--- src/lib.rt:68:5
 slice-write-out : tie.Need-slice-write-out
 slice-write-out c = search needs
 
--- src/lib.rt:69:9
 add-out : tie.Need-add-out
 add-out c = search needs
 
--- src/lib.rt:69:5
 mul-out-2 : tie.Need-mul-out-2
 mul-out-2 c = search needs
 
--- src/lib.rt:69:5
 slice-write-out-2 : tie.Need-slice-write-out-2
 slice-write-out-2 c = simp length-set (omega arith)
 
--- src/lib.rt:70:9
 add-out-2 : tie.Need-add-out-2
 add-out-2 c = search needs
 
--- src/lib.rt:70:5
 mul-out-3 : tie.Need-mul-out-3
 mul-out-3 c = search needs
 
--- src/lib.rt:70:5
 slice-write-out-3 : tie.Need-slice-write-out-3
 slice-write-out-3 c = simp length-set (omega arith)
 
--- src/lib.rt:63:1
 same-length : tie.Need-same-length
 same-length c = search needs
 
--- src/lib.rt:63:1
 returns : tie.Need-returns
 unfolding flat
 returns c = over-three (c .args .out .now) _ _ _ _ (c .pre)

@@ -1,14 +1,6 @@
 -- `polyline::resample_count` meets its contract: what is left, written behind what was written, makes the whole. Assumes nothing.
 use Rattle.polyline.proofs.resample_count.Statement.{statement}
 use Rattle.polyline.proofs.resample_count.Tie as tie
-use Rattle.polyline.proofs.resample_count.Reads as reads
-use Rattle.polyline.proofs.resample_count.Lts as lts
-use Rattle.polyline.proofs.at_least_two.Reads as at-least-two-reads
-use Rattle.polyline.proofs.count.Reads as count-reads
-use Rattle.polyline.proofs.length.Reads as length-reads
-use Rattle.polyline.proofs.point_at.Reads as point-at-reads
-use Rattle.polyline.proofs.put_optional.Reads as put-optional-reads
-use Rattle.polyline.proofs.share.Reads as share-reads
 use Prim.Native.Nat.{ℕ, _+_, _*_, _-_, _≤_, _<_}
 use mathlib.Core.Path.{refl, sym, ap, _∙_}
 use mathlib.Core.List.{List, _++_}
@@ -26,23 +18,18 @@ Inv-loop line n out₀ wanted len i₀ out i = (i ≤ wanted) × Left out₀ out
 abbrev μ-loop : tie.MeasureT-loop
 μ-loop line n out₀ wanted len i₀ out i = wanted - i
 
--- src/lib.rt:394:8
 count-requires : tie.Need-count-requires Inv-loop μ-loop
 count-requires c κs = search needs
 
--- src/lib.rt:395:9
 returns : tie.Need-returns Inv-loop μ-loop
 returns c = rw (resample-empty (points (c .before .before .before .before .args .line .now)) (c .before .before .before .before .args .n) (omega arith)) (refl, sym (over-none (c .before .before .before .before .args .out .now) 0))
 
--- src/lib.rt:397:9
 at-least-two-requires : tie.Need-at-least-two-requires Inv-loop μ-loop
 at-least-two-requires c κs = search needs
 
--- src/lib.rt:398:9
 length-requires : tie.Need-length-requires Inv-loop μ-loop
 length-requires c κs = search needs
 
--- src/lib.rt:400:5
 loop-holds : tie.Need-loop-holds Inv-loop μ-loop
 loop-holds c = (omega arith, rw (← resample-begins (points (c .before .before .before .before .before .before .args .line .now)) (c .before .before .before .before .before .before .args .n) (c .before .at-least-two .result) (c .before .at-least-two .ensures)) (begins (c .before .before .before .before .before .before .args .out .now) 0 (resample-count (points (c .before .before .before .before .before .before .args .line .now)) (c .before .before .before .before .before .before .args .n))))
 
@@ -68,31 +55,24 @@ next c = rw (resample-goes (line-of c) (parts c) (c .before .loop .i) (c .before
 room : (c : tie.In-loop Inv-loop μ-loop) → (0 + length (whole c)) * 3 ≤ length (c .before .before .before .before .before .before .before .before .args .out .now)
 room c = omega (arith, c .before .before .before .before .before .before .before .before .pre .1)
 
--- src/lib.rt:401:59
 sub-share : tie.Need-sub-share Inv-loop μ-loop
 sub-share c = omega (arith, c .before .loop-test .taken)
 
--- src/lib.rt:401:45
 share-requires : tie.Need-share-requires Inv-loop μ-loop
 share-requires c κs = omega (arith, c .before .loop-test .taken, c .before .before .before .before .at-least-two .ensures, c .before .before .before .before .before .before .before .before .before .pre .0)
 
--- src/lib.rt:401:30
 point-at-requires : tie.Need-point-at-requires Inv-loop μ-loop
 point-at-requires c κs = search needs
 
--- src/lib.rt:401:9
 put-optional-requires : tie.Need-put-optional-requires Inv-loop μ-loop
 put-optional-requires c κs = rw (c .point-at .ensures, c .before .share .ensures, c .before .before .before .before .before .length .ensures) (fits-more _ _ _ _ (whole (c .before .before .before)) (piece (c .before .before .before)) (rest (c .before .before .before)) (room (c .before .before .before)) (next (c .before .before .before)))
 
--- src/lib.rt:402:9
 add-i : tie.Need-add-i Inv-loop μ-loop
 add-i c = omega (arith, c .before .before .before .before .before .before .loop-test .taken, c .before .before .before .before .before .before .before .before .before .at-least-two .ok)
 
--- src/lib.rt:400:5
 loop-less : tie.Need-loop-less Inv-loop μ-loop
 loop-less c = omega (arith, c .before .before .before .before .before .before .loop-test .taken)
 
--- src/lib.rt:400:5
 loop-again : tie.Need-loop-again Inv-loop μ-loop
 loop-again c =
     let some : 0 < length (line-of (c .before .before .before .before .before .before)) = omega (arith, c .before .before .before .before .before .before .before .before .before .before .before .count .ensures, c .before .before .before .before .before .before .before .before .before .before .if1 .left) in (
@@ -101,11 +81,9 @@ loop-again c =
           (goes-on _ _ _ _ (whole (c .before .before .before .before .before .before)) (piece (c .before .before .before .before .before .before)) (rest (c .before .before .before .before .before .before)) (room (c .before .before .before .before .before .before)) (next (c .before .before .before .before .before .before)) (c .before .before .before .before .before .before .before .loop .i + 1) (ap (λ k. c .before .before .before .before .before .before .before .loop .i + k) (point-at-one _ _ some))),
     )
 
--- src/lib.rt:390:1
 same-length : tie.Need-same-length Inv-loop μ-loop
 same-length c = c .before .loop .inv .1 .same
 
--- src/lib.rt:390:1
 returns-2 : tie.Need-returns-2 Inv-loop μ-loop
 returns-2 c =
     let ps = points (c .before .before .before .before .before .before .before .before .args .line .now) in

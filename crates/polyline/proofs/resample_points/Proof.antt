@@ -2,29 +2,21 @@
 use borrow.Author.Needs.{needs}
 use Rattle.polyline.proofs.resample_points.Statement.{statement}
 use Rattle.polyline.proofs.resample_points.Tie as tie
-use Rattle.polyline.proofs.resample_points.Reads as reads
-use Rattle.polyline.proofs.resample_points.Lts as lts
-use Rattle.polyline.proofs.at_least_two.Reads as at-least-two-reads
-use Rattle.polyline.proofs.count.Reads as count-reads
 use mathlib.Core.Path.{sym, ap, _∙_}
 use native.Mathlib.Omega.{arith}
 use lib.ListN.{length}
 use Rattle.polyline.specs.Polyline.{points}
 use Rattle.polyline.proofs.Lines.{length-resample-count, resample-empty}
 
--- src/lib.rt:384:8
 count-requires : tie.Need-count-requires
 count-requires c κs = search needs
 
--- src/lib.rt:385:9
 returns : tie.Need-returns
 returns c = sym (ap length (resample-empty (points (c .before .before .before .args .line .now)) (c .before .before .before .args .n) (omega arith)))
 
--- src/lib.rt:387:5
 at-least-two-requires : tie.Need-at-least-two-requires
 at-least-two-requires c κs = search needs
 
--- src/lib.rt:381:1
 returns-2 : tie.Need-returns-2
 returns-2 c = c .at-least-two .ensures ∙ sym (length-resample-count (points (c .before .before .before .before .args .line .now)) (c .before .before .before .before .args .n) (omega arith))
 

@@ -1,11 +1,6 @@
 -- `polyline::reversed` meets its contract: what is left at i is the first n - i points, backwards. Assumes nothing.
 use Rattle.polyline.proofs.reversed.Statement.{statement}
 use Rattle.polyline.proofs.reversed.Tie as tie
-use Rattle.polyline.proofs.reversed.Reads as reads
-use Rattle.polyline.proofs.reversed.Lts as lts
-use Rattle.polyline.proofs.count.Reads as count-reads
-use Rattle.polyline.proofs.point.Reads as point-reads
-use Rattle.polyline.proofs.put_point.Reads as put-point-reads
 use Prim.Native.Nat.{_+_, _*_, _≤_, _<_, _-_}
 use mathlib.Core.Path.{refl}
 use mathlib.Core.List.{List, [], _∷_, _++_, reverse}
@@ -23,11 +18,9 @@ Inv-loop line out₀ n i₀ out i = (i ≤ n) × Left out₀ out 0 i (reverse (p
 abbrev μ-loop : tie.MeasureT-loop
 μ-loop line out₀ n i₀ out i = n - i
 
--- src/lib.rt:426:9
 count-requires : tie.Need-count-requires Inv-loop μ-loop
 count-requires c κs = search needs
 
--- src/lib.rt:428:5
 loop-holds : tie.Need-loop-holds Inv-loop μ-loop
 loop-holds c = (omega arith, rw (reverse-begins (points (c .before .before .before .args .line .now))) (begins (c .before .before .before .args .out .now) 0 (reverse (points (c .before .before .before .args .line .now)))))
 
@@ -49,33 +42,26 @@ next c =
 room : (c : tie.In-loop Inv-loop μ-loop) → (0 + length (reverse (line-of c))) * 3 ≤ length (c .before .before .before .before .before .args .out .now)
 room c = omega (arith, length-reverse (line-of c), c .before .before .before .before .before .pre)
 
--- src/lib.rt:429:39
 sub-point : tie.Need-sub-point Inv-loop μ-loop
 sub-point c = omega (arith, c .before .loop-test .taken)
 
--- src/lib.rt:429:39
 sub-point-2 : tie.Need-sub-point-2 Inv-loop μ-loop
 sub-point-2 c = omega (arith, c .before .loop-test .taken)
 
--- src/lib.rt:429:27
 point-requires : tie.Need-point-requires Inv-loop μ-loop
 point-requires c κs = omega (arith, c .before .before .before .count .ensures, c .before .loop-test .taken)
 
--- src/lib.rt:429:9
 put-point-requires : tie.Need-put-point-requires Inv-loop μ-loop
 put-point-requires c κs =
     let r = fits-more _ _ _ _ (reverse (line-of (c .before .before))) (point-of (c .before .before) ∷ []) (rest (c .before .before)) (room (c .before .before)) (next (c .before .before)) in
     omega (arith, r)
 
--- src/lib.rt:430:9
 add-i : tie.Need-add-i Inv-loop μ-loop
 add-i c = omega (arith, c .before .before .before .before .before .before .before .count .ok, c .before .before .before .before .before .loop-test .taken)
 
--- src/lib.rt:428:5
 loop-less : tie.Need-loop-less Inv-loop μ-loop
 loop-less c = omega (arith, c .before .before .before .before .before .loop-test .taken)
 
--- src/lib.rt:428:5
 loop-again : tie.Need-loop-again Inv-loop μ-loop
 loop-again c = (
   omega (arith, c .before .before .before .before .before .loop-test .taken),
@@ -83,11 +69,9 @@ loop-again c = (
       (goes-on _ _ _ _ (reverse (line-of (c .before .before .before .before .before))) (point-of (c .before .before .before .before .before) ∷ []) (rest (c .before .before .before .before .before)) (room (c .before .before .before .before .before)) (next (c .before .before .before .before .before)) (c .before .before .before .before .before .before .loop .i + 1) refl),
 )
 
--- src/lib.rt:422:1
 same-length : tie.Need-same-length Inv-loop μ-loop
 same-length c = c .before .loop .inv .1 .same
 
--- src/lib.rt:422:1
 returns : tie.Need-returns Inv-loop μ-loop
 returns c =
     let ps = points (c .before .before .before .before .before .args .line .now) in

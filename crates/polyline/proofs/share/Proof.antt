@@ -1,8 +1,6 @@
 -- `polyline::share` meets its contract: both counts are exact as floats. Assumes nothing.
 use Rattle.polyline.proofs.share.Statement.{statement}
 use Rattle.polyline.proofs.share.Tie as tie
-use Rattle.polyline.proofs.share.Reads as reads
-use Rattle.polyline.proofs.share.Lts as lts
 use Prim.Native.Nat.{_^_}
 use mathlib.Core.Path.{refl}
 use native.Mathlib.Omega.{arith}
@@ -10,17 +8,14 @@ use lib.Dec.{le→leb}
 use lib.Ieee.{inFloat, prec}
 use Rattle.polyline.specs.Polyline.{share}
 
--- src/lib.rt:372:12
 int-to-float-result : tie.Need-int-to-float-result
 unfolding inFloat prec
 int-to-float-result c = le→leb (c .before .args .i) (2 ^ 53) (omega arith)
 
--- src/lib.rt:372:25
 int-to-float-result-2 : tie.Need-int-to-float-result-2
 unfolding inFloat prec
 int-to-float-result-2 c = le→leb (c .before .before .args .parts) (2 ^ 53) (omega arith)
 
--- src/lib.rt:368:1
 returns : tie.Need-returns
 unfolding share
 returns c = refl

@@ -2,14 +2,6 @@
 use borrow.Author.Needs.{needs}
 use Rattle.polyline.proofs.slice.Statement.{statement}
 use Rattle.polyline.proofs.slice.Tie as tie
-use Rattle.polyline.proofs.slice.Reads as reads
-use Rattle.polyline.proofs.slice.Lts as lts
-use Rattle.geometry.proofs.clamp.Reads as clamp-reads
-use Rattle.polyline.proofs.count.Reads as count-reads
-use Rattle.polyline.proofs.length.Reads as length-reads
-use Rattle.polyline.proofs.point_at.Reads as point-at-reads
-use Rattle.polyline.proofs.put_between.Reads as put-between-reads
-use Rattle.polyline.proofs.put_optional.Reads as put-optional-reads
 use Prim.Native.Nat.{_+_, _*_, _≤_}
 use mathlib.Core.Path.{_≡_, _∙_}
 use mathlib.Core.List.{List, _++_}
@@ -20,48 +12,38 @@ use lib.ListN.{length, length-append}
 use Rattle.polyline.specs.Polyline.{points, between, optional, slice, point-at}
 use Rattle.polyline.proofs.Lines.{slice-short, slice-empty, slice-whole, room-three, writes-three}
 
--- src/lib.rt:336:9
 length-requires : tie.Need-length-requires
 length-requires c κs = search needs
 
--- src/lib.rt:337:9
 clamp-requires : tie.Need-clamp-requires
 clamp-requires c κs = search needs
 
--- src/lib.rt:338:9
 clamp-requires-2 : tie.Need-clamp-requires-2
 clamp-requires-2 c κs = search needs
 
--- src/lib.rt:339:8
 count-requires : tie.Need-count-requires
 count-requires c κs = search needs
 
--- src/lib.rt:340:37
 point-at-requires : tie.Need-point-at-requires
 point-at-requires c κs = search needs
 
--- src/lib.rt:340:9
 put-optional-requires : tie.Need-put-optional-requires
 put-optional-requires c κs =
     let e = slice-short (points (c .before .before .before .before .before .before .before .before .before .args .line .now)) (c .before .before .before .before .before .before .before .before .before .args .from) (c .before .before .before .before .before .before .before .before .before .args .to) (omega (arith, c .before .before .before .count .ensures)) in
     let h = rw (e, ← c .before .before .before .before .before .before .length .ensures, ← c .before .before .before .before .before .clamp .ensures, ← c .point-at .ensures) at (c .before .before .before .before .before .before .before .before .before .pre) in
     omega (arith, h)
 
--- src/lib.rt:340:9
 same-length : tie.Need-same-length
 same-length c = search needs
 
--- src/lib.rt:340:9
 returns : tie.Need-returns
 returns c =
     let e = slice-short (points (c .before .before .before .before .before .before .before .before .before .before .before .before .args .line .now)) (c .before .before .before .before .before .before .before .before .before .before .before .before .args .from) (c .before .before .before .before .before .before .before .before .before .before .before .before .args .to) (omega (arith, c .before .before .before .before .before .before .count .ensures, c .before .before .before .before .before .if1 .taken)) in
     rw (e, ← c .before .before .before .before .before .before .before .before .before .length .ensures, ← c .before .before .before .before .before .before .before .before .clamp .ensures, ← c .before .before .before .point-at .ensures) (c .before .before .put-optional .ensures)
 
--- src/lib.rt:343:37
 point-at-requires-2 : tie.Need-point-at-requires-2
 point-at-requires-2 c κs = search needs
 
--- src/lib.rt:343:9
 put-optional-requires-2 : tie.Need-put-optional-requires-2
 put-optional-requires-2 c κs =
     let t = rw (c .before .before .before .before .before .clamp2 .ensures, c .before .before .before .before .before .before .clamp .ensures, c .before .before .before .before .before .before .before .length .ensures) at (c .before .before .if2 .taken) in
@@ -69,18 +51,15 @@ put-optional-requires-2 c κs =
     let h = rw (e, ← c .before .before .before .before .before .before .before .length .ensures, ← c .before .before .before .before .before .before .clamp .ensures, ← c .point-at2 .ensures) at (c .before .before .before .before .before .before .before .before .before .before .pre) in
     omega (arith, h)
 
--- src/lib.rt:343:9
 same-length-2 : tie.Need-same-length-2
 same-length-2 c = search needs
 
--- src/lib.rt:343:9
 returns-2 : tie.Need-returns-2
 returns-2 c =
     let t = rw (c .before .before .before .before .before .before .before .before .clamp2 .ensures, c .before .before .before .before .before .before .before .before .before .clamp .ensures, c .before .before .before .before .before .before .before .before .before .before .length .ensures) at (c .before .before .before .before .before .if2 .taken) in
     let e = slice-empty (points (c .before .before .before .before .before .before .before .before .before .before .before .before .before .args .line .now)) (c .before .before .before .before .before .before .before .before .before .before .before .before .before .args .from) (c .before .before .before .before .before .before .before .before .before .before .before .before .before .args .to) (omega (arith, c .before .before .before .before .before .before .before .count .ensures, c .before .before .before .before .before .before .if1 .left)) t in
     rw (e, ← c .before .before .before .before .before .before .before .before .before .before .length .ensures, ← c .before .before .before .before .before .before .before .before .before .clamp .ensures, ← c .before .before .before .point-at2 .ensures) (c .before .before .put-optional2 .ensures)
 
--- src/lib.rt:345:37
 point-at-requires-3 : tie.Need-point-at-requires-3
 point-at-requires-3 c κs = search needs
 
@@ -110,50 +89,41 @@ room c =
     room-three _ _ (optional (point-at (line-of c) (start-of c))) (between (start-of c) (end-of c) (line-of c))
     (optional (point-at (line-of c) (end-of c))) (sliced c) (c .before .before .before .before .before .before .before .before .pre)
 
--- src/lib.rt:345:9
 put-optional-requires-3 : tie.Need-put-optional-requires-3
 put-optional-requires-3 c κs = rw (c .point-at3 .ensures) (omega (arith, room (c .before .before)))
 
--- src/lib.rt:346:9
 put-between-requires : tie.Need-put-between-requires
 put-between-requires c κs =
     let head = rw (c .before .before .before .before .point-at3 .ensures) at (c .before .before .before .put-optional3 .ensures) in
     omega (arith, room (c .before .before .before .before .before .before), head .0, c .before .before .before .put-optional3 .kept .0)
 
--- src/lib.rt:347:40
 add-put-optional : tie.Need-add-put-optional
 add-put-optional c =
     let head = rw (c .before .before .before .before .before .before .before .before .point-at3 .ensures) at (c .before .before .before .before .before .before .before .put-optional3 .ensures) in
     omega (arith, room (c .before .before .before .before .before .before .before .before .before .before), head .0, c .before .before .before .put-between .ensures .0, c .before .before .before .before .before .before .before .before .before .before .before .before .before .before .before .before .before .before .good .1 .1 .1 .0 .0)
 
--- src/lib.rt:347:55
 point-at-requires-4 : tie.Need-point-at-requires-4
 point-at-requires-4 c κs = search needs
 
--- src/lib.rt:347:22
 put-optional-requires-4 : tie.Need-put-optional-requires-4
 put-optional-requires-4 c κs =
     let head = rw (c .before .before .before .before .before .before .before .before .before .point-at3 .ensures) at (c .before .before .before .before .before .before .before .before .put-optional3 .ensures) in
     rw (c .point-at4 .ensures) (omega (arith, room (c .before .before .before .before .before .before .before .before .before .before .before), head .0, c .before .before .before .before .put-between .ensures .0, c .before .before .before .before .before .before .before .before .put-optional3 .kept .0, c .before .before .before .before .put-between .kept .1 .1 .1 .0))
 
--- src/lib.rt:347:13
 add-result : tie.Need-add-result
 add-result c =
     let end = rw (c .before .before .before .point-at4 .ensures) at (c .before .before .put-optional4 .ensures) in
     omega (arith, room (c .before .before .before .before .before .before .before .before .before .before .before .before .before .before), c .before .before .before .before .before .before .before .put-between .ensures .0, end .0, c .before .before .before .before .before .before .before .before .before .before .before .before .before .before .before .before .before .before .before .before .before .before .good .1 .1 .1 .0 .0)
 
--- src/lib.rt:347:5
 add-result-2 : tie.Need-add-result-2
 add-result-2 c =
     let head = rw (c .before .before .before .before .before .before .before .before .before .before .before .before .point-at3 .ensures) at (c .before .before .before .before .before .before .before .before .before .before .before .put-optional3 .ensures) in
     let end = rw (c .before .before .before .point-at4 .ensures) at (c .before .before .put-optional4 .ensures) in
     omega (arith, room (c .before .before .before .before .before .before .before .before .before .before .before .before .before .before), head .0, c .before .before .before .before .before .before .before .put-between .ensures .0, end .0, c .before .before .before .before .before .before .before .before .before .before .before .before .before .before .before .before .before .before .before .before .before .before .good .1 .1 .1 .0 .0)
 
--- src/lib.rt:332:1
 same-length-3 : tie.Need-same-length-3
 same-length-3 c = search needs
 
--- src/lib.rt:332:1
 returns-3 : tie.Need-returns-3
 returns-3 c =
     let head = rw (c .before .before .before .before .before .before .before .before .before .before .before .before .point-at3 .ensures) at (c .before .before .before .before .before .before .before .before .before .before .before .put-optional3 .ensures) in

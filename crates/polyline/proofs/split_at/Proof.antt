@@ -2,10 +2,6 @@
 use borrow.Author.Needs.{needs}
 use Rattle.polyline.proofs.split_at.Statement.{statement}
 use Rattle.polyline.proofs.split_at.Tie as tie
-use Rattle.polyline.proofs.split_at.Reads as reads
-use Rattle.polyline.proofs.split_at.Lts as lts
-use Rattle.polyline.proofs.length.Reads as length-reads
-use Rattle.polyline.proofs.slice.Reads as slice-reads
 use Prim.Native.Nat.{_*_}
 use native.Mathlib.Omega.{arith}
 use lib.ListN.{length}
@@ -15,40 +11,32 @@ use native.Mathlib.Nat.{le-refl}
 use Rattle.geometry.specs.Float.{zeroᶠ}
 use Rattle.polyline.specs.Polyline.{points, lineLength, slice, firstPiece, secondPiece}
 
--- src/lib.rt:361:9
 slice-requires : tie.Need-slice-requires
 unfolding firstPiece
 slice-requires c κs = omega arith
 
--- src/lib.rt:362:18
 mul-behind : tie.Need-mul-behind
 unfolding firstPiece
 mul-behind c = omega (arith, c .before .before .slice .ensures .0, c .before .before .before .before .before .before .pre, c .before .before .before .before .before .before .good .1 .1 .0 .0)
 
--- src/lib.rt:363:39
 length-requires : tie.Need-length-requires
 length-requires c κs = search needs
 
--- src/lib.rt:363:53
 mul-slice : tie.Need-mul-slice
 unfolding firstPiece
 mul-slice c = omega (arith, c .before .before .before .slice .ensures .0, c .before .before .before .before .before .before .before .pre, c .before .before .before .before .before .before .before .good .1 .1 .0 .1)
 
--- src/lib.rt:363:53
 sub-slice : tie.Need-sub-slice
 unfolding firstPiece
 sub-slice c = omega (arith, c .before .before .before .slice .ensures .0, c .before .before .before .slice .kept .1 .1 .1 .0, c .before .before .before .before .before .before .before .pre)
 
--- src/lib.rt:363:53
 part-slice-start : tie.Need-part-slice-start
 unfolding firstPiece
 part-slice-start c = omega (arith, c .before .before .before .slice .ensures .0, c .before .before .before .slice .kept .1 .1 .1 .0, c .before .before .before .before .before .before .before .pre)
 
--- src/lib.rt:363:53
 part-slice-end : tie.Need-part-slice-end
 part-slice-end c = search needs
 
--- src/lib.rt:363:9
 slice-requires-2 : tie.Need-slice-requires-2
 unfolding firstPiece secondPiece
 slice-requires-2 c κs =
@@ -56,11 +44,9 @@ slice-requires-2 c κs =
     rw (c .before .length .ensures)
     (omega (arith, mid-len (c .before .before .before .before .slice .result * 3) (length w) w (le-refl (length w)), c .before .before .before .before .slice .ensures .0, c .before .before .before .before .slice .kept .1 .1 .1 .0, c .before .before .before .before .before .before .before .before .pre))
 
--- src/lib.rt:357:1
 same-length : tie.Need-same-length
 same-length c = search needs
 
--- src/lib.rt:357:1
 returns : tie.Need-returns
 unfolding firstPiece secondPiece
 returns c =

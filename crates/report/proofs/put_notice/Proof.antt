@@ -13,8 +13,8 @@ enum-told c = search needs
 enum-known-notice : tie.Need-enum-known-notice
 enum-known-notice c = search needs
 
-put-no-op-requires : tie.Need-put-no-op-requires
-put-no-op-requires c κs =
+put-single-requires : tie.Need-put-single-requires
+put-single-requires c κs =
     let a = c .before .before .before .before .before .args in
     let g = c .before .before .notice .given in
     omega (arith, notice-room (a .notice) (NoOp (g .0 .0)) (a .at) (length (a .warnings .now)) (g .1) (c .before .before .before .before .before .pre))
@@ -40,7 +40,7 @@ returns-2 : tie.Need-returns-2
 returns-2 c =
     let a = c .before .before .before .before .before .before .before .before .args in
     let g = c .before .before .before .before .before .notice .given in
-    notice-put (a .notice) (NoOp (g .0 .0)) (a .at) (a .warnings .now) (c .before .before .put-no-op .last .0) (g .1) (c .before .before .put-no-op .ensures)
+    notice-put (a .notice) (NoOp (g .0 .0)) (a .at) (a .warnings .now) (c .before .before .put-single .last .0) (g .1) (c .before .before .put-single .ensures)
 
 same-length-2 : tie.Need-same-length-2
 same-length-2 c = search needs
@@ -57,7 +57,7 @@ put-notice-spec =
     (tie.spec
     enum-told
     enum-known-notice
-    put-no-op-requires
+    put-single-requires
     enum-known-notice-2
     put-pair-requires
     returns

@@ -1,52 +1,38 @@
+-- `topology::clear_slot` meets its contract. Assumes nothing.
 use borrow.Author.Needs.{needs}
 use Rattle.topology.proofs.clear_slot.Statement.{statement}
 use Rattle.topology.proofs.clear_slot.Tie as tie
-use Rattle.topology.proofs.clear_slot.Reads as reads
-use Rattle.topology.proofs.clear_slot.Lts as lts
-use Rattle.topology.proofs.free_answer.Reads as free-answer-reads
-use Rattle.topology.proofs.neighbor.Reads as neighbor-reads
-use Rattle.topology.proofs.slot_place.Reads as slot-place-reads
 use native.Mathlib.Omega.{arith}
 use Rattle.map.proofs.Lanes.{lane-room}
 use Rattle.topology.proofs.Neighbors.{slot-room, clear-search, clear-within, cleared}
 
--- src/lib.rt:167:9
 neighbor-requires : tie.Need-neighbor-requires
 neighbor-requires c κs = search needs
 
--- src/lib.rt:168:5
 free-answer-requires : tie.Need-free-answer-requires
 free-answer-requires c κs = search needs
 
--- src/lib.rt:169:15
 mul-lanes : tie.Need-mul-lanes
 mul-lanes c = omega (arith, lane-room (c .before .before .free-answer .last .0) (clear-search (c .before .before .before .before .before .before .before .args .lanes .now) (c .before .before .before .before .before .before .before .pre .0) (c .before .before .before .before .before .before .before .args .i) (c .before .before .before .before .before .before .before .pre .1) (c .before .before .before .before .before .before .before .args .side) (c .before .before .before .before .neighbor .result) (c .before .before .before .before .neighbor .ensures) (c .before .before .free-answer .last .0) (c .before .before .free-answer .ensures)) (c .before .before .before .before .before .before .before .args .i) (clear-within (c .before .before .before .before .before .before .before .args .lanes .now) (c .before .before .before .before .before .before .before .pre .0) (c .before .before .before .before .before .before .before .args .i) (c .before .before .before .before .before .before .before .pre .1) (c .before .before .before .before .before .before .before .args .side) (c .before .before .before .before .neighbor .result) (c .before .before .before .before .neighbor .ensures) (c .before .before .free-answer .last .0) (c .before .before .free-answer .ensures)))
 
--- src/lib.rt:169:11
 add-lanes : tie.Need-add-lanes
 add-lanes c = omega (arith, lane-room (c .before .before .free-answer .last .0) (clear-search (c .before .before .before .before .before .before .before .args .lanes .now) (c .before .before .before .before .before .before .before .pre .0) (c .before .before .before .before .before .before .before .args .i) (c .before .before .before .before .before .before .before .pre .1) (c .before .before .before .before .before .before .before .args .side) (c .before .before .before .before .neighbor .result) (c .before .before .before .before .neighbor .ensures) (c .before .before .free-answer .last .0) (c .before .before .free-answer .ensures)) (c .before .before .before .before .before .before .before .args .i) (clear-within (c .before .before .before .before .before .before .before .args .lanes .now) (c .before .before .before .before .before .before .before .pre .0) (c .before .before .before .before .before .before .before .args .i) (c .before .before .before .before .before .before .before .pre .1) (c .before .before .before .before .before .before .before .args .side) (c .before .before .before .before .neighbor .result) (c .before .before .before .before .neighbor .ensures) (c .before .before .free-answer .last .0) (c .before .before .free-answer .ensures)))
 
--- src/lib.rt:169:26
 slot-place-requires : tie.Need-slot-place-requires
 slot-place-requires c κs = search needs
 
--- src/lib.rt:169:11
 add-lanes-2 : tie.Need-add-lanes-2
 add-lanes-2 c = omega (arith, slot-room (c .before .before .before .free-answer .last .0) (clear-search (c .before .before .before .before .before .before .before .before .args .lanes .now) (c .before .before .before .before .before .before .before .before .pre .0) (c .before .before .before .before .before .before .before .before .args .i) (c .before .before .before .before .before .before .before .before .pre .1) (c .before .before .before .before .before .before .before .before .args .side) (c .before .before .before .before .before .neighbor .result) (c .before .before .before .before .before .neighbor .ensures) (c .before .before .before .free-answer .last .0) (c .before .before .before .free-answer .ensures)) (c .before .before .before .before .before .before .before .before .args .i) (clear-within (c .before .before .before .before .before .before .before .before .args .lanes .now) (c .before .before .before .before .before .before .before .before .pre .0) (c .before .before .before .before .before .before .before .before .args .i) (c .before .before .before .before .before .before .before .before .pre .1) (c .before .before .before .before .before .before .before .before .args .side) (c .before .before .before .before .before .neighbor .result) (c .before .before .before .before .before .neighbor .ensures) (c .before .before .before .free-answer .last .0) (c .before .before .before .free-answer .ensures)) (c .before .before .before .before .before .before .before .before .args .side) (c .slot-place .result) (c .slot-place .ensures))
 
--- src/lib.rt:169:5
 mul-lanes-2 : tie.Need-mul-lanes-2
 mul-lanes-2 c = omega (arith, slot-room (c .before .before .before .free-answer .last .0) (clear-search (c .before .before .before .before .before .before .before .before .args .lanes .now) (c .before .before .before .before .before .before .before .before .pre .0) (c .before .before .before .before .before .before .before .before .args .i) (c .before .before .before .before .before .before .before .before .pre .1) (c .before .before .before .before .before .before .before .before .args .side) (c .before .before .before .before .before .neighbor .result) (c .before .before .before .before .before .neighbor .ensures) (c .before .before .before .free-answer .last .0) (c .before .before .before .free-answer .ensures)) (c .before .before .before .before .before .before .before .before .args .i) (clear-within (c .before .before .before .before .before .before .before .before .args .lanes .now) (c .before .before .before .before .before .before .before .before .pre .0) (c .before .before .before .before .before .before .before .before .args .i) (c .before .before .before .before .before .before .before .before .pre .1) (c .before .before .before .before .before .before .before .before .args .side) (c .before .before .before .before .before .neighbor .result) (c .before .before .before .before .before .neighbor .ensures) (c .before .before .before .free-answer .last .0) (c .before .before .before .free-answer .ensures)) (c .before .before .before .before .before .before .before .before .args .side) (c .slot-place .result) (c .slot-place .ensures))
 
--- src/lib.rt:169:5
 slice-write-lanes : tie.Need-slice-write-lanes
 slice-write-lanes c = omega (arith, slot-room (c .before .before .before .free-answer .last .0) (clear-search (c .before .before .before .before .before .before .before .before .args .lanes .now) (c .before .before .before .before .before .before .before .before .pre .0) (c .before .before .before .before .before .before .before .before .args .i) (c .before .before .before .before .before .before .before .before .pre .1) (c .before .before .before .before .before .before .before .before .args .side) (c .before .before .before .before .before .neighbor .result) (c .before .before .before .before .before .neighbor .ensures) (c .before .before .before .free-answer .last .0) (c .before .before .before .free-answer .ensures)) (c .before .before .before .before .before .before .before .before .args .i) (clear-within (c .before .before .before .before .before .before .before .before .args .lanes .now) (c .before .before .before .before .before .before .before .before .pre .0) (c .before .before .before .before .before .before .before .before .args .i) (c .before .before .before .before .before .before .before .before .pre .1) (c .before .before .before .before .before .before .before .before .args .side) (c .before .before .before .before .before .neighbor .result) (c .before .before .before .before .before .neighbor .ensures) (c .before .before .before .free-answer .last .0) (c .before .before .before .free-answer .ensures)) (c .before .before .before .before .before .before .before .before .args .side) (c .slot-place .result) (c .slot-place .ensures))
 
--- src/lib.rt:163:1
 same-length : tie.Need-same-length
 same-length c = search needs
 
--- src/lib.rt:163:1
 returns : tie.Need-returns
 returns c = cleared (c .before .before .before .before .before .before .before .before .args .lanes .now) (c .before .before .before .before .before .before .before .before .pre .0) (c .before .before .before .before .before .before .before .before .args .i) (c .before .before .before .before .before .before .before .before .pre .1) (c .before .before .before .before .before .before .before .before .args .side) (c .before .before .before .before .before .neighbor .result) (c .before .before .before .before .before .neighbor .ensures) (c .before .before .before .free-answer .last .0) (c .before .before .before .free-answer .ensures) (c .slot-place .result) (c .slot-place .ensures)
 

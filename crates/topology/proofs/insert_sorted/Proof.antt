@@ -1,78 +1,59 @@
+-- `topology::insert_sorted` meets its contract. Assumes nothing.
 use borrow.Author.Needs.{needs}
 use Rattle.topology.proofs.insert_sorted.Statement.{statement}
 use Rattle.topology.proofs.insert_sorted.Tie as tie
-use Rattle.topology.proofs.insert_sorted.Reads as reads
-use Rattle.topology.proofs.insert_sorted.Lts as lts
-use Rattle.lists.proofs.insert.Reads as insert-reads
 use native.Mathlib.Omega.{arith}
 use Rattle.topology.proofs.Table.{links-room}
 use Rattle.topology.proofs.Links.{insert-may, insert-leaves, list-count}
 
--- src/lib.rt:30:18
 mul-at : tie.Need-mul-at
 mul-at c = omega (arith, links-room (c .before .args .lanes .now) (c .before .pre .0) (c .before .args .i) (c .before .args .k) (c .before .pre .1 .0) (c .before .pre .1 .1 .0))
 
--- src/lib.rt:30:14
 add-at : tie.Need-add-at
 add-at c = omega (arith, links-room (c .before .args .lanes .now) (c .before .pre .0) (c .before .args .i) (c .before .args .k) (c .before .pre .1 .0) (c .before .pre .1 .1 .0))
 
--- src/lib.rt:30:14
 add-at-2 : tie.Need-add-at-2
 add-at-2 c = omega (arith, links-room (c .before .args .lanes .now) (c .before .pre .0) (c .before .args .i) (c .before .args .k) (c .before .pre .1 .0) (c .before .pre .1 .1 .0))
 
--- src/lib.rt:31:13
 mul-n : tie.Need-mul-n
 mul-n c = omega (arith, links-room (c .before .args .lanes .now) (c .before .pre .0) (c .before .args .i) (c .before .args .k) (c .before .pre .1 .0) (c .before .pre .1 .1 .0))
 
--- src/lib.rt:31:13
 slice-read-n : tie.Need-slice-read-n
 slice-read-n c = omega (arith, links-room (c .before .before .args .lanes .now) (c .before .before .pre .0) (c .before .before .args .i) (c .before .before .args .k) (c .before .before .pre .1 .0) (c .before .before .pre .1 .1 .0))
 
--- src/lib.rt:32:16
 add-from : tie.Need-add-from
 add-from c = omega (arith, links-room (c .before .before .args .lanes .now) (c .before .before .pre .0) (c .before .before .args .i) (c .before .before .args .k) (c .before .before .pre .1 .0) (c .before .before .pre .1 .1 .0))
 
--- src/lib.rt:33:14
 add-to : tie.Need-add-to
 add-to c = omega (arith, links-room (c .before .before .args .lanes .now) (c .before .before .pre .0) (c .before .before .args .i) (c .before .before .args .k) (c .before .before .pre .1 .0) (c .before .before .pre .1 .1 .0))
 
--- src/lib.rt:34:19
 mul-insert : tie.Need-mul-insert
 mul-insert c = omega (arith, links-room (c .before .before .args .lanes .now) (c .before .before .pre .0) (c .before .before .args .i) (c .before .before .args .k) (c .before .before .pre .1 .0) (c .before .before .pre .1 .1 .0))
 
--- src/lib.rt:34:19
 sub-insert : tie.Need-sub-insert
 sub-insert c = search needs
 
--- src/lib.rt:34:19
 part-insert-start : tie.Need-part-insert-start
 part-insert-start c = search needs
 
--- src/lib.rt:34:19
 part-insert-end : tie.Need-part-insert-end
 part-insert-end c = omega (arith, links-room (c .before .before .args .lanes .now) (c .before .before .pre .0) (c .before .before .args .i) (c .before .before .args .k) (c .before .before .pre .1 .0) (c .before .before .pre .1 .1 .0))
 
--- src/lib.rt:34:5
 insert-requires : tie.Need-insert-requires
 insert-requires c κs = insert-may (c .before .before .before .args .lanes .now) (c .before .before .before .pre .0) (c .before .before .before .args .i) (c .before .before .before .args .k) (c .before .before .before .pre .1 .0) (c .before .before .before .pre .1 .1 .0) (c .before .before .before .args .id) (c .before .before .before .pre .1 .1 .1)
 
--- src/lib.rt:35:17
 add-lanes : tie.Need-add-lanes
 add-lanes c = omega (arith, list-count (c .before .before .before .before .before .before .args .lanes .now) (c .before .before .before .before .before .before .pre .0) (c .before .before .before .before .before .before .args .i) (c .before .before .before .before .before .before .args .k) (c .before .before .before .before .before .before .pre .1 .0) (c .before .before .before .before .before .before .pre .1 .1 .0) .0, list-count (c .before .before .before .before .before .before .args .lanes .now) (c .before .before .before .before .before .before .pre .0) (c .before .before .before .before .before .before .args .i) (c .before .before .before .before .before .before .args .k) (c .before .before .before .before .before .before .pre .1 .0) (c .before .before .before .before .before .before .pre .1 .1 .0) .1)
 
--- src/lib.rt:35:5
 mul-lanes : tie.Need-mul-lanes
 mul-lanes c = omega (arith, links-room (c .before .before .before .before .before .before .args .lanes .now) (c .before .before .before .before .before .before .pre .0) (c .before .before .before .before .before .before .args .i) (c .before .before .before .before .before .before .args .k) (c .before .before .before .before .before .before .pre .1 .0) (c .before .before .before .before .before .before .pre .1 .1 .0))
 
--- src/lib.rt:35:5
 slice-write-lanes : tie.Need-slice-write-lanes
 slice-write-lanes c = insert-leaves (c .before .before .before .before .before .before .args .lanes .now) (c .before .before .before .before .before .before .pre .0) (c .before .before .before .before .before .before .args .i) (c .before .before .before .before .before .before .args .k) (c .before .before .before .before .before .before .pre .1 .0) (c .before .before .before .before .before .before .pre .1 .1 .0) (c .before .before .before .before .before .before .args .id) (c .before .before .insert .last .0) (c .before .before .before .before .before .before .pre .1 .1 .1) (c .before .before .insert .ensures) .0
 
--- src/lib.rt:26:1
 same-length : tie.Need-same-length
 same-length c = search needs
 
--- src/lib.rt:26:1
 returns : tie.Need-returns
 returns c = insert-leaves (c .before .before .before .before .before .before .args .lanes .now) (c .before .before .before .before .before .before .pre .0) (c .before .before .before .before .before .before .args .i) (c .before .before .before .before .before .before .args .k) (c .before .before .before .before .before .before .pre .1 .0) (c .before .before .before .before .before .before .pre .1 .1 .0) (c .before .before .before .before .before .before .args .id) (c .before .before .insert .last .0) (c .before .before .before .before .before .before .pre .1 .1 .1) (c .before .before .insert .ensures) .1
 

@@ -1,61 +1,46 @@
+-- `topology::put_slot` meets its contract. Assumes nothing.
 use borrow.Author.Needs.{needs}
 use Rattle.topology.proofs.put_slot.Statement.{statement}
 use Rattle.topology.proofs.put_slot.Tie as tie
-use Rattle.topology.proofs.put_slot.Reads as reads
-use Rattle.topology.proofs.put_slot.Lts as lts
-use Rattle.topology.proofs.direction_mark.Reads as direction-mark-reads
-use Rattle.topology.proofs.slot_place.Reads as slot-place-reads
 use native.Mathlib.Omega.{arith}
 use Prim.Native.Nat.{_+_, _*_}
 use lib.ListN.{length-set}
 use Rattle.map.proofs.Lanes.{lane-room}
 use Rattle.topology.proofs.Neighbors.{slot-room, slot-put}
 
--- src/lib.rt:157:18
 mul-at : tie.Need-mul-at
 mul-at c = omega (arith, lane-room (c .before .args .lanes .now) (c .before .pre .0) (c .before .args .i) (c .before .pre .1))
 
--- src/lib.rt:157:14
 add-at : tie.Need-add-at
 add-at c = omega (arith, lane-room (c .before .args .lanes .now) (c .before .pre .0) (c .before .args .i) (c .before .pre .1))
 
--- src/lib.rt:157:29
 slot-place-requires : tie.Need-slot-place-requires
 slot-place-requires c κs = search needs
 
--- src/lib.rt:157:14
 add-at-2 : tie.Need-add-at-2
 add-at-2 c = omega (arith, slot-room (c .before .before .args .lanes .now) (c .before .before .pre .0) (c .before .before .args .i) (c .before .before .pre .1) (c .before .before .args .side) (c .slot-place .result) (c .slot-place .ensures))
 
--- src/lib.rt:158:17
 direction-mark-requires : tie.Need-direction-mark-requires
 direction-mark-requires c κs = search needs
 
--- src/lib.rt:158:5
 mul-lanes : tie.Need-mul-lanes
 mul-lanes c = omega (arith, slot-room (c .before .before .before .args .lanes .now) (c .before .before .before .pre .0) (c .before .before .before .args .i) (c .before .before .before .pre .1) (c .before .before .before .args .side) (c .before .slot-place .result) (c .before .slot-place .ensures))
 
--- src/lib.rt:158:5
 slice-write-lanes : tie.Need-slice-write-lanes
 slice-write-lanes c = omega (arith, slot-room (c .before .before .before .args .lanes .now) (c .before .before .before .pre .0) (c .before .before .before .args .i) (c .before .before .before .pre .1) (c .before .before .before .args .side) (c .before .slot-place .result) (c .before .slot-place .ensures))
 
--- src/lib.rt:159:11
 add-lanes : tie.Need-add-lanes
 add-lanes c = omega (arith, slot-room (c .before .before .before .args .lanes .now) (c .before .before .before .pre .0) (c .before .before .before .args .i) (c .before .before .before .pre .1) (c .before .before .before .args .side) (c .before .slot-place .result) (c .before .slot-place .ensures))
 
--- src/lib.rt:159:5
 mul-lanes-2 : tie.Need-mul-lanes-2
 mul-lanes-2 c = omega (arith, slot-room (c .before .before .before .args .lanes .now) (c .before .before .before .pre .0) (c .before .before .before .args .i) (c .before .before .before .pre .1) (c .before .before .before .args .side) (c .before .slot-place .result) (c .before .slot-place .ensures))
 
--- src/lib.rt:159:5
 slice-write-lanes-2 : tie.Need-slice-write-lanes-2
 slice-write-lanes-2 c = omega (arith, slot-room (c .before .before .before .args .lanes .now) (c .before .before .before .pre .0) (c .before .before .before .args .i) (c .before .before .before .pre .1) (c .before .before .before .args .side) (c .before .slot-place .result) (c .before .slot-place .ensures), length-set (c .before .before .before .args .lanes .now) (1 + c .before .before .before .args .i * 52 + c .before .slot-place .result) (c .direction-mark .result))
 
--- src/lib.rt:152:1
 same-length : tie.Need-same-length
 same-length c = search needs
 
--- src/lib.rt:152:1
 returns : tie.Need-returns
 returns c = slot-put (c .before .before .before .args .lanes .now) (c .before .before .before .pre .0) (c .before .before .before .args .i) (c .before .before .before .pre .1) (c .before .before .before .args .side) (c .before .slot-place .result) (c .before .slot-place .ensures) (c .before .before .before .args .n) (c .direction-mark .result) (c .direction-mark .ensures)
 

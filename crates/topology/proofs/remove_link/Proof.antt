@@ -1,60 +1,46 @@
+-- `topology::remove_link` meets its contract. Assumes nothing.
 use borrow.Author.Needs.{needs}
 use Rattle.topology.proofs.remove_link.Statement.{statement}
 use Rattle.topology.proofs.remove_link.Tie as tie
-use Rattle.topology.proofs.remove_link.Reads as reads
-use Rattle.topology.proofs.remove_link.Lts as lts
-use Rattle.topology.proofs.remove_sorted.Reads as remove-sorted-reads
 use native.Mathlib.Omega.{arith}
 use mathlib.Core.Path.{refl}
 use mathlib.Core.Logic.{inr}
 use Rattle.map.proofs.Lanes.{lane-room}
 use Rattle.topology.proofs.Linked.{remove-second, remove-both}
 
--- src/lib.rt:67:26
 mul-from : tie.Need-mul-from
 mul-from c = omega (arith, lane-room (c .before .args .lanes .now) (c .before .pre .0) (c .before .args .i) (c .before .pre .1 .0))
 
--- src/lib.rt:67:22
 add-from : tie.Need-add-from
 add-from c = omega (arith, lane-room (c .before .args .lanes .now) (c .before .pre .0) (c .before .args .i) (c .before .pre .1 .0))
 
--- src/lib.rt:67:16
 mul-from-2 : tie.Need-mul-from-2
 mul-from-2 c = omega (arith, lane-room (c .before .args .lanes .now) (c .before .pre .0) (c .before .args .i) (c .before .pre .1 .0))
 
--- src/lib.rt:67:16
 slice-read-from : tie.Need-slice-read-from
 slice-read-from c = omega (arith, lane-room (c .before .before .args .lanes .now) (c .before .before .pre .0) (c .before .before .args .i) (c .before .before .pre .1 .0))
 
--- src/lib.rt:68:24
 mul-to : tie.Need-mul-to
 mul-to c = omega (arith, lane-room (c .before .before .args .lanes .now) (c .before .before .pre .0) (c .before .before .args .j) (c .before .before .pre .1 .1))
 
--- src/lib.rt:68:20
 add-to : tie.Need-add-to
 add-to c = omega (arith, lane-room (c .before .before .args .lanes .now) (c .before .before .pre .0) (c .before .before .args .j) (c .before .before .pre .1 .1))
 
--- src/lib.rt:68:14
 mul-to-2 : tie.Need-mul-to-2
 mul-to-2 c = omega (arith, lane-room (c .before .before .args .lanes .now) (c .before .before .pre .0) (c .before .before .args .j) (c .before .before .pre .1 .1))
 
--- src/lib.rt:68:14
 slice-read-to : tie.Need-slice-read-to
 slice-read-to c = omega (arith, lane-room (c .before .before .before .args .lanes .now) (c .before .before .before .pre .0) (c .before .before .before .args .j) (c .before .before .before .pre .1 .1))
 
--- src/lib.rt:69:5
 remove-sorted-requires : tie.Need-remove-sorted-requires
 remove-sorted-requires c κs = (c .before .before .before .before .pre .0, (c .before .before .before .before .pre .1 .0, inr refl))
 
--- src/lib.rt:70:5
 remove-sorted-requires-2 : tie.Need-remove-sorted-requires-2
 remove-sorted-requires-2 c κs = remove-second (c .before .before .before .before .before .before .before .before .args .lanes .now) (c .before .before .before .before .before .before .before .before .pre .0) (c .before .before .before .before .before .before .before .before .args .i) (c .before .before .before .before .before .before .before .before .args .j) (c .before .before .before .before .before .before .before .before .pre .1 .0) (c .before .before .before .before .before .before .before .before .pre .1 .1) (c .before .before .before .remove-sorted .last .0) (c .before .before .before .remove-sorted .ensures)
 
--- src/lib.rt:63:1
 same-length : tie.Need-same-length
 same-length c = search needs
 
--- src/lib.rt:63:1
 returns : tie.Need-returns
 returns c = remove-both (c .before .before .before .before .before .before .before .before .before .before .before .args .lanes .now) (c .before .before .before .before .before .before .before .before .before .before .before .pre .0) (c .before .before .before .before .before .before .before .before .before .before .before .args .i) (c .before .before .before .before .before .before .before .before .before .before .before .args .j) (c .before .before .before .before .before .before .before .before .before .before .before .pre .1 .0) (c .before .before .before .before .before .before .before .before .before .before .before .pre .1 .1) (c .before .before .before .before .before .before .remove-sorted .last .0) (c .before .before .remove-sorted2 .last .0) (c .before .before .before .before .before .before .remove-sorted .ensures) (c .before .before .remove-sorted2 .ensures)
 

@@ -1,74 +1,56 @@
+-- `topology::remove_sorted` meets its contract. Assumes nothing.
 use borrow.Author.Needs.{needs}
 use Rattle.topology.proofs.remove_sorted.Statement.{statement}
 use Rattle.topology.proofs.remove_sorted.Tie as tie
-use Rattle.topology.proofs.remove_sorted.Reads as reads
-use Rattle.topology.proofs.remove_sorted.Lts as lts
-use Rattle.lists.proofs.remove.Reads as remove-reads
 use native.Mathlib.Omega.{arith}
 use Rattle.topology.proofs.Table.{links-room}
 use Rattle.topology.proofs.Links.{remove-may, remove-leaves}
 
--- src/lib.rt:43:18
 mul-at : tie.Need-mul-at
 mul-at c = omega (arith, links-room (c .before .args .lanes .now) (c .before .pre .0) (c .before .args .i) (c .before .args .k) (c .before .pre .1 .0) (c .before .pre .1 .1))
 
--- src/lib.rt:43:14
 add-at : tie.Need-add-at
 add-at c = omega (arith, links-room (c .before .args .lanes .now) (c .before .pre .0) (c .before .args .i) (c .before .args .k) (c .before .pre .1 .0) (c .before .pre .1 .1))
 
--- src/lib.rt:43:14
 add-at-2 : tie.Need-add-at-2
 add-at-2 c = omega (arith, links-room (c .before .args .lanes .now) (c .before .pre .0) (c .before .args .i) (c .before .args .k) (c .before .pre .1 .0) (c .before .pre .1 .1))
 
--- src/lib.rt:44:13
 mul-n : tie.Need-mul-n
 mul-n c = omega (arith, links-room (c .before .args .lanes .now) (c .before .pre .0) (c .before .args .i) (c .before .args .k) (c .before .pre .1 .0) (c .before .pre .1 .1))
 
--- src/lib.rt:44:13
 slice-read-n : tie.Need-slice-read-n
 slice-read-n c = omega (arith, links-room (c .before .before .args .lanes .now) (c .before .before .pre .0) (c .before .before .args .i) (c .before .before .args .k) (c .before .before .pre .1 .0) (c .before .before .pre .1 .1))
 
--- src/lib.rt:45:16
 add-from : tie.Need-add-from
 add-from c = omega (arith, links-room (c .before .before .args .lanes .now) (c .before .before .pre .0) (c .before .before .args .i) (c .before .before .args .k) (c .before .before .pre .1 .0) (c .before .before .pre .1 .1))
 
--- src/lib.rt:46:14
 add-to : tie.Need-add-to
 add-to c = omega (arith, links-room (c .before .before .args .lanes .now) (c .before .before .pre .0) (c .before .before .args .i) (c .before .before .args .k) (c .before .before .pre .1 .0) (c .before .before .pre .1 .1))
 
--- src/lib.rt:47:30
 mul-remove : tie.Need-mul-remove
 mul-remove c = omega (arith, links-room (c .before .before .args .lanes .now) (c .before .before .pre .0) (c .before .before .args .i) (c .before .before .args .k) (c .before .before .pre .1 .0) (c .before .before .pre .1 .1))
 
--- src/lib.rt:47:30
 sub-remove : tie.Need-sub-remove
 sub-remove c = search needs
 
--- src/lib.rt:47:30
 part-remove-start : tie.Need-part-remove-start
 part-remove-start c = search needs
 
--- src/lib.rt:47:30
 part-remove-end : tie.Need-part-remove-end
 part-remove-end c = omega (arith, links-room (c .before .before .args .lanes .now) (c .before .before .pre .0) (c .before .before .args .i) (c .before .before .args .k) (c .before .before .pre .1 .0) (c .before .before .pre .1 .1))
 
--- src/lib.rt:47:9
 remove-requires : tie.Need-remove-requires
 remove-requires c κs = remove-may (c .before .before .before .args .lanes .now) (c .before .before .before .pre .0) (c .before .before .before .args .i) (c .before .before .before .args .k) (c .before .before .before .pre .1 .0) (c .before .before .before .pre .1 .1)
 
--- src/lib.rt:48:5
 mul-lanes : tie.Need-mul-lanes
 mul-lanes c = omega (arith, links-room (c .before .before .before .before .before .before .args .lanes .now) (c .before .before .before .before .before .before .pre .0) (c .before .before .before .before .before .before .args .i) (c .before .before .before .before .before .before .args .k) (c .before .before .before .before .before .before .pre .1 .0) (c .before .before .before .before .before .before .pre .1 .1))
 
--- src/lib.rt:48:5
 slice-write-lanes : tie.Need-slice-write-lanes
 slice-write-lanes c = remove-leaves (c .before .before .before .before .before .before .args .lanes .now) (c .before .before .before .before .before .before .pre .0) (c .before .before .before .before .before .before .args .i) (c .before .before .before .before .before .before .args .k) (c .before .before .before .before .before .before .pre .1 .0) (c .before .before .before .before .before .before .pre .1 .1) (c .before .before .before .before .before .before .args .id) (c .before .before .remove .result) (c .before .before .remove .last .0) (c .before .before .remove .ensures .0) (c .before .before .remove .ensures .1) .0
 
--- src/lib.rt:39:1
 same-length : tie.Need-same-length
 same-length c = search needs
 
--- src/lib.rt:39:1
 returns : tie.Need-returns
 returns c = remove-leaves (c .before .before .before .before .before .before .args .lanes .now) (c .before .before .before .before .before .before .pre .0) (c .before .before .before .before .before .before .args .i) (c .before .before .before .before .before .before .args .k) (c .before .before .before .before .before .before .pre .1 .0) (c .before .before .before .before .before .before .pre .1 .1) (c .before .before .before .before .before .before .args .id) (c .before .before .remove .result) (c .before .before .remove .last .0) (c .before .before .remove .ensures .0) (c .before .before .remove .ensures .1) .1
 

@@ -1,40 +1,30 @@
+-- `edit::links::apart` meets its contract. Assumes nothing.
 use borrow.Author.Needs.{needs}
 use Rattle.edit.proofs.links.apart.Statement.{statement}
 use Rattle.edit.proofs.links.apart.Tie as tie
-use Rattle.edit.proofs.links.apart.Reads as reads
-use Rattle.edit.proofs.links.apart.Lts as lts
-use Rattle.geometry.proofs.Point3.distance.Reads as distance-reads
 use Rattle.edit.proofs.Gap.{apart-told}
 
--- src/lib.rt:72:28
 enum-known-p : tie.Need-enum-known-p
 enum-known-p c = search needs
 
--- src/lib.rt:73:9
 enum-told : tie.Need-enum-told
 enum-told c = search needs
 
--- src/lib.rt:73:9
 returns : tie.Need-returns
 returns c = search needs
 
--- src/lib.rt:75:28
 enum-known-q : tie.Need-enum-known-q
 enum-known-q c = search needs
 
--- src/lib.rt:76:9
 enum-told-2 : tie.Need-enum-told-2
 enum-told-2 c = search needs
 
--- src/lib.rt:76:9
 returns-2 : tie.Need-returns-2
 returns-2 c = search needs
 
--- src/lib.rt:78:5
 distance-requires : tie.Need-distance-requires
 distance-requires c κs = search needs
 
--- src/lib.rt:69:1
 returns-3 : tie.Need-returns-3
 returns-3 c = apart-told (c .before .before .before .before .before .before .before .args .tolerance) (c .distance .result) (c .before .before .before .before .before .before .before .args .p) (c .before .before .before .before .before .before .before .args .q) (c .before .before .before .before .before .p .given .0 .0) (c .before .before .q .given .0 .0) (c .before .before .before .before .before .p .given .1) (c .before .before .q .given .1) (c .distance .ensures)
 

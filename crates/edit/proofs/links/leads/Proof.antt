@@ -1,64 +1,49 @@
+-- `edit::links::leads` meets its contract. Assumes nothing.
 use borrow.Author.Needs.{needs}
 use Rattle.edit.proofs.links.leads.Statement.{statement}
 use Rattle.edit.proofs.links.leads.Tie as tie
-use Rattle.edit.proofs.links.leads.Reads as reads
-use Rattle.edit.proofs.links.leads.Lts as lts
-use Rattle.lists.proofs.contains.Reads as contains-reads
 use native.Mathlib.Omega.{arith}
 use mathlib.Core.Path.{refl, ap, _∙_}
 use mathlib.Core.Logic.{inr}
 use Rattle.lists.specs.Select.{has}
 use Rattle.map.proofs.Lanes.{lane-room, links-within, ids-at}
 
--- src/links.rt:81:18
 mul-at : tie.Need-mul-at
 mul-at c = omega (arith, lane-room (c .before .args .lanes .now) (c .before .pre .0) (c .before .args .i) (c .before .pre .1), links-within (c .before .args .lanes .now) (c .before .pre .0) (c .before .args .i) (c .before .pre .1) 35 (inr refl))
 
--- src/links.rt:81:14
 add-at : tie.Need-add-at
 add-at c = omega (arith, lane-room (c .before .args .lanes .now) (c .before .pre .0) (c .before .args .i) (c .before .pre .1), links-within (c .before .args .lanes .now) (c .before .pre .0) (c .before .args .i) (c .before .pre .1) 35 (inr refl))
 
--- src/links.rt:81:14
 add-at-2 : tie.Need-add-at-2
 add-at-2 c = omega (arith, lane-room (c .before .args .lanes .now) (c .before .pre .0) (c .before .args .i) (c .before .pre .1), links-within (c .before .args .lanes .now) (c .before .pre .0) (c .before .args .i) (c .before .pre .1) 35 (inr refl))
 
--- src/links.rt:82:16
 add-from : tie.Need-add-from
 add-from c = omega (arith, lane-room (c .before .args .lanes .now) (c .before .pre .0) (c .before .args .i) (c .before .pre .1), links-within (c .before .args .lanes .now) (c .before .pre .0) (c .before .args .i) (c .before .pre .1) 35 (inr refl))
 
--- src/links.rt:83:21
 mul-to : tie.Need-mul-to
 mul-to c = omega (arith, lane-room (c .before .args .lanes .now) (c .before .pre .0) (c .before .args .i) (c .before .pre .1), links-within (c .before .args .lanes .now) (c .before .pre .0) (c .before .args .i) (c .before .pre .1) 35 (inr refl))
 
--- src/links.rt:83:21
 shared-slice-read-to : tie.Need-shared-slice-read-to
 shared-slice-read-to c = omega (arith, lane-room (c .before .before .args .lanes .now) (c .before .before .pre .0) (c .before .before .args .i) (c .before .before .pre .1), links-within (c .before .before .args .lanes .now) (c .before .before .pre .0) (c .before .before .args .i) (c .before .before .pre .1) 35 (inr refl))
 
--- src/links.rt:83:14
 add-to : tie.Need-add-to
 add-to c = omega (arith, lane-room (c .before .before .args .lanes .now) (c .before .before .pre .0) (c .before .before .args .i) (c .before .before .pre .1), links-within (c .before .before .args .lanes .now) (c .before .before .pre .0) (c .before .before .args .i) (c .before .before .pre .1) 35 (inr refl))
 
--- src/links.rt:84:21
 mul-contains : tie.Need-mul-contains
 mul-contains c = omega (arith, lane-room (c .before .before .args .lanes .now) (c .before .before .pre .0) (c .before .before .args .i) (c .before .before .pre .1), links-within (c .before .before .args .lanes .now) (c .before .before .pre .0) (c .before .before .args .i) (c .before .before .pre .1) 35 (inr refl))
 
--- src/links.rt:84:21
 sub-contains : tie.Need-sub-contains
 sub-contains c = search needs
 
--- src/links.rt:84:21
 part-contains-start : tie.Need-part-contains-start
 part-contains-start c = search needs
 
--- src/links.rt:84:21
 part-contains-end : tie.Need-part-contains-end
 part-contains-end c = omega (arith, lane-room (c .before .before .args .lanes .now) (c .before .before .pre .0) (c .before .before .args .i) (c .before .before .pre .1), links-within (c .before .before .args .lanes .now) (c .before .before .pre .0) (c .before .before .args .i) (c .before .before .pre .1) 35 (inr refl))
 
--- src/links.rt:84:5
 contains-requires : tie.Need-contains-requires
 contains-requires c κs = search needs
 
--- src/links.rt:77:1
 returns : tie.Need-returns
 returns c = c .contains .ensures ∙ ap (has (c .before .before .before .before .args .id)) (ids-at (c .before .before .before .before .args .lanes .now) (c .before .before .before .before .args .i) 35 (links-within (c .before .before .before .before .args .lanes .now) (c .before .before .before .before .pre .0) (c .before .before .before .before .args .i) (c .before .before .before .before .pre .1) 35 (inr refl)))
 

@@ -1,127 +1,91 @@
+-- `edit::links::link` meets its contract. Assumes nothing.
 use borrow.Author.Needs.{needs}
 use Rattle.edit.proofs.links.link.Statement.{statement}
 use Rattle.edit.proofs.links.link.Tie as tie
-use Rattle.edit.proofs.links.link.Reads as reads
-use Rattle.edit.proofs.links.link.Lts as lts
-use Rattle.edit.proofs.links.link_room.Reads as link-room-reads
-use Rattle.edit.proofs.links.link_unless.Reads as link-unless-reads
-use Rattle.edit.proofs.links.pair_unless.Reads as pair-unless-reads
-use Rattle.lists.proofs.both.Reads as both-reads
-use Rattle.report.proofs.fits.Reads as fits-reads
-use Rattle.report.proofs.no_op_where.Reads as no-op-where-reads
-use Rattle.report.proofs.pair_where.Reads as pair-where-reads
-use Rattle.report.proofs.report.Reads as report-reads
 use native.Mathlib.Omega.{arith}
 use lib.ListN.{length, getD}
 use Prim.Native.Nat.{_+_, _*_}
 use Rattle.map.proofs.Lanes.{lane-room}
 use Rattle.edit.proofs.Reported.{pair-few, link-counted, link-fits, link-room, link-done, link-full}
 
--- src/links.rt:129:26
 mul-from : tie.Need-mul-from
 mul-from c = omega (arith, lane-room (c .before .before .before .args .lanes .now) (c .before .before .before .pre .0) (c .before .before .before .args .i) (c .before .before .before .pre .1 .0))
 
--- src/links.rt:129:22
 add-from : tie.Need-add-from
 add-from c = omega (arith, lane-room (c .before .before .before .args .lanes .now) (c .before .before .before .pre .0) (c .before .before .before .args .i) (c .before .before .before .pre .1 .0))
 
--- src/links.rt:129:16
 mul-from-2 : tie.Need-mul-from-2
 mul-from-2 c = omega (arith, lane-room (c .before .before .before .args .lanes .now) (c .before .before .before .pre .0) (c .before .before .before .args .i) (c .before .before .before .pre .1 .0))
 
--- src/links.rt:129:16
 slice-read-from : tie.Need-slice-read-from
 slice-read-from c = omega (arith, lane-room (c .before .before .before .before .args .lanes .now) (c .before .before .before .before .pre .0) (c .before .before .before .before .args .i) (c .before .before .before .before .pre .1 .0))
 
--- src/links.rt:130:24
 mul-to : tie.Need-mul-to
 mul-to c = omega (arith, lane-room (c .before .before .before .before .args .lanes .now) (c .before .before .before .before .pre .0) (c .before .before .before .before .args .j) (c .before .before .before .before .pre .1 .1 .0))
 
--- src/links.rt:130:20
 add-to : tie.Need-add-to
 add-to c = omega (arith, lane-room (c .before .before .before .before .args .lanes .now) (c .before .before .before .before .pre .0) (c .before .before .before .before .args .j) (c .before .before .before .before .pre .1 .1 .0))
 
--- src/links.rt:130:14
 mul-to-2 : tie.Need-mul-to-2
 mul-to-2 c = omega (arith, lane-room (c .before .before .before .before .args .lanes .now) (c .before .before .before .before .pre .0) (c .before .before .before .before .args .j) (c .before .before .before .before .pre .1 .1 .0))
 
--- src/links.rt:130:14
 slice-read-to : tie.Need-slice-read-to
 slice-read-to c = omega (arith, lane-room (c .before .before .before .before .before .args .lanes .now) (c .before .before .before .before .before .pre .0) (c .before .before .before .before .before .args .j) (c .before .before .before .before .before .pre .1 .1 .0))
 
--- src/links.rt:131:9
 pair-where-requires : tie.Need-pair-where-requires
 pair-where-requires c κs = search needs
 
--- src/links.rt:132:9
 no-op-where-requires : tie.Need-no-op-where-requires
 no-op-where-requires c κs = search needs
 
--- src/links.rt:134:43
 slice-aggregate-pair-unless : tie.Need-slice-aggregate-pair-unless
 slice-aggregate-pair-unless c = search needs
 
--- src/links.rt:134:9
 pair-unless-requires : tie.Need-pair-unless-requires
 pair-unless-requires c κs = search needs
 
--- src/links.rt:135:9
 link-room-requires : tie.Need-link-room-requires
 link-room-requires c κs = search needs
 
--- src/links.rt:136:19
 fits-requires : tie.Need-fits-requires
 fits-requires c κs = search needs
 
--- src/links.rt:136:8
 both-requires : tie.Need-both-requires
 both-requires c κs = search needs
 
--- src/links.rt:137:37
 array-share-prefix-ids : tie.Need-array-share-prefix-ids
 array-share-prefix-ids c = omega (arith, c .before .before .before .before .before .before .before .before .pair-unless .kept .1 .1 .1 .0, pair-few (c .before .before .before .before .before .before .before .before .before .before .before .before .before .before .before .before .before .args .linked) (getD (c .before .before .before .before .before .before .before .before .before .before .before .before .before .before .before .before .before .args .lanes .now) (1 + c .before .before .before .before .before .before .before .before .before .before .before .before .before .before .before .before .before .args .i * 52) 0) (getD (c .before .before .before .before .before .before .before .before .before .before .before .before .before .before .before .before .before .args .lanes .now) (1 + c .before .before .before .before .before .before .before .before .before .before .before .before .before .before .before .before .before .args .j * 52) 0) (c .before .before .before .before .before .before .before .before .pair-unless .result) (c .before .before .before .before .before .before .before .before .pair-unless .ensures .1))
 
--- src/links.rt:137:37
 slice-aggregate-report : tie.Need-slice-aggregate-report
 slice-aggregate-report c = link-counted (c .before .before .before .before .before .before .before .before .before .before .before .before .before .before .before .before .before .before .args .lanes .now) (c .before .before .before .before .before .before .before .before .before .before .before .before .before .before .before .before .before .before .args .i) (c .before .before .before .before .before .before .before .before .before .before .before .before .before .before .before .before .before .before .args .j) (c .before .before .before .before .before .before .before .before .before .before .before .before .before .before .before .before .before .before .args .linked) (c .before .before .before .before .before .before .before .before .before .before .before .before .before .before .before .before .before .before .args .gap) (c .before .before .before .before .before .before .before .before .before .before .before .before .before .before .before .before .before .before .args .modified .now) (c .before .before .before .before .before .before .before .before .before .before .before .before .before .before .before .before .before .before .args .warnings .now) (c .before .before .before .before .before .before .before .before .before .before .before .before .pair-where .result) (c .before .before .before .before .before .before .before .before .before .before .before .no-op-where .result) (c .before .before .before .before .before .before .before .before .before .pair-unless .result) (c .before .before .before .before .before .before .before .before .before .pair-unless .last .1 .1 .1 .0) (c .before .before .before .before .before .before .before .before .before .before .before .before .pair-where .ensures) (c .before .before .before .before .before .before .before .before .before .before .before .no-op-where .ensures) (c .before .before .before .before .before .before .before .before .before .pair-unless .ensures) (c .before .before .before .before .before .before .link-room .result) (c .before .before .before .fits2 .result) (c .before .before .both .result) (c .before .before .before .before .before .before .link-room .ensures) (c .before .before .before .fits2 .ensures) (c .before .before .both .ensures)
 
--- src/links.rt:137:13
 report-requires : tie.Need-report-requires
 report-requires c κs = link-fits (c .before .before .before .before .before .before .before .before .before .before .before .before .before .before .before .before .before .before .before .before .args .lanes .now) (c .before .before .before .before .before .before .before .before .before .before .before .before .before .before .before .before .before .before .before .before .args .i) (c .before .before .before .before .before .before .before .before .before .before .before .before .before .before .before .before .before .before .before .before .args .j) (c .before .before .before .before .before .before .before .before .before .before .before .before .before .before .before .before .before .before .before .before .args .linked) (c .before .before .before .before .before .before .before .before .before .before .before .before .before .before .before .before .before .before .before .before .args .gap) (c .before .before .before .before .before .before .before .before .before .before .before .before .before .before .before .before .before .before .before .before .args .modified .now) (c .before .before .before .before .before .before .before .before .before .before .before .before .before .before .before .before .before .before .before .before .args .warnings .now) (c .before .before .before .before .before .before .before .before .before .before .before .before .before .before .pair-where .result) (c .before .before .before .before .before .before .before .before .before .before .before .before .before .no-op-where .result) (c .before .before .before .before .before .before .before .before .before .before .before .pair-unless .result) (c .before .before .before .before .before .before .before .before .before .before .before .pair-unless .last .1 .1 .1 .0) (c .before .before .before .before .before .before .before .before .before .before .before .before .before .before .pair-where .ensures) (c .before .before .before .before .before .before .before .before .before .before .before .before .before .no-op-where .ensures) (c .before .before .before .before .before .before .before .before .before .before .before .pair-unless .ensures) (c .before .before .before .before .before .before .before .before .link-room .result) (c .before .before .before .before .before .fits2 .result) (c .before .before .before .before .both .result) (c .before .before .before .before .before .before .before .before .link-room .ensures) (c .before .before .before .before .before .fits2 .ensures) (c .before .before .before .before .both .ensures) (c .before .before .before .if1 .taken)
 
--- src/links.rt:138:9
 link-unless-requires : tie.Need-link-unless-requires
 link-unless-requires c κs = (c .before .before .before .before .before .before .before .before .before .before .before .before .before .before .before .before .before .before .before .before .before .before .before .before .before .before .pre, link-room (c .before .before .before .before .before .before .before .before .before .before .before .before .before .before .before .before .before .before .before .before .before .before .before .before .before .before .args .lanes .now) (c .before .before .before .before .before .before .before .before .before .before .before .before .before .before .before .before .before .before .before .before .before .before .before .before .before .before .args .i) (c .before .before .before .before .before .before .before .before .before .before .before .before .before .before .before .before .before .before .before .before .before .before .before .before .before .before .args .j) (c .before .before .before .before .before .before .before .before .before .before .before .before .before .before .before .before .before .before .before .before .before .before .before .before .before .before .args .linked) (c .before .before .before .before .before .before .before .before .before .before .before .before .before .before .before .before .before .before .before .before .before .before .before .before .before .before .args .gap) (c .before .before .before .before .before .before .before .before .before .before .before .before .before .before .before .before .before .before .before .before .before .before .before .before .before .before .args .modified .now) (c .before .before .before .before .before .before .before .before .before .before .before .before .before .before .before .before .before .before .before .before .before .before .before .before .before .before .args .warnings .now) (c .before .before .before .before .before .before .before .before .before .before .before .before .before .before .before .before .before .before .before .before .pair-where .result) (c .before .before .before .before .before .before .before .before .before .before .before .before .before .before .before .before .before .before .before .no-op-where .result) (c .before .before .before .before .before .before .before .before .before .before .before .before .before .before .before .before .before .pair-unless .result) (c .before .before .before .before .before .before .before .before .before .before .before .before .before .before .before .before .before .pair-unless .last .1 .1 .1 .0) (c .before .before .before .before .before .before .before .before .before .before .before .before .before .before .before .before .before .before .before .before .pair-where .ensures) (c .before .before .before .before .before .before .before .before .before .before .before .before .before .before .before .before .before .before .before .no-op-where .ensures) (c .before .before .before .before .before .before .before .before .before .before .before .before .before .before .before .before .before .pair-unless .ensures) (c .before .before .before .before .before .before .before .before .before .before .before .before .before .before .link-room .result) (c .before .before .before .before .before .before .before .before .before .before .before .fits2 .result) (c .before .before .before .before .before .before .before .before .before .before .both .result) (c .before .before .before .before .before .before .before .before .before .before .before .before .before .before .link-room .ensures) (c .before .before .before .before .before .before .before .before .before .before .before .fits2 .ensures) (c .before .before .before .before .before .before .before .before .before .before .both .ensures) (c .before .before .before .before .before .before .before .before .before .if1 .taken))
 
--- src/links.rt:139:9
 same-length : tie.Need-same-length
 same-length c = search needs
 
--- src/links.rt:139:9
 same-length-2 : tie.Need-same-length-2
 same-length-2 c = search needs
 
--- src/links.rt:139:9
 same-length-3 : tie.Need-same-length-3
 same-length-3 c = search needs
 
--- src/links.rt:139:9
 returns : tie.Need-returns
 returns c = link-done (c .before .before .before .before .before .before .before .before .before .before .before .before .before .before .before .before .before .before .before .before .before .before .before .before .before .before .before .before .before .args .lanes .now) (c .before .before .before .before .before .before .before .before .before .before .before .before .before .before .before .before .before .before .before .before .before .before .before .before .before .before .before .before .before .args .i) (c .before .before .before .before .before .before .before .before .before .before .before .before .before .before .before .before .before .before .before .before .before .before .before .before .before .before .before .before .before .args .j) (c .before .before .before .before .before .before .before .before .before .before .before .before .before .before .before .before .before .before .before .before .before .before .before .before .before .before .before .before .before .args .linked) (c .before .before .before .before .before .before .before .before .before .before .before .before .before .before .before .before .before .before .before .before .before .before .before .before .before .before .before .before .before .args .gap) (c .before .before .before .before .before .before .before .before .before .before .before .before .before .before .before .before .before .before .before .before .before .before .before .before .before .before .before .before .before .args .modified .now) (c .before .before .before .before .before .before .before .before .before .before .before .before .before .before .before .before .before .before .before .before .before .before .before .before .before .before .before .before .before .args .warnings .now) (c .before .before .before .before .before .before .before .before .before .before .before .before .before .before .before .before .before .before .before .before .before .before .before .pair-where .result) (c .before .before .before .before .before .before .before .before .before .before .before .before .before .before .before .before .before .before .before .before .before .before .no-op-where .result) (c .before .before .before .before .before .before .before .before .before .before .before .before .before .before .before .before .before .before .before .before .pair-unless .result) (c .before .before .before .before .before .before .before .before .before .before .before .before .before .before .before .before .before .before .before .before .pair-unless .last .1 .1 .1 .0) (c .before .before .before .before .before .before .before .before .before .before .before .before .before .before .before .before .before .before .before .before .before .before .before .pair-where .ensures) (c .before .before .before .before .before .before .before .before .before .before .before .before .before .before .before .before .before .before .before .before .before .before .no-op-where .ensures) (c .before .before .before .before .before .before .before .before .before .before .before .before .before .before .before .before .before .before .before .before .pair-unless .ensures) (c .before .before .before .before .before .before .before .before .before .before .before .before .before .before .before .before .before .link-room .result) (c .before .before .before .before .before .before .before .before .before .before .before .before .before .before .fits2 .result) (c .before .before .before .before .before .before .before .before .before .before .before .before .before .both .result) (c .before .before .before .before .before .before .before .before .before .before .before .before .before .before .before .before .before .link-room .ensures) (c .before .before .before .before .before .before .before .before .before .before .before .before .before .before .fits2 .ensures) (c .before .before .before .before .before .before .before .before .before .before .before .before .before .both .ensures) (c .before .before .before .before .before .before .before .before .before .before .before .before .if1 .taken) (c .before .before .link-unless .last .0) (c .before .before .before .before .before .before .before .before .report .last .1 .1 .1 .0) (c .before .before .before .before .before .before .before .before .report .last .1 .1 .1 .1 .0) (c .before .before .before .before .before .before .before .before .report .result) (c .before .before .link-unless .ensures) (c .before .before .before .before .before .before .before .before .report .ensures)
 
--- src/links.rt:125:1
 same-length-4 : tie.Need-same-length-4
 same-length-4 c = search needs
 
--- src/links.rt:125:1
 same-length-5 : tie.Need-same-length-5
 same-length-5 c = search needs
 
--- src/links.rt:125:1
 same-length-6 : tie.Need-same-length-6
 same-length-6 c = search needs
 
--- src/links.rt:125:1
 returns-2 : tie.Need-returns-2
 returns-2 c = link-full (c .before .before .before .before .before .before .before .before .before .before .before .before .before .before .before .before .before .args .lanes .now) (c .before .before .before .before .before .before .before .before .before .before .before .before .before .before .before .before .before .args .i) (c .before .before .before .before .before .before .before .before .before .before .before .before .before .before .before .before .before .args .j) (c .before .before .before .before .before .before .before .before .before .before .before .before .before .before .before .before .before .args .linked) (c .before .before .before .before .before .before .before .before .before .before .before .before .before .before .before .before .before .args .gap) (c .before .before .before .before .before .before .before .before .before .before .before .before .before .before .before .before .before .args .modified .now) (c .before .before .before .before .before .before .before .before .before .before .before .before .before .before .before .before .before .args .warnings .now) (c .before .before .before .before .before .before .before .before .before .before .before .pair-where .result) (c .before .before .before .before .before .before .before .before .before .before .no-op-where .result) (c .before .before .before .before .before .before .before .before .pair-unless .result) (c .before .before .before .before .before .before .before .before .pair-unless .last .1 .1 .1 .0) (c .before .before .before .before .before .before .before .before .before .before .before .pair-where .ensures) (c .before .before .before .before .before .before .before .before .before .before .no-op-where .ensures) (c .before .before .before .before .before .before .before .before .pair-unless .ensures) (c .before .before .before .before .before .link-room .result) (c .before .before .fits2 .result) (c .before .both .result) (c .before .before .before .before .before .link-room .ensures) (c .before .before .fits2 .ensures) (c .before .both .ensures) (c .if1 .left)
 

@@ -1,24 +1,18 @@
+-- `edit::links::link_unless` meets its contract. Assumes nothing.
 use borrow.Author.Needs.{needs}
 use Rattle.edit.proofs.links.link_unless.Statement.{statement}
 use Rattle.edit.proofs.links.link_unless.Tie as tie
-use Rattle.edit.proofs.links.link_unless.Reads as reads
-use Rattle.edit.proofs.links.link_unless.Lts as lts
-use Rattle.topology.proofs.add_link.Reads as add-link-reads
 use Rattle.edit.proofs.Linking.{link-open, link-there}
 
--- src/lib.rt:133:9
 returns : tie.Need-returns
 returns c = link-there (c .before .before .args .lanes .now) (c .before .before .args .i) (c .before .before .args .j) (c .before .before .args .linked) (c .before .before .pre .0) (c .if1 .taken)
 
--- src/lib.rt:135:5
 add-link-requires : tie.Need-add-link-requires
 add-link-requires c κs = link-open (c .before .before .before .args .lanes .now) (c .before .before .before .args .i) (c .before .before .before .args .j) (c .before .before .before .args .linked) (c .before .before .before .pre .0) (c .before .before .before .pre .1) (c .before .if1 .left)
 
--- src/lib.rt:128:1
 same-length : tie.Need-same-length
 same-length c = search needs
 
--- src/lib.rt:128:1
 returns-2 : tie.Need-returns-2
 returns-2 c = search needs
 

@@ -1,9 +1,7 @@
+-- `edit::links::pair_unless` meets its contract. Assumes nothing.
 use borrow.Author.Needs.{needs}
 use Rattle.edit.proofs.links.pair_unless.Statement.{statement}
 use Rattle.edit.proofs.links.pair_unless.Tie as tie
-use Rattle.edit.proofs.links.pair_unless.Reads as reads
-use Rattle.edit.proofs.links.pair_unless.Lts as lts
-use Rattle.report.proofs.named.Reads as named-reads
 use mathlib.Core.Path.{_≡_}
 use mathlib.Core.Bool.{true}
 use Prim.Native.Nat.{_<_}
@@ -24,23 +22,18 @@ may c =
     let s = c .before .before .before .before in
     pair-first (s .args .a) (c .named .result) (c .named .last .0) (s .args .ids .now) (first c .0) (first c .1) (omega (arith, s .pre, c .named .kept .0))
 
--- src/links.rt:93:9
 returns : tie.Need-returns
 returns c = search needs
 
--- src/links.rt:95:9
 named-requires : tie.Need-named-requires
 named-requires c κs = (omega (arith, c .before .before .before .pre), nothing-up)
 
--- src/links.rt:96:5
 named-requires-2 : tie.Need-named-requires-2
 named-requires-2 c κs = may (c .before .before .before)
 
--- src/links.rt:88:1
 same-length : tie.Need-same-length
 same-length c = search needs
 
--- src/links.rt:88:1
 returns-2 : tie.Need-returns-2
 returns-2 c =
     let one = c .before .before .before .before .before .before in

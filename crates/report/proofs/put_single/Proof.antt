@@ -1,10 +1,10 @@
--- `report::put_no_op` meets its contract: six stores in a row make the warning. Assumes nothing.
+-- `report::put_single` meets its contract. Assumes nothing.
 use borrow.Author.Needs.{needs}
-use Rattle.report.proofs.put_no_op.Statement.{statement}
-use Rattle.report.proofs.put_no_op.Tie as tie
+use Rattle.report.proofs.put_single.Statement.{statement}
+use Rattle.report.proofs.put_single.Tie as tie
 use native.Mathlib.Omega.{arith}
 use lib.ListN.{length-set}
-use Rattle.report.proofs.Warnings.{no-op-put}
+use Rattle.report.proofs.Warnings.{single-put}
 
 mul-row : tie.Need-mul-row
 mul-row c = search needs
@@ -63,6 +63,9 @@ mul-warnings-5 c = search needs
 slice-write-warnings-5 : tie.Need-slice-write-warnings-5
 slice-write-warnings-5 c = simp length-set (omega arith)
 
+fix-mark-requires : tie.Need-fix-mark-requires
+fix-mark-requires c κs = search needs
+
 add-warnings-6 : tie.Need-add-warnings-6
 add-warnings-6 c = search needs
 
@@ -73,15 +76,15 @@ slice-write-warnings-6 : tie.Need-slice-write-warnings-6
 slice-write-warnings-6 c = simp length-set (omega arith)
 
 same-length : tie.Need-same-length
-same-length c = simp length-set
+same-length c = search needs
 
 returns : tie.Need-returns
 returns c =
-    let a = c .before .before .before .before .args in
-    no-op-put (a .warnings .now) (a .at) (a .lane) (c .before .before .number .result) (c .before .number2 .result) (c .number3 .result) (c .before .before .before .before .pre) (c .before .before .number .ensures) (c .before .number2 .ensures) (c .number3 .ensures)
+    let a = c .before .before .before .before .before .args in
+    single-put (a .warnings .now) (a .at) (a .severity) (a .code) (a .kind) (a .id) (a .fix) (c .before .before .before .number .result) (c .before .before .number2 .result) (c .before .number3 .result) (c .fix-mark .result) (c .before .before .before .before .before .pre) (c .before .before .before .number .ensures) (c .before .before .number2 .ensures) (c .before .number3 .ensures) (c .fix-mark .ensures)
 
-pub put-no-op-spec : {M : Type 1} → statement M
-put-no-op-spec =
+pub put-single-spec : {M : Type 1} → statement M
+put-single-spec =
     tie.close
     (tie.spec
     mul-row
@@ -103,6 +106,7 @@ put-no-op-spec =
     add-warnings-5
     mul-warnings-5
     slice-write-warnings-5
+    fix-mark-requires
     add-warnings-6
     mul-warnings-6
     slice-write-warnings-6

@@ -1,0 +1,4 @@
+pub mod Tests
+pub mod Turns
+pub mod Going
+pub mod Whole
