@@ -32,7 +32,7 @@ use Rattle.lookup.proofs.Laws.{place-id, side-ref}
 use Rattle.topology.specs.Topology.{lanesChanged, idAt, slotHeld, beside}
 use Rattle.facts.proofs.Stored.{withLaneTable}
 use Rattle.edit.specs.Step.{Lent, step, stateOf, refusing}
-use Rattle.edit.specs.Parts.{relinking, placeSlot, slotIds, unshared, reslotting, freeing, setting}
+use Rattle.relink.specs.Parts.{relinking, placeSlot, slotIds, unshared, reslotting, freeing, setting}
 use Rattle.edit.proofs.Steps.{sound-map, step-refused, step-relinking, spread}
 use Rattle.edit.proofs.Named.{lanes-named}
 use Rattle.edit.proofs.Found.{lane-there, lane-missing, lanes-up}

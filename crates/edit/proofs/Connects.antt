@@ -29,7 +29,7 @@ use Rattle.lookup.proofs.Laws.{place-id}
 use Rattle.topology.specs.Topology.{lanesChanged, idAt, linksAt}
 use Rattle.facts.proofs.Stored.{withLaneTable}
 use Rattle.edit.specs.Step.{Lent, Ended, step, stateOf, refusing}
-use Rattle.edit.specs.Parts.{relinking, pairOf, linkRoom, linking, unlinking}
+use Rattle.relink.specs.Parts.{relinking, pairOf, linkRoom, linking, unlinking}
 use Rattle.edit.proofs.Steps.{sound-map, step-refused, step-relinking, spread}
 use Rattle.edit.proofs.Named.{lanes-named}
 use Rattle.edit.proofs.Found.{lane-there, lane-missing, gapped-drawn, lanes-up, leads-by-row}

@@ -23,7 +23,7 @@ use Rattle.topology.specs.Topology.{idAt, linksAt}
 use Rattle.facts.proofs.Facts.{facts}
 use Rattle.report.specs.declared.Answer.{Answer}
 use Rattle.edit.specs.Step.{Lent, refusing, step}
-use Rattle.edit.specs.Parts.{relinked, linking, unlinking, freeing, setting, asOption, Linkable}
+use Rattle.relink.specs.Parts.{relinked, linking, unlinking, freeing, setting, asOption, Linkable}
 use Rattle.edit.proofs.Steps.{spread}
 use Rattle.edit.proofs.Beside.{set-other-absent, set-itself}
 use Rattle.edit.proofs.Ready.{linkable, connect-ends, disconnect-ends, free-ends, set-ends}

@@ -24,7 +24,7 @@ use Rattle.map.specs.Returned.{searchable, laneAt}
 use Rattle.topology.specs.Topology.{idAt, linksAt}
 use Rattle.topology.proofs.Table.{unique}
 use Rattle.topology.proofs.Links.{list-count}
-use Rattle.edit.specs.Parts.{Linkable, linkRoom}
+use Rattle.relink.specs.Parts.{Linkable, linkRoom}
 
 -- a lane's lists within the limit
 abbrev pub within : Lane → Bool

@@ -1,12 +1,8 @@
 pub mod Steps
 pub mod Named
 pub mod Found
-pub mod Gap
-pub mod Linking
 pub mod Connects
 pub mod Fitting
 pub mod Beside
 pub mod Ready
-pub mod Reported
 pub mod Ends
-pub mod Reslot

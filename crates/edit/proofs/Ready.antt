@@ -31,7 +31,7 @@ use Rattle.facts.proofs.Stored.{withLaneTable, store-relinked, onto-any}
 use Rattle.facts.proofs.Room.{room-relinked}
 use Rattle.facts.proofs.Facts.{Facts, facts}
 use Rattle.edit.specs.Step.{Lent, step}
-use Rattle.edit.specs.Parts.{Linkable, linkRoom, linking, unlinking, freeing, setting}
+use Rattle.relink.specs.Parts.{Linkable, linkRoom, linking, unlinking, freeing, setting}
 use Rattle.edit.proofs.Steps.{sound-formed, spread}
 use Rattle.edit.proofs.Found.{links-by-rows}
 use Rattle.edit.proofs.Fitting.{within, connect-room, disconnect-room, own-room}

@@ -23,7 +23,7 @@ use Rattle.facts.proofs.Stored.{withLaneTable}
 use Rattle.report.specs.Report.{listed, warned, counts, fits}
 use Rattle.report.specs.declared.Answer.the-variants.{Changed, Refused}
 use Rattle.edit.specs.Step.{Lent, Ended, ended, step, stateOf, listsOf, refusing, stored, changing, closing}
-use Rattle.edit.specs.Parts.{Relinked, relinked, relinking}
+use Rattle.relink.specs.Parts.{Relinked, relinked, relinking}
 
 pub sound-map : (counter : ℕ) (t : Tables) → soundTables counter t ≡ true → sound counter (view t) ≡ true
 unfolding soundTables

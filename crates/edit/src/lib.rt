@@ -5,7 +5,7 @@ ghost use mathlib.Core.Bool.{true};
 ghost use Rattle.entities.specs.Types.{preset};
 ghost use Rattle.rules.specs.Ops as O;
 ghost use Rattle.tables.specs.Formed.{soundTables};
-ghost use Rattle.edit.specs.Parts.{asOption};
+ghost use Rattle.relink.specs.Parts.{asOption};
 ghost use Rattle.edit.specs.Step as S;
 use entities::OptionNeighbor;
 use entities::Refusal;
@@ -13,9 +13,6 @@ use entities::Side;
 use entities::Tolerance;
 use lists::Found;
 use report::Answer;
-
-mod links;
-mod slots;
 
 // connect on a sound map.
 fn connect_sound(
@@ -49,7 +46,7 @@ fn connect_sound(
     if from == to {
         return Answer::Refused(Refusal::OwnPartner(from));
     }
-    let gap = links::gapped(
+    let gap = relink::links::gapped(
         lanes,
         i,
         j,
@@ -57,8 +54,8 @@ fn connect_sound(
         coordinates,
         Tolerance::GAP_TOLERANCE,
     );
-    let linked = links::leads(lanes, i, to);
-    links::link(lanes, i, j, linked, gap, modified, warnings)
+    let linked = relink::links::leads(lanes, i, to);
+    relink::links::link(lanes, i, j, linked, gap, modified, warnings)
 }
 
 // Map::connect: a link from one lane to another.
@@ -142,8 +139,8 @@ fn disconnect_sound(
     let Found::At(j) = other else {
         return Answer::Refused(Refusal::LaneAbsent(to));
     };
-    let linked = links::leads(lanes, i, to);
-    links::unlink(lanes, i, j, linked, modified, warnings)
+    let linked = relink::links::leads(lanes, i, to);
+    relink::links::unlink(lanes, i, j, linked, modified, warnings)
 }
 
 // Map::disconnect: a link from one lane to another taken out.
@@ -225,7 +222,7 @@ fn set_neighbor_sound(
         return Answer::Refused(Refusal::LaneAbsent(lane));
     };
     let OptionNeighbor::Some(n) = neighbor else {
-        return slots::free_slot(lanes, i, side, modified, warnings);
+        return relink::slots::free_slot(lanes, i, side, modified, warnings);
     };
     let direction = n.direction;
     let other = lookup::lane(lanes, n.lane);
@@ -235,7 +232,7 @@ fn set_neighbor_sound(
     if n.lane == lane {
         return Answer::Refused(Refusal::OwnPartner(lane));
     }
-    slots::set_slot(lanes, i, side, j, direction, modified, warnings)
+    relink::slots::set_slot(lanes, i, side, j, direction, modified, warnings)
 }
 
 // Map::set_neighbor: the neighbour of a lane on a side, or none.

@@ -1,6 +1,6 @@
 // A neighbour slot in a host's numbers.
 ghost use mathlib.Core.Path.{_≡_};
-ghost use Rattle.edit.specs.Parts.{asOption};
+ghost use Rattle.relink.specs.Parts.{asOption};
 ghost use Rattle.exports.specs.Edits.{sideOf, neighborOf};
 use entities::Neighbor;
 use entities::OptionNeighbor;

@@ -5,7 +5,7 @@ use Rattle.edit.proofs.set_neighbor.Tie as tie
 use mathlib.Core.Path.{sym, _∙_}
 use Rattle.entities.specs.Types.{preset}
 use Rattle.rules.specs.Ops as O
-use Rattle.edit.specs.Parts.{asOption}
+use Rattle.relink.specs.Parts.{asOption}
 use Rattle.edit.specs.Step.{lentOf}
 use Rattle.edit.proofs.Steps.{step-unsound}
 

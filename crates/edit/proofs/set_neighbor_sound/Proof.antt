@@ -4,7 +4,7 @@ use Rattle.edit.proofs.set_neighbor_sound.Statement.{statement}
 use Rattle.edit.proofs.set_neighbor_sound.Tie as tie
 use native.Mathlib.Omega.{arith}
 use Rattle.entities.specs.Types.{preset}
-use Rattle.edit.specs.Parts.{asOption}
+use Rattle.relink.specs.Parts.{asOption}
 use Rattle.edit.specs.Step.{tablesOf, lentOf}
 use Rattle.edit.proofs.Beside.{set-absent}
 use Rattle.edit.proofs.Ends.{found, missing, lanes-sorted, leads-may, set-may, freed, besides, beside-missing, beside-itself}

@@ -1,0 +1,4 @@
+pub mod Columns
+pub mod Written
+pub mod Gathers
+pub mod Lines

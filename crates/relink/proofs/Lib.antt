@@ -1,0 +1,4 @@
+pub mod Gap
+pub mod Linking
+pub mod Reported
+pub mod Reslot
