@@ -24,6 +24,9 @@ pub const MERGE_LANES: u64 = 5;
 
 pub const SPLIT_LANE: u64 = 6;
 
+// The last command that is made; those behind it are taken over.
+pub const LAST_MADE: u64 = REMOVE_LANE;
+
 // The highest numbers of a side and of a neighbour's mark.
 const RIGHT: u64 = 1;
 
@@ -50,6 +53,22 @@ pub struct Asked {
 }
 
 // ---- arguments
+
+// Of remove_lane.
+fn one_lane(s: &[u8], c: Cursor) -> Asked {
+    let lane = stream::number(s, c);
+    let next = lane.next;
+    Asked {
+        call: Call {
+            command: REMOVE_LANE,
+            first: lane.value,
+            second: 0,
+            side: 0,
+            mark: 0,
+        },
+        next,
+    }
+}
 
 // Of a command that names two lanes.
 fn two_lanes(s: &[u8], c: Cursor, command: u64) -> Asked {
@@ -121,7 +140,7 @@ pub fn arguments(s: &[u8], c: Cursor) -> Asked {
         return neighbor_of(s, next);
     }
     if command == REMOVE_LANE {
-        return passed(command, stream::skip(s, next, 1));
+        return one_lane(s, next);
     }
     if command == SPLIT_LANE {
         return split_of(s, next);
@@ -195,7 +214,7 @@ fn relink(
 }
 
 // Makes a call of command 1, 2 or 3.
-fn make(
+fn relate(
     call: Call,
     counter: u64,
     lengths: &[u64],
@@ -237,6 +256,47 @@ fn make(
     )
 }
 
+// Makes a call of command 1, 2, 3 or 4.
+fn make(
+    call: Call,
+    counter: u64,
+    lengths: &[u64],
+    lanes: &mut [u64],
+    others: &mut [u64],
+    coordinates: &[f64],
+    created: &[u64],
+    modified: &mut [u64],
+    deleted: &mut [u64],
+    warnings: &mut [u64],
+) -> Answer {
+    if call.command == REMOVE_LANE {
+        return edits::remove_lane(
+            counter,
+            lengths,
+            lanes,
+            others,
+            coordinates,
+            call.first,
+            created,
+            modified,
+            deleted,
+            warnings,
+        );
+    }
+    relate(
+        call,
+        counter,
+        lengths,
+        lanes,
+        others,
+        coordinates,
+        created,
+        modified,
+        deleted,
+        warnings,
+    )
+}
+
 fn fill_all(created: &mut [u64], modified: &mut [u64], deleted: &mut [u64], warnings: &mut [u64]) {
     answers::fill(created);
     answers::fill(modified);
@@ -252,7 +312,7 @@ fn judged(
     counter: u64,
     lengths: &[u64],
     lanes: &mut [u64],
-    others: &[u64],
+    others: &mut [u64],
     coordinates: &[f64],
     created: &mut [u64],
     modified: &mut [u64],
@@ -316,7 +376,7 @@ fn roomed(
     counter: u64,
     lengths: &[u64],
     lanes: &mut [u64],
-    others: &[u64],
+    others: &mut [u64],
     coordinates: &[f64],
     created: &mut [u64],
     modified: &mut [u64],
@@ -353,14 +413,14 @@ fn roomed(
     )
 }
 
-// Makes a call of command 1, 2 or 3, with lists of its own.
+// Makes a call of command 1, 2, 3 or 4, with lists of its own.
 pub fn made(
     s: &[u8],
     asked: Asked,
     counter: u64,
     lengths: &[u64],
     lanes: &mut [u64],
-    others: &[u64],
+    others: &mut [u64],
     coordinates: &[f64],
 ) -> Told {
     let mut created = [0; 64];

@@ -77,7 +77,7 @@ fn enter(counts: &mut [u64], command: u64, number: u64, c: Cursor) {
         return;
     }
     let i = kind(command, number);
-    if calls::SET_NEIGHBOR < command {
+    if calls::LAST_MADE < command {
         bump(counts, TAKEN);
         bump(counts, i);
         return;
@@ -125,7 +125,7 @@ fn make(
     counter: u64,
     lengths: &[u64],
     lanes: &mut [u64],
-    others: &[u64],
+    others: &mut [u64],
     coordinates: &[f64],
     lanes_2: &mut [u64],
     others_2: &mut [u64],
@@ -182,7 +182,7 @@ fn replay_call(
 ) -> Replayed {
     let asked = calls::arguments(s, stream::start());
     let call = asked.call;
-    if call.command <= calls::SET_NEIGHBOR {
+    if call.command <= calls::LAST_MADE {
         return make(
             s,
             asked,
@@ -512,7 +512,7 @@ fn print_kind(command: u64, number: u64, agreed: u64, differ: u64) {
     }
     print_name(command);
     print(number, b": ");
-    if calls::SET_NEIGHBOR < command {
+    if calls::LAST_MADE < command {
         print(agreed, b" taken over\n");
         return;
     }

@@ -1,5 +1,5 @@
 // The tables of a map in the program's arrays: read from the stream, changed by its differences, compared with each other.
-// The lanes have an array of their own, since an edit is lent them alone to write; tables 1 to 6 have a part each of `others`.
+// The lanes have an array of their own, since most edits are lent them alone to write; tables 1 to 6 have a part each of `others`.
 ghost use Prim.Native.Nat.{_≤_};
 use crate::stream;
 use crate::stream::Cursor;
@@ -295,6 +295,14 @@ pub fn copy(from: &[u64], to: &mut [u64]) {
         to[i] = from[i];
         i += 1;
     }
+}
+
+// What is lent of table t, of 1 to 6, from an array of its own.
+pub fn put(others: &mut [u64], lengths: &[u64], t: usize, table: &[u64]) {
+    let n = others.len();
+    let from = begin(t, n);
+    let to = end(from, lent(lengths, t), n);
+    copy(table, &mut others[from..to]);
 }
 
 pub fn copy_floats(from: &[f64], to: &mut [f64]) {

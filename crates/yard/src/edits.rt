@@ -8,9 +8,15 @@ pub enum Link {
     Disconnect,
 }
 
-pub enum Edit {
+// How lanes stand to each other: these edits write the table of lanes alone.
+pub enum Relation {
     Relink(Link, u64, u64),
     SetNeighbor(u64, Side, OptionNeighbor),
+}
+
+pub enum Edit {
+    Relate(Relation),
+    RemoveLane(u64),
 }
 
 // Links two lanes or unlinks them.
@@ -70,9 +76,9 @@ fn relink(
     }
 }
 
-// Makes an edit on the map that the tables hold.
-pub fn apply(
-    e: Edit,
+// Changes how two lanes stand to each other.
+fn relate(
+    e: Relation,
     counter: u64,
     lanes: &mut [u64],
     boundaries: &[u64],
@@ -88,7 +94,7 @@ pub fn apply(
     warnings: &mut [u64],
 ) -> Answer {
     match e {
-        Edit::Relink(link, from, to) => relink(
+        Relation::Relink(link, from, to) => relink(
             link,
             from,
             to,
@@ -106,7 +112,7 @@ pub fn apply(
             deleted,
             warnings,
         ),
-        Edit::SetNeighbor(lane, side, neighbor) => edit::set_neighbor(
+        Relation::SetNeighbor(lane, side, neighbor) => edit::set_neighbor(
             counter,
             lanes,
             boundaries,
@@ -119,6 +125,59 @@ pub fn apply(
             lane,
             side,
             neighbor,
+            created,
+            modified,
+            deleted,
+            warnings,
+        ),
+    }
+}
+
+// Makes an edit on the map that the tables hold.
+pub fn apply(
+    e: Edit,
+    counter: u64,
+    lanes: &mut [u64],
+    boundaries: &mut [u64],
+    roads: &mut [u64],
+    junctions: &mut [u64],
+    rules: &mut [u64],
+    stop_lines: &[u64],
+    crosswalks: &[u64],
+    coordinates: &[f64],
+    created: &[u64],
+    modified: &mut [u64],
+    deleted: &mut [u64],
+    warnings: &mut [u64],
+) -> Answer {
+    match e {
+        Edit::Relate(relation) => relate(
+            relation,
+            counter,
+            lanes,
+            boundaries,
+            roads,
+            junctions,
+            rules,
+            stop_lines,
+            crosswalks,
+            coordinates,
+            created,
+            modified,
+            deleted,
+            warnings,
+        ),
+        Edit::RemoveLane(lane) => edit_lane::remove_lane(
+            counter,
+            lanes,
+            boundaries,
+            roads,
+            junctions,
+            rules,
+            stop_lines,
+            crosswalks,
+            coordinates,
+            lane,
             created,
             modified,
             deleted,

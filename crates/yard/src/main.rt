@@ -10,6 +10,7 @@ mod output;
 
 use edits::Edit;
 use edits::Link;
+use edits::Relation;
 
 // The next id.
 const COUNTER: u64 = 200;
@@ -17,33 +18,51 @@ const COUNTER: u64 = 200;
 // Not above all ids of the map.
 const TOO_LOW: u64 = 50;
 
-// Words lent for the modified: four pairs.
+// Words lent for the modified, and for the deleted: four pairs.
 const ROOM: usize = 8;
 
+// Words of one pair.
+const PAIR: usize = 2;
+
+// A call, and the words that it lends for the modified and for the deleted.
 struct Call {
     edit: Edit,
     counter: u64,
-    room: usize,
+    modified: usize,
+    deleted: usize,
 }
 
 fn plain(edit: Edit) -> Call {
     Call {
         edit,
         counter: COUNTER,
-        room: ROOM,
+        modified: ROOM,
+        deleted: ROOM,
     }
 }
 
+fn link(from: u64, to: u64) -> Edit {
+    Edit::Relate(Relation::Relink(Link::Connect, from, to))
+}
+
+fn unlink(from: u64, to: u64) -> Edit {
+    Edit::Relate(Relation::Relink(Link::Disconnect, from, to))
+}
+
 fn connect(from: u64, to: u64) -> Call {
-    plain(Edit::Relink(Link::Connect, from, to))
+    plain(link(from, to))
 }
 
 fn disconnect(from: u64, to: u64) -> Call {
-    plain(Edit::Relink(Link::Disconnect, from, to))
+    plain(unlink(from, to))
 }
 
 fn set_neighbor(lane: u64, side: Side, neighbor: OptionNeighbor) -> Call {
-    plain(Edit::SetNeighbor(lane, side, neighbor))
+    plain(Edit::Relate(Relation::SetNeighbor(lane, side, neighbor)))
+}
+
+fn remove_lane(lane: u64) -> Call {
+    plain(Edit::RemoveLane(lane))
 }
 
 fn same(lane: u64) -> OptionNeighbor {
@@ -55,8 +74,9 @@ fn opposite(lane: u64) -> OptionNeighbor {
 }
 
 // The calls.
-const CALLS: usize = 14;
+const CALLS: usize = 17;
 
+// The last two are one call: it removes lane 2, which leaves the map of the start with lane 1 alone, and then lane 2 is absent.
 fn listed(i: usize) -> Call {
     match i {
         0 => connect(1, 2),
@@ -72,36 +92,46 @@ fn listed(i: usize) -> Call {
         10 => set_neighbor(1, Side::Right, same(1)),
         11 => set_neighbor(1, Side::Right, same(9)),
         12 => Call {
-            edit: Edit::Relink(Link::Connect, 2, 1),
+            edit: link(2, 1),
             counter: COUNTER,
-            room: 0,
+            modified: 0,
+            deleted: ROOM,
         },
-        _ => Call {
-            edit: Edit::Relink(Link::Connect, 2, 1),
+        13 => Call {
+            edit: link(2, 1),
             counter: TOO_LOW,
-            room: ROOM,
+            modified: ROOM,
+            deleted: ROOM,
         },
+        14 => Call {
+            edit: Edit::RemoveLane(2),
+            counter: COUNTER,
+            modified: ROOM,
+            deleted: PAIR,
+        },
+        _ => remove_lane(2),
     }
 }
 
-// Makes a call, with as much room for the modified as it lends, and writes its answer.
+// Makes a call, with as much room for the modified and the deleted as it lends, and writes its answer.
 fn make(
     c: Call,
     lanes: &mut [u64],
-    boundaries: &[u64],
-    roads: &[u64],
-    junctions: &[u64],
-    rules: &[u64],
+    boundaries: &mut [u64],
+    roads: &mut [u64],
+    junctions: &mut [u64],
+    rules: &mut [u64],
     stop_lines: &[u64],
     crosswalks: &[u64],
     coordinates: &[f64],
     created: &[u64],
     modified: &mut [u64],
-    deleted: &[u64],
+    deleted: &mut [u64],
     warnings: &mut [u64],
 ) {
     let edit = c.edit;
-    let room = output::least(c.room, modified.len());
+    let changed = output::least(c.modified, modified.len());
+    let gone = output::least(c.deleted, deleted.len());
     let a = edits::apply(
         edit,
         c.counter,
@@ -114,25 +144,25 @@ fn make(
         crosswalks,
         coordinates,
         created,
-        &mut modified[..room],
-        deleted,
+        &mut modified[..changed],
+        &mut deleted[..gone],
         warnings,
     );
-    output::answer(a, modified, warnings);
+    output::answer(a, modified, deleted, warnings);
 }
 
 fn each_call(
     lanes: &mut [u64],
-    boundaries: &[u64],
-    roads: &[u64],
-    junctions: &[u64],
-    rules: &[u64],
+    boundaries: &mut [u64],
+    roads: &mut [u64],
+    junctions: &mut [u64],
+    rules: &mut [u64],
     stop_lines: &[u64],
     crosswalks: &[u64],
     coordinates: &[f64],
     created: &[u64],
     modified: &mut [u64],
-    deleted: &[u64],
+    deleted: &mut [u64],
     warnings: &mut [u64],
 ) {
     let mut i = 0;
@@ -159,17 +189,17 @@ fn each_call(
 // The lists: room for eight words of pairs each, and for four warnings.
 fn with_lists(
     lanes: &mut [u64],
-    boundaries: &[u64],
-    roads: &[u64],
-    junctions: &[u64],
-    rules: &[u64],
+    boundaries: &mut [u64],
+    roads: &mut [u64],
+    junctions: &mut [u64],
+    rules: &mut [u64],
     stop_lines: &[u64],
     crosswalks: &[u64],
     coordinates: &[f64],
 ) {
     let created = [0; 8];
     let mut modified = [0; 8];
-    let deleted = [0; 8];
+    let mut deleted = [0; 8];
     let mut warnings = [0; 40];
     each_call(
         lanes,
@@ -182,7 +212,7 @@ fn with_lists(
         coordinates,
         &created,
         &mut modified,
-        &deleted,
+        &mut deleted,
         &mut warnings,
     );
 }
@@ -191,19 +221,19 @@ fn with_lists(
 fn main() {
     let mut lanes = [0; 209];
     let mut boundaries = [0; 41];
-    let roads = [0; 69];
-    let junctions = [0; 70];
-    let rules = [0; 331];
+    let mut roads = [0; 69];
+    let mut junctions = [0; 70];
+    let mut rules = [0; 331];
     let stop_lines = [0; 5];
     let crosswalks = [0; 8];
     let mut coordinates = [0.0; 48];
     ground::lay_out(&mut lanes, &mut boundaries, &mut coordinates);
     with_lists(
         &mut lanes,
-        &boundaries,
-        &roads,
-        &junctions,
-        &rules,
+        &mut boundaries,
+        &mut roads,
+        &mut junctions,
+        &mut rules,
         &stop_lines,
         &crosswalks,
         &coordinates,

@@ -1,5 +1,5 @@
 // An answer as a line of numbers: the paper's number, then of a refusal its entity (kind and id), if it has one, and of a change the four counts, the pairs
-// of modified entities, and the warnings.
+// of modified entities, those of deleted ones, if there are any, and the warnings.
 ghost use Prim.Native.Nat.{_+_, _≤_};
 ghost use lib.ListN.{length};
 use entities::EntityKind;
@@ -124,20 +124,23 @@ fn each_pair(list: &[u64], n: usize) {
     words(list, 0, pairs * PAIR);
 }
 
-fn change(n: Counts, modified: &[u64], warnings: &[u64]) {
+fn change(n: Counts, modified: &[u64], deleted: &[u64], warnings: &[u64]) {
     write(b" |");
     next(n.created as u64);
     next(n.modified as u64);
     next(n.deleted as u64);
     next(n.warnings as u64);
     each_pair(modified, n.modified);
+    if 0 < n.deleted {
+        each_pair(deleted, n.deleted);
+    }
     each_warning(warnings, n.warnings);
 }
 
-pub fn answer(a: Answer, modified: &[u64], warnings: &[u64]) {
+pub fn answer(a: Answer, modified: &[u64], deleted: &[u64], warnings: &[u64]) {
     number(a.number());
     match a {
-        Answer::Changed(n) => change(n, modified, warnings),
+        Answer::Changed(n) => change(n, modified, deleted, warnings),
         Answer::Refused(r) => refusal(r),
     }
     write(b"\n");
