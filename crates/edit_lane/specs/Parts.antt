@@ -28,7 +28,7 @@ pub record Formed (ls rs js us : List ℕ) : Type 0 where
   pub junctions : tableFormed Junctions js ≡ true
   pub rules : tableFormed Rules us ≡ true
 
--- lane tables, the lane's row, boundaries, roads, junctions and rules
+-- of the lane table, the lane's row, the tables of boundaries, roads, junctions and rules
 pub record Removable (ls : List ℕ) (i : ℕ) (bs rs js us : List ℕ) : Type 0 where
   pub lanes-sorted : sortedTable 1024 52 ls ≡ true
   pub row : i < word 0 ls
@@ -41,12 +41,15 @@ pub record Removable (ls : List ℕ) (i : ℕ) (bs rs js us : List ℕ) : Type 0
 abbrev pub goneIds : Gone → List ℕ
 goneIds g = take (g .count) (g .first ∷ g .second ∷ [])
 
+-- a value of `Gone` that stands for these ids, and counts them
 abbrev pub Holds : Gone → List ℕ → Type 0
 Holds g ids = (goneIds g ≡ ids) × (g .count ≡ length ids)
 
+-- two ids in order
 abbrev pub ordered : ℕ → ℕ → List ℕ
 ordered a b = cond (ltb a b) (a ∷ b ∷ []) (b ∷ a ∷ [])
 
+-- of a left and a right boundary those that are the lane's own alone, once each
 abbrev pub chosen : ℕ → ℕ → Bool → Bool → List ℕ
 chosen left right a b = cond (a && b && not (eqb left right)) (ordered left right) (cond a (left ∷ []) (cond b (right ∷ []) []))
 
@@ -67,9 +70,11 @@ unfoldable pub touched : ℕ → List ℕ → List ℕ → List ℕ → List ℕ
 touched a lanes roads junctions rules =
     refs LaneKind (naming Lanes a lanes) ++ (refs RoadKind (naming Roads a roads) ++ (refs JunctionKind (naming Junctions a junctions) ++ refs RuleKind (naming Rules a rules)))
 
+-- the lane and its boundaries
 abbrev pub leaving : ℕ → List ℕ → List EntityRef
 leaving a gone = refs LaneKind (a ∷ []) ++ refs BoundaryKind gone
 
+-- the lists have places for so many modified, deleted and warnings
 abbrev pub fits : ℕ → ℕ → ℕ → List ℕ → List ℕ → List ℕ → Bool
 fits m d w modified deleted warnings = leb m (length modified / 2) && leb d (length deleted / 2) && leb w (length warnings / 10)
 
@@ -107,6 +112,7 @@ pub record Removed : Type 0 where
 abbrev pub removed : Left → List ℕ → List ℕ → List ℕ → Answer → Removed
 removed tables modified deleted warnings answer = record { tables = tables; modified = modified; deleted = deleted; warnings = warnings; answer = answer }
 
+-- lane a gone, if the lists have room
 unfoldable pub without-lane : ℕ → List ℕ → Left → List ℕ → List ℕ → List ℕ → Removed
 without-lane a gone t modified deleted warnings =
     let m = touched a (t .lanes) (t .roads) (t .junctions) (t .rules) in

@@ -55,3 +55,6 @@ pub mod SplitLaw
 pub mod SplitLawful
 pub mod SplitLastCounter
 pub mod Claim
+pub mod Distinct
+pub mod DistinctRows
+pub mod RepeatFree
