@@ -1,9 +1,8 @@
--- connect, disconnect and set_neighbor obey the law, so demand 3 holds of every list of them.
+-- connect, disconnect and set_neighbor obey the law of an accepted call. Assumes nothing.
 use mathlib.Core.Path.{_≡_, refl, sym, ap, _∙_, subst}
 use mathlib.Core.Bool.{Bool, true, false, not, _&&_, _||_, cond, true≢false}
 use mathlib.Core.List.{List, [], _∷_, _++_, map}
 use mathlib.Core.Option.{Option, none, some}
-use Prim.{Unit, tt}
 use Prim.Native.Nat.{ℕ}
 use native.Mathlib.Omega.{arith}
 use lib.Dec.{eqb, leb}
@@ -19,8 +18,8 @@ use Rattle.entities.specs.Records.{Lane, Map, Issue, ChangeSet}
 use Rattle.rules.specs.Map.{lane, leads-to, neighborOn, names}
 use Rattle.rules.specs.Sound.{sound, Room, withinLimits, lastCounter}
 use Rattle.rules.specs.Edit.{Res, refuse, yield, _>>=_, Passed, passed, check, require, Edited, require-lane, relinking, withLanes, lanesWhere, either, linkIn, linkOut, gapped, warning, no-op, when, connect, disconnect, set-neighbor, require-neighbor, sameSlot, slotIn, slotAfter, reslotted, relinked, unshared}
-use Rattle.rules.specs.Ops.{Command, SplitLane, MergeLanes, ConnectLanes, DisconnectLanes, SetNeighbor, RemoveLane, State, Call, edit, counterAfter}
-use Rattle.rules.specs.Demand.{Exact, Demand3}
+use Rattle.rules.specs.Ops.{ConnectLanes, DisconnectLanes, SetNeighbor, State, edit, counterAfter}
+use Rattle.rules.specs.Demand.{Exact}
 use Rattle.laws.proofs.Links.{connect-leads, disconnect-leads}
 use Rattle.laws.proofs.Connect.{connect-sound, disconnect-sound}
 use Rattle.laws.proofs.Still.{connect-exact, disconnect-exact, ids-up}
@@ -28,7 +27,8 @@ use Rattle.laws.proofs.Exact.{relink-exact}
 use Rattle.laws.proofs.Slots.{heldAt}
 use Rattle.laws.proofs.Neighbors.{slotsOf, slotFound, Named}
 use Rattle.laws.proofs.SetNeighbor.{set-sound, set-exact, reslot-leads}
-use Rattle.laws.proofs.Law.{Law, Lawful, AllLawful, demand-3}
+use Rattle.laws.proofs.Law.{Law, Lawful}
+use Rattle.lists.proofs.Select.{map-itself}
 
 -- ---- what a yielding step yields
 
@@ -125,13 +125,9 @@ named m a (some n) k e h = go (lane m (n .lane)) refl
         let (t, h2) = checked (not (eqb (n .lane) a)) (R.OwnPartner a) k e h1 in
         ((l, q, (λ u. true≢false (sym t ∙ ap not (eq-eqb (n .lane) a u)))), h2)
 
-map-same : {A : Type 0} (xs : List A) → map (λ x. x) xs ≡ xs
-map-same [] = refl
-map-same (x ∷ xs) = ap (λ ys. x ∷ ys) (map-same xs)
-
 -- a slot that is set to what it holds: nothing changes
 same-lanes : (m : Map) → withLanes (map (reslotted (λ i s was. was)) (m .lanes)) m ≡ m
-same-lanes m = ap (λ ls. withLanes ls m) (map-same (m .lanes))
+same-lanes m = ap (λ ls. withLanes ls m) (map-itself (m .lanes))
 
 module _ (tol : Tolerance) (a : ℕ) (side : Side) (new : Option Neighbor) where
   -- the definition's outcome, by what the slots held and whether they are the same
@@ -171,34 +167,3 @@ module _ (tol : Tolerance) (a : ℕ) (side : Side) (new : Option Neighbor) where
     where
       outcome : Map → Lane → Res Edited
       outcome m l = yield (outcomeOf m l (neighborOn side l) (slotIn m side new) (sameSlot (neighborOn side l) new))
-
--- ---- demand 3 for lists of these three
-
--- a call of one of the three
-abbrev pub Relinks : Command → Type 0
-Relinks (SplitLane i at n) = ⊥
-Relinks (MergeLanes i j) = ⊥
-Relinks (ConnectLanes i j) = Unit
-Relinks (DisconnectLanes i j) = Unit
-Relinks (SetNeighbor i side n) = Unit
-Relinks (RemoveLane i) = ⊥
-
-relinks-lawful : (tol : Tolerance) (c : Command) → Relinks c → Lawful tol c
-relinks-lawful tol (SplitLane i at n) h = absurd h
-relinks-lawful tol (MergeLanes i j) h = absurd h
-relinks-lawful tol (ConnectLanes i j) h = connect-lawful tol i j
-relinks-lawful tol (DisconnectLanes i j) h = disconnect-lawful tol i j
-relinks-lawful tol (SetNeighbor i side n) h = set-neighbor-lawful tol i side n
-relinks-lawful tol (RemoveLane i) h = absurd h
-
-abbrev pub AllRelink : List Call → Type 0
-AllRelink [] = Unit
-AllRelink (c ∷ cs) = Relinks (c .command) × AllRelink cs
-
-all-lawful : (tol : Tolerance) (calls : List Call) → AllRelink calls → AllLawful tol calls
-all-lawful tol [] h = tt
-all-lawful tol (c ∷ cs) h = (relinks-lawful tol (c .command) (h .0), all-lawful tol cs (h .1))
-
--- Every list of connect, disconnect and set_neighbor, refused calls included, from any sound map, with any tolerances and any room.
-pub demand-3-relinking : (tol : Tolerance) (room : Room) (s : State) → sound (s .counter) (s .map) ≡ true → (calls : List Call) → AllRelink calls → Demand3 tol room s calls
-demand-3-relinking tol room s sane calls h = demand-3 tol room s sane calls (all-lawful tol calls h)

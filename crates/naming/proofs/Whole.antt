@@ -10,6 +10,7 @@ use lib.Seq.{drop-drop, drop-at, take-at, drop-cons}
 use borrow.Rule.Slice.PartMut.{putMid}
 use Rattle.lists.specs.Rows.{over}
 use Rattle.lists.proofs.Rows.{over-part}
+use Rattle.store.proofs.Turns.{over-table}
 use Rattle.tables.specs.View.{word}
 use Rattle.map.proofs.Tables.{rowOf}
 use Rattle.store.specs.Rows.{mapRows, onRows}
@@ -27,10 +28,6 @@ over-behind : (a v l : List ℕ) (n b : ℕ) → length a ≡ n → over (a ++ v
 over-behind a v l n b e =
     let h : n ≤ length (a ++ v) = rw length-append (omega arith) in
     sym (over-part (a ++ v) n b l h) ∙ rw (take-at a v n e, drop-at a v n e)
-
--- and behind a table's count
-over-count : (x : ℕ) (w : List ℕ) (a : ℕ) (l : List ℕ) → over (x ∷ w) (1 + a) l ≡ x ∷ over w a l
-over-count x w a l = over-behind (x ∷ []) w l 1 a refl
 
 -- the first i rows changed by g, where g keeps their length
 module _ (s : ℕ) (g : List ℕ → List ℕ) where
@@ -140,7 +137,7 @@ module _ (k : Rows) (a : ℕ) (t₀ : List ℕ) (h : tableFormed k t₀ ≡ true
           words =
               p
               ∙ (ap (λ x. over x (1 + i * s) v) (m .words)
-              ∙ (over-count (word 0 t₀) (mapRows s g i w) (i * s) v
+              ∙ (over-table (word 0 t₀) (mapRows s g i w) (i * s) v
               ∙ ap (λ x. word 0 t₀ ∷ x) (ap (over (mapRows s g i w) (i * s)) r ∙ rows-put s g i w (all-kept (i + 1) (omega arith)))));
         }
 

@@ -54,7 +54,7 @@ fn row_words(rows: Rows) -> usize
     }
 }
 
-pub fn row_kind(rows: Rows) -> EntityKind
+fn row_kind(rows: Rows) -> EntityKind
     ensures { λ r. ⌜ r ≡ N.rowKind rows ⌝ }
 {
     match rows {
