@@ -21,34 +21,19 @@ use Rattle.lookup.specs.Lookup.{placeOf, sortedTable, allStored, drawn}
 use Rattle.lookup.proofs.Laws.{place-within, place-id, searchable-sorted}
 use Rattle.topology.specs.Topology.{idAt, linksAt}
 use Rattle.facts.proofs.Facts.{facts}
+use Rattle.facts.proofs.Found.{lanes-search, lanes-sorted}
 use Rattle.report.specs.declared.Answer.{Answer}
-use Rattle.edit.specs.Step.{Lent, refusing, step}
-use Rattle.relink.specs.Parts.{relinked, linking, unlinking, freeing, setting, asOption, Linkable}
+use Rattle.step.specs.Step.{Lent, refusing, step}
+use Rattle.relink.specs.Parts.{relinked, linking, unlinking, freeing, setting, Linkable}
 use Rattle.edit.proofs.Steps.{spread}
 use Rattle.edit.proofs.Beside.{set-other-absent, set-itself}
 use Rattle.edit.proofs.Ready.{linkable, connect-ends, disconnect-ends, free-ends, set-ends}
 
--- a look-up that found its row, or none
-pub found : (t : List ℕ) (a i : ℕ) (r : Found) → r ≡ placeOf 52 t a → r ≡ At i → placeOf 52 t a ≡ At i
-found t a i r e f = sym e ∙ f
-
-pub missing : (t : List ℕ) (a : ℕ) (r : Found) → r ≡ placeOf 52 t a → r ≡ Nothing → placeOf 52 t a ≡ Nothing
-missing t a r e f = sym e ∙ f
-
 module _ (counter : ℕ) (t : Tables) (h : soundTables counter t ≡ true) where
-  pub lanes-search : searchable (t .lanes) ≡ true
-  lanes-search = facts counter t h .lanes
-
-  pub lanes-sorted : sortedTable 1024 52 (t .lanes) ≡ true
-  lanes-sorted = searchable-sorted (t .lanes) lanes-search
-
   pub gap-may : (a b i j : ℕ) → placeOf 52 (t .lanes) a ≡ At i → placeOf 52 (t .lanes) b ≡ At j
       → (sortedTable 1024 52 (t .lanes) ≡ true)
       × ((i < word 0 (t .lanes)) × ((j < word 0 (t .lanes)) × ((sortedTable 4096 5 (t .boundaries) ≡ true) × (allStored 5 2 (t .coordinates) (t .boundaries) ≡ true))))
-  gap-may a b i j ea eb = (lanes-sorted, (place-within 52 (t .lanes) a i ea, (place-within 52 (t .lanes) b j eb, (facts counter t h .boundaries, facts counter t h .boundary-lines))))
-
-  pub leads-may : (a i : ℕ) → placeOf 52 (t .lanes) a ≡ At i → (searchable (t .lanes) ≡ true) × (i < word 0 (t .lanes))
-  leads-may a i ea = (lanes-search, place-within 52 (t .lanes) a i ea)
+  gap-may a b i j ea eb = (lanes-sorted counter t h, (place-within 52 (t .lanes) a i ea, (place-within 52 (t .lanes) b j eb, (facts counter t h .boundaries, facts counter t h .boundary-lines))))
 
   pub link-may : (a b i j : ℕ) → placeOf 52 (t .lanes) a ≡ At i → placeOf 52 (t .lanes) b ≡ At j → (x : Bool) → x ≡ has b (linksAt (t .lanes) i 35) → Linkable (t .lanes) i j x
   link-may a b i j ea eb x e = rw e (linkable counter t h a b i j ea eb)
@@ -74,19 +59,19 @@ module _ (tol : Tolerance) (l : Lent) (h : soundTables (l .counter) (l .tables) 
   module _ (side : Side) (new : OptionNeighbor) where
     module _ (lanes modified warnings : List ℕ) (r : Answer) where
       pub freed : new ≡ None → relinked lanes modified warnings r ≡ freeing L i side (l .modified) (l .warnings)
-          → spread l (relinked lanes modified warnings r) ≡ step tol (O.SetNeighbor a side (asOption new)) l
+          → spread l (relinked lanes modified warnings r) ≡ step tol (O.SetNeighbor a side new) l
       freed n e = ap (spread l) e ∙ (rw n (sym (free-ends tol l h k a side i ea)))
 
       pub besides : (n : Neighbor) (j : ℕ) → new ≡ Some n → placeOf 52 L (n .lane) ≡ At j → (n .lane ≡ a → ⊥)
           → relinked lanes modified warnings r ≡ setting L i side j (n .direction) (l .modified) (l .warnings)
-          → spread l (relinked lanes modified warnings r) ≡ step tol (O.SetNeighbor a side (asOption new)) l
+          → spread l (relinked lanes modified warnings r) ≡ step tol (O.SetNeighbor a side new) l
       besides n j f en ne e = ap (spread l) e ∙ (rw f (sym (set-ends tol l h k a side i ea n j en (ne-eqb (n .lane) a ne))))
 
     -- the neighbour's lane is absent, or the lane itself
-    pub beside-missing : (n : Neighbor) → new ≡ Some n → placeOf 52 L (n .lane) ≡ Nothing → refusing l (LaneAbsent (n .lane)) ≡ step tol (O.SetNeighbor a side (asOption new)) l
+    pub beside-missing : (n : Neighbor) → new ≡ Some n → placeOf 52 L (n .lane) ≡ Nothing → refusing l (LaneAbsent (n .lane)) ≡ step tol (O.SetNeighbor a side new) l
     beside-missing n f e = rw f (set-other-absent tol l h k a side i ea n e)
 
-    pub beside-itself : (n : Neighbor) (j : ℕ) → new ≡ Some n → placeOf 52 L (n .lane) ≡ At j → n .lane ≡ a → refusing l (OwnPartner a) ≡ step tol (O.SetNeighbor a side (asOption new)) l
+    pub beside-itself : (n : Neighbor) (j : ℕ) → new ≡ Some n → placeOf 52 L (n .lane) ≡ At j → n .lane ≡ a → refusing l (OwnPartner a) ≡ step tol (O.SetNeighbor a side new) l
     beside-itself n j f en e = rw f (set-itself tol l h k a side i ea n j en e)
 
 -- two rows of two lanes are two rows

@@ -65,7 +65,7 @@ module _ (tol : Tolerance) (c : O.Command) (l : Lent) where
 
   module _ (h : soundTables (l .counter) (l .tables) ≡ true) where
     pub step-refused : (r : Refusal) → O.edit tol c (stateOf l) ≡ E.refuse r → refusing l r ≡ step tol c l
-    unfolding step O.step
+    unfolding step O.stepMap
     step-refused r e = rw (h, sound-map (l .counter) (l .tables) h, e)
 
     -- an edit of links and neighbours
@@ -77,7 +77,7 @@ module _ (tol : Tolerance) (c : O.Command) (l : Lent) where
       room = fitsRoom (roomOf (l .tables)) m && O.fitsLists (listsOf l) cs
 
       decided : step tol c l ≡ cond room (changing c l (record { map = m; counter = l .counter }) cs) (refusing l NoRoom)
-      unfolding step O.step
+      unfolding step O.stepMap
       decided = rw (h, sound-map (l .counter) (l .tables) h, e, le-leb (l .counter) lastCounter k) (either room)
         where
           o : Bool → O.Outcome

@@ -104,7 +104,7 @@ joined k modified deleted warnings p q r s x = rw (p, q, r, s, x)
 
 module _ (tol : Tolerance) (l : Lent) (h : soundTables (l .counter) (l .tables) ≡ true) (a : ℕ) where
   pub lane-absent : lane (view (l .tables)) a ≡ none → refusing l (LaneAbsent a) ≡ step tol (O.RemoveLane a) l
-  unfolding step O.step O.edit remove-lane
+  unfolding step O.stepMap O.edit remove-lane
   lane-absent e = rw (h, sound-map (l .counter) (l .tables) h, e)
 
   module _ (k : l .counter ≤ lastCounter) (i : ℕ) (own : word 0 (laneAt (l .tables .lanes) i) ≡ a)
@@ -119,7 +119,7 @@ module _ (tol : Tolerance) (l : Lent) (h : soundTables (l .counter) (l .tables) 
     after = record { map = removed a gone (view (l .tables)); counter = l .counter }
 
     decided : step tol (O.RemoveLane a) l ≡ cond (O.fitsLists (listsOf l) cs) (changing (O.RemoveLane a) l after cs) (refusing l NoRoom)
-    unfolding step O.step O.edit
+    unfolding step O.stepMap O.edit
     decided =
         rw (h, sound-map (l .counter) (l .tables) h, remove-yields (view (l .tables)) a gone there, le-leb (l .counter) lastCounter k, room-removed (l .counter) (l .tables) h a gone)
         (either (O.fitsLists (listsOf l) cs))

@@ -10,12 +10,14 @@ pub use Rattle.entities.specs.declared.BoundaryRef.{BoundaryRef}
 use Rattle.entities.specs.declared.NeighborDirection.{NeighborDirection}
 use Rattle.entities.specs.declared.NeighborDirection.the-variants.{Same, Opposite}
 pub use Rattle.entities.specs.declared.Neighbor.{Neighbor}
-use Rattle.entities.specs.declared.SplitAt.{SplitAt}
-use Rattle.entities.specs.declared.SplitAt.the-variants.{Fraction, Station}
+use Rattle.entities.specs.declared.OptionNeighbor.{OptionNeighbor}
+use Rattle.entities.specs.declared.OptionNeighbor.the-variants.{None as NoNeighbor, Some as ANeighbor}
 use Rattle.entities.specs.declared.Tolerance.{Tolerance}
 use Rattle.entities.specs.declared.EntityKind.{EntityKind}
 use Rattle.entities.specs.declared.EntityKind.the-variants.{Lane as LaneKind, Boundary as BoundaryKind, Road as RoadKind, Junction as JunctionKind, StopLine as StopLineKind, TrafficSignal as SignalKind, Crosswalk as CrosswalkKind, RegulatoryElement as RuleKind}
 pub use Rattle.entities.specs.declared.EntityRef.{EntityRef}
+use Rattle.entities.specs.declared.OptionEntity.{OptionEntity}
+use Rattle.entities.specs.declared.OptionEntity.the-variants.{None as NoEntity, Some as AnEntity}
 pub use Rattle.entities.specs.declared.Severity.{Severity}
 use Rattle.entities.specs.declared.Severity.the-variants.{Info, Warning, Error}
 pub use Rattle.entities.specs.declared.IssueCode.{IssueCode}
@@ -37,6 +39,11 @@ same l = record { lane = l; direction = Same }
 
 abbrev pub opposing : ℕ → Neighbor
 opposing l = record { lane = l; direction = Opposite }
+
+-- what a slot holds, or a command puts there
+abbrev pub neighborOption : OptionNeighbor → Option Neighbor
+neighborOption NoNeighbor = none
+neighborOption (ANeighbor n) = some n
 
 -- Document 01: "Same-direction neighbours sit on opposite sides, opposite-direction neighbours on the same side."
 abbrev pub reciprocal-side : Side → NeighborDirection → Side
@@ -116,16 +123,23 @@ laneEntity l = record { kind = LaneKind; id = l }
 abbrev pub boundaryEntity : ℕ → EntityRef
 boundaryEntity b = record { kind = BoundaryKind; id = b }
 
+-- an entity that is named, as it goes by value
+abbrev pub aLane : ℕ → OptionEntity
+aLane l = AnEntity (laneEntity l)
+
+abbrev pub aBoundary : ℕ → OptionEntity
+aBoundary b = AnEntity (boundaryEntity b)
+
 -- "The entity is the absent one for 1 and 6, the lane that fails for 3 and 7, the first lane named for 4 and 5, the boundary for 8", "none for 2, 9, 10, 11".
-abbrev pub refusalEntity : Refusal → Option EntityRef
-refusalEntity (LaneAbsent l) = some (laneEntity l)
-refusalEntity FractionOutside = none
-refusalEntity (PositionOutside l) = some (laneEntity l)
-refusalEntity (OwnPartner l) = some (laneEntity l)
-refusalEntity (NotMergeable l) = some (laneEntity l)
-refusalEntity (BoundaryAbsent b) = some (boundaryEntity b)
-refusalEntity (NoUsableLine l) = some (laneEntity l)
-refusalEntity (NotCrossing b) = some (boundaryEntity b)
-refusalEntity Unsound = none
-refusalEntity NoRoom = none
-refusalEntity NoIds = none
+abbrev pub refusalEntity : Refusal → OptionEntity
+refusalEntity (LaneAbsent l) = aLane l
+refusalEntity FractionOutside = NoEntity
+refusalEntity (PositionOutside l) = aLane l
+refusalEntity (OwnPartner l) = aLane l
+refusalEntity (NotMergeable l) = aLane l
+refusalEntity (BoundaryAbsent b) = aBoundary b
+refusalEntity (NoUsableLine l) = aLane l
+refusalEntity (NotCrossing b) = aBoundary b
+refusalEntity Unsound = NoEntity
+refusalEntity NoRoom = NoEntity
+refusalEntity NoIds = NoEntity

@@ -87,13 +87,46 @@ pub fn reciprocal_side(side: Side, direction: NeighborDirection) -> Side
     }
 }
 
-// ---- edit/split.rs, edit/mod.rs
+// ---- edit/split.rs
 
 // Where to split a lane, along its centreline.
 pub enum SplitAt {
     Fraction(f64),
     Station(f64),
 }
+
+// ---- ops.rs
+
+// An edit as data: the six commands.
+pub enum Command {
+    SplitLane {
+        lane: u64,
+        at: SplitAt,
+        include_neighbors: bool,
+    },
+    MergeLanes {
+        first: u64,
+        second: u64,
+    },
+    ConnectLanes {
+        from: u64,
+        to: u64,
+    },
+    DisconnectLanes {
+        from: u64,
+        to: u64,
+    },
+    SetNeighbor {
+        lane: u64,
+        side: Side,
+        neighbor: OptionNeighbor,
+    },
+    RemoveLane {
+        lane: u64,
+    },
+}
+
+// ---- edit/mod.rs
 
 // The three distances that decide an edit, in metres.
 pub struct Tolerance {
@@ -159,6 +192,11 @@ impl EntityKind {
 pub struct EntityRef {
     pub kind: EntityKind,
     pub id: u64,
+}
+
+pub enum OptionEntity {
+    None,
+    Some(EntityRef),
 }
 
 // ---- diagnostics.rs
@@ -241,4 +279,41 @@ impl Refusal {
             Refusal::NoIds => 11,
         }
     }
+
+    // The entity that a refusal names.
+    pub fn entity(self) -> OptionEntity
+        ensures { λ r. ⌜ r ≡ T.refusalEntity self ⌝ }
+    {
+        match self {
+            Refusal::LaneAbsent(l) => lane_entity(l),
+            Refusal::FractionOutside => OptionEntity::None,
+            Refusal::PositionOutside(l) => lane_entity(l),
+            Refusal::OwnPartner(l) => lane_entity(l),
+            Refusal::NotMergeable(l) => lane_entity(l),
+            Refusal::BoundaryAbsent(b) => boundary_entity(b),
+            Refusal::NoUsableLine(l) => lane_entity(l),
+            Refusal::NotCrossing(b) => boundary_entity(b),
+            Refusal::Unsound => OptionEntity::None,
+            Refusal::NoRoom => OptionEntity::None,
+            Refusal::NoIds => OptionEntity::None,
+        }
+    }
+}
+
+fn lane_entity(id: u64) -> OptionEntity
+    ensures { λ r. ⌜ r ≡ T.aLane id ⌝ }
+{
+    OptionEntity::Some(EntityRef {
+        kind: EntityKind::Lane,
+        id,
+    })
+}
+
+fn boundary_entity(id: u64) -> OptionEntity
+    ensures { λ r. ⌜ r ≡ T.aBoundary id ⌝ }
+{
+    OptionEntity::Some(EntityRef {
+        kind: EntityKind::Boundary,
+        id,
+    })
 }

@@ -8,3 +8,4 @@ pub mod LaidLines
 pub mod LaidStops
 pub mod LaidPlaces
 pub mod Laid
+pub mod Found

@@ -14,8 +14,8 @@ use Rattle.entities.specs.declared.Refusal.the-variants as R
 use Rattle.entities.specs.Records.{Map, ChangeSet}
 use Rattle.rules.specs.Map.{leads-to}
 use Rattle.rules.specs.Sound.{sound, Room, Lists, fitsRoom, withinLimits, lastCounter, pointCount}
-use Rattle.rules.specs.Edit.{Res, refuse, yield, Edited}
-use Rattle.rules.specs.Ops.{Command, State, Call, Answer, refused, accepted, Outcome, edit, counterAfter, fitsLists, refusedAs, acceptedAs, finish, step, after}
+use Rattle.rules.specs.Edit.{Res, refuse, yield, _>>=_, check, Edited}
+use Rattle.rules.specs.Ops.{Command, State, Call, Answer, refused, accepted, Outcome, edit, counterAfter, fitsLists, refusedAs, acceptedAs, listable, outcomeOf, finish, stepMap, after}
 use Rattle.rules.specs.Book.{Book, entry, booked, bookAfter, firstBook}
 use Rattle.rules.specs.Demand.{Exact, Told, AllTold, Demand3}
 use Rattle.rules.proofs.Facts.{Sound, sound-facts}
@@ -64,19 +64,24 @@ module _ (tol : Tolerance) (room : Room) (c : Call) (s : State) (sane : sound (s
         told = l .lists-exact ids;
       }
 
+  -- the three tests, one after the other
   finish-kept : (r : Res Edited) → edit tol (c .command) s ≡ r → Kept tol room c s (finish room (c .lists) s r)
   finish-kept (refuse r) h = refused-kept r
-  finish-kept (yield e) h = go (leb (counterAfter (s .counter) (e .ids)) lastCounter) (fitsRoom room (e .result)) (fitsLists (c .lists) (e .changes)) refl refl
+  finish-kept (yield e) h = settles (leb (counterAfter (s .counter) (e .ids)) lastCounter) (fitsRoom room (e .result)) refl refl
     where
-      go : (p q l : Bool) → leb (counterAfter (s .counter) (e .ids)) lastCounter ≡ p → fitsRoom room (e .result) ≡ q
-          → Kept tol room c s (cond p (cond (q && l) (acceptedAs s e) (refusedAs s R.NoRoom)) (refusedAs s R.NoIds))
-      go false q l a b = refused-kept R.NoIds
-      go true false l a b = refused-kept R.NoRoom
-      go true true false a b = refused-kept R.NoRoom
-      go true true true a b = accepted-kept e h a b
+      lists : leb (counterAfter (s .counter) (e .ids)) lastCounter ≡ true → fitsRoom room (e .result) ≡ true → (l : Bool)
+          → Kept tol room c s (outcomeOf s (check l R.NoRoom >>= (λ _. yield e)))
+      lists a b false = refused-kept R.NoRoom
+      lists a b true = accepted-kept e h a b
 
-  pub step-kept : Kept tol room c s (step tol room c s)
-  unfolding step
+      settles : (p q : Bool) → leb (counterAfter (s .counter) (e .ids)) lastCounter ≡ p → fitsRoom room (e .result) ≡ q
+          → Kept tol room c s (outcomeOf s (listable (c .lists) (check p R.NoIds >>= (λ _. (check q R.NoRoom >>= (λ _. yield e))))))
+      settles false q a b = refused-kept R.NoIds
+      settles true false a b = refused-kept R.NoRoom
+      settles true true a b = lists a b (fitsLists (c .lists) (e .changes))
+
+  pub step-kept : Kept tol room c s (stepMap tol room c s)
+  unfolding stepMap
   step-kept = subst (λ b. Kept tol room c s (cond b (finish room (c .lists) s (edit tol (c .command) s)) (refusedAs s R.Unsound))) (sym sane) (finish-kept (edit tol (c .command) s) refl)
 
 -- ---- every list of calls
@@ -89,14 +94,14 @@ after-sound : (tol : Tolerance) (room : Room) (calls : List Call) (s : State) �
     → sound (after tol room calls s .counter) (after tol room calls s .map) ≡ true
 unfolding after
 after-sound tol room [] s sane ls = sane
-after-sound tol room (c ∷ cs) s sane ls = after-sound tol room cs (step tol room c s .state) (step-kept tol room c s sane (ls .0) .sound-left) (ls .1)
+after-sound tol room (c ∷ cs) s sane ls = after-sound tol room cs (stepMap tol room c s .state) (step-kept tol room c s sane (ls .0) .sound-left) (ls .1)
 
 all-told : (tol : Tolerance) (room : Room) (calls : List Call) (s : State) → sound (s .counter) (s .map) ≡ true → AllLawful tol calls → AllTold tol room calls s
 unfolding AllTold
 all-told tol room [] s sane ls = refl
 all-told tol room (c ∷ cs) s sane ls =
     let k = step-kept tol room c s sane (ls .0) in
-    (k .told, all-told tol room cs (step tol room c s .state) (k .sound-left) (ls .1))
+    (k .told, all-told tol room cs (stepMap tol room c s .state) (k .sound-left) (ls .1))
 
 -- two books that agree on every pair are one
 same-book : (k l : Book) → ((x y : ℕ) → k x y ≡ l x y) → k ≡ l
@@ -108,7 +113,7 @@ unfolding after bookAfter
 all-booked tol room [] s sane ls a b = refl
 all-booked tol room (c ∷ cs) s sane ls a b =
     let k = step-kept tol room c s sane (ls .0) in
-    let o = step tol room c s in
+    let o = stepMap tol room c s in
     all-booked tol room cs (o .state) (k .sound-left) (ls .1) a b
     ∙ ap (λ book. bookAfter tol room cs (o .state) book a b)
     (same-book (leads-to (o .state .map)) (booked (c .command) (s .map) (o .answer) (leads-to (s .map))) (k .book-left))

@@ -18,6 +18,8 @@ use Rattle.entities.specs.Records.{Lane, Map, Issue, ChangeSet}
 use Rattle.rules.specs.Map.{lane, leads-to, neighborOn, names}
 use Rattle.rules.specs.Sound.{sound, Room, withinLimits, lastCounter}
 use Rattle.rules.specs.Edit.{Res, refuse, yield, _>>=_, Passed, passed, check, require, Edited, require-lane, relinking, withLanes, lanesWhere, either, linkIn, linkOut, gapped, warning, no-op, when, connect, disconnect, set-neighbor, require-neighbor, sameSlot, slotIn, slotAfter, reslotted, relinked, unshared}
+use Rattle.entities.specs.declared.OptionNeighbor.{OptionNeighbor}
+use Rattle.entities.specs.Types.{neighborOption}
 use Rattle.rules.specs.Ops.{ConnectLanes, DisconnectLanes, SetNeighbor, State, edit, counterAfter}
 use Rattle.rules.specs.Demand.{Exact}
 use Rattle.laws.proofs.Links.{connect-leads, disconnect-leads}
@@ -129,7 +131,10 @@ named m a (some n) k e h = go (lane m (n .lane)) refl
 same-lanes : (m : Map) → withLanes (map (reslotted (λ i s was. was)) (m .lanes)) m ≡ m
 same-lanes m = ap (λ ls. withLanes ls m) (map-itself (m .lanes))
 
-module _ (tol : Tolerance) (a : ℕ) (side : Side) (new : Option Neighbor) where
+module _ (tol : Tolerance) (a : ℕ) (side : Side) (value : OptionNeighbor) where
+  abbrev new : Option Neighbor
+  new = neighborOption value
+
   -- the definition's outcome, by what the slots held and whether they are the same
   abbrev outcomeOf : Map → Lane → Option Neighbor → Option Neighbor → Bool → Edited
   outcomeOf m l old other same =
@@ -138,7 +143,7 @@ module _ (tol : Tolerance) (a : ℕ) (side : Side) (new : Option Neighbor) where
       (when same (no-op a) ++ unshared m l side new)
 
   law-of : (s : State) → sound (s .counter) (s .map) ≡ true → (l : Lane) → lane (s .map) a ≡ some l → Named (s .map) a new → (same : Bool)
-      → Law (SetNeighbor a side new) s (outcomeOf (s .map) l (slotsOf (s .map) a side) (heldAt (slotsOf (s .map)) side new) same)
+      → Law (SetNeighbor a side value) s (outcomeOf (s .map) l (slotsOf (s .map) a side) (heldAt (slotsOf (s .map)) side new) same)
   law-of s sane l ea nm true =
       record {
         stays-sound = λ ids limits. subst (λ n. sound (s .counter) n ≡ true) (sym (same-lanes (s .map))) sane;
@@ -154,13 +159,13 @@ module _ (tol : Tolerance) (a : ℕ) (side : Side) (new : Option Neighbor) where
         lists-exact = λ ids. set-exact (s .counter) (s .map) sane a l ea side new nm (unshared (s .map) l side new);
       }
 
-  pub set-neighbor-lawful : Lawful tol (SetNeighbor a side new)
+  pub set-neighbor-lawful : Lawful tol (SetNeighbor a side value)
   unfolding edit set-neighbor
   set-neighbor-lawful s sane e h =
       let m = s .map in
       let (l, ea, h1) = required m a (λ l. require-neighbor m a new >>= (λ ok. outcome m l)) e h in
       let (nm, h2) = named m a new (λ ok. outcome m l) e h1 in
-      subst (λ x. Law (SetNeighbor a side new) s x)
+      subst (λ x. Law (SetNeighbor a side value) s x)
       (ap (λ old. outcomeOf m l old (heldAt (slotsOf m) side new) (sameSlot (neighborOn side l) new)) (old-slot m a l ea side)
       ∙ (ap (λ other. outcomeOf m l (neighborOn side l) other (sameSlot (neighborOn side l) new)) (other-slot m side new) ∙ yields h2))
       (law-of s sane l ea nm (sameSlot (neighborOn side l) new))

@@ -18,11 +18,13 @@ use Rattle.entities.specs.declared.Refusal.the-variants as R
 use Rattle.entities.specs.Records.{Lane, Map}
 use Rattle.rules.specs.Map.{lane, centerline, flatPoint}
 use Rattle.rules.specs.Sound.{sound, Room, fitsRoom, nextId, lastCounter, repeatFree}
-use Rattle.rules.specs.Edit.{Res, refuse, yield, check, require, Edited, require-lane, require-neighbor, connect, disconnect, set-neighbor}
+use Rattle.entities.specs.declared.OptionNeighbor.{OptionNeighbor}
+use Rattle.entities.specs.Types.{neighborOption}
+use Rattle.rules.specs.Edit.{Res, refuse, yield, _>>=_, check, require, Edited, require-lane, require-neighbor, connect, disconnect, set-neighbor}
 use Rattle.rules.specs.Lane.{remove-lane}
 use Rattle.rules.specs.Merge.{SidePlan, side-plan, replace-lane, merged, merge-lanes}
 use Rattle.rules.specs.Split.{LanePlan, cutStation, cuttable, lane-plans, all-cross, cut, groupOf, split-lane}
-use Rattle.rules.specs.Ops.{Command, SplitLane, MergeLanes, ConnectLanes, DisconnectLanes, SetNeighbor, RemoveLane, State, Call, edit, counterAfter, fitsLists, refusedAs, acceptedAs, finish, step, after}
+use Rattle.rules.specs.Ops.{Command, SplitLane, MergeLanes, ConnectLanes, DisconnectLanes, SetNeighbor, RemoveLane, State, Call, edit, counterAfter, fitsLists, refusedAs, listable, outcomeOf, finish, stepMap, after}
 use Rattle.rules.specs.Demand.{RepeatFreeClaim}
 use Rattle.laws.proofs.Lawful.{yields, required}
 use Rattle.laws.proofs.Law.{step-kept}
@@ -62,12 +64,12 @@ module _ (tol : Tolerance) where
       let (to, e2, h2) = bound (require-lane m b) _ e h1 in
       by-result h2 (same-free m _ refl refl refl t)
 
-  set-neighbor-free : (a : ℕ) (side : Side) (new : Option Neighbor) → Free tol (SetNeighbor a side new)
+  set-neighbor-free : (a : ℕ) (side : Side) (new : OptionNeighbor) → Free tol (SetNeighbor a side new)
   unfolding edit set-neighbor
   set-neighbor-free a side new s sane t e h within =
       let m = s .map in
       let (l, e1, h1) = bound (require-lane m a) _ e h in
-      let (ok, e2, h2) = bound (require-neighbor m a new) _ e h1 in
+      let (ok, e2, h2) = bound (require-neighbor m a (neighborOption new)) _ e h1 in
       by-result h2 (same-free m _ refl refl refl t)
 
   remove-free : (a : ℕ) → Free tol (RemoveLane a)
@@ -137,16 +139,21 @@ module _ (tol : Tolerance) (room : Room) where
   finish-free : (c : Call) (s : State) → sound (s .counter) (s .map) ≡ true → repeatFree (s .map) ≡ true → (r : Res Edited) → edit tol (c .command) s ≡ r
       → repeatFree (finish room (c .lists) s r .state .map) ≡ true
   finish-free c s sane t (refuse r) h = t
-  finish-free c s sane t (yield e) h = go (leb (counterAfter (s .counter) (e .ids)) lastCounter) (fitsRoom room (e .result) && fitsLists (c .lists) (e .changes)) refl
+  finish-free c s sane t (yield e) h = settles (leb (counterAfter (s .counter) (e .ids)) lastCounter) (fitsRoom room (e .result)) refl
     where
-      go : (p q : Bool) → leb (counterAfter (s .counter) (e .ids)) lastCounter ≡ p
-          → repeatFree (cond p (cond q (acceptedAs s e) (refusedAs s R.NoRoom)) (refusedAs s R.NoIds) .state .map) ≡ true
-      go false q a = t
-      go true false a = t
-      go true true a = free tol (c .command) s sane t e h a
+      lists : leb (counterAfter (s .counter) (e .ids)) lastCounter ≡ true → (l : Bool)
+          → repeatFree (outcomeOf s (check l R.NoRoom >>= (λ _. yield e)) .state .map) ≡ true
+      lists a false = t
+      lists a true = free tol (c .command) s sane t e h a
 
-  step-free : (c : Call) (s : State) → sound (s .counter) (s .map) ≡ true → repeatFree (s .map) ≡ true → repeatFree (step tol room c s .state .map) ≡ true
-  unfolding step
+      settles : (p q : Bool) → leb (counterAfter (s .counter) (e .ids)) lastCounter ≡ p
+          → repeatFree (outcomeOf s (listable (c .lists) (check p R.NoIds >>= (λ _. (check q R.NoRoom >>= (λ _. yield e))))) .state .map) ≡ true
+      settles false q a = t
+      settles true false a = t
+      settles true true a = lists a (fitsLists (c .lists) (e .changes))
+
+  step-free : (c : Call) (s : State) → sound (s .counter) (s .map) ≡ true → repeatFree (s .map) ≡ true → repeatFree (stepMap tol room c s .state .map) ≡ true
+  unfolding stepMap
   step-free c s sane t =
       subst (λ b. repeatFree (cond b (finish room (c .lists) s (edit tol (c .command) s)) (refusedAs s R.Unsound) .state .map) ≡ true) (sym sane)
       (finish-free c s sane t (edit tol (c .command) s) refl)
@@ -155,7 +162,7 @@ module _ (tol : Tolerance) (room : Room) where
   unfolding after
   after-free [] s sane t = t
   after-free (c ∷ cs) s sane t =
-      after-free cs (step tol room c s .state) (step-kept tol room c s sane (lawful tol (c .command)) .sound-left) (step-free c s sane t)
+      after-free cs (stepMap tol room c s .state) (step-kept tol room c s sane (lawful tol (c .command)) .sound-left) (step-free c s sane t)
 
 pub repeat-free-claim : RepeatFreeClaim
 repeat-free-claim tol room s sane t calls = after-free tol room calls s sane t

@@ -26,7 +26,7 @@ use Rattle.ops.specs.Run.{Held, Lending, lend, heldIn, mapIn, call, call
 
 -- the same call on the map that is held
 abbrev pub outcome : Tolerance → O.Command → Lent → O.Outcome
-outcome tol c l = O.step tol (roomOf (l .tables)) (callOf c l) (stateOf l)
+outcome tol c l = O.stepMap tol (roomOf (l .tables)) (callOf c l) (stateOf l)
 
 -- What is lent after a call: it is sound, holds the outcome's map and counter, and has its lengths.
 pub record Kept (l : Lent) (o : O.Outcome) (after : Lent) : Type 0 where
@@ -101,7 +101,7 @@ module _ (tol : Tolerance) (c : O.Command) (l : Lent) (s : soundTables (l .count
   -- the edit behind it, and that its result has room
   pub accepted-edit : (e : Edited) × (O.edit tol c (stateOf l) ≡ yield e) × (outcome tol c l .state ≡ O.acceptedAs (stateOf l) e .state)
       × (fitsRoom (roomOf (l .tables)) (e .result) ≡ true)
-  unfolding O.step
+  unfolding O.stepMap
   accepted-edit =
       let finished : outcome tol c l ≡ O.finish (roomOf (l .tables)) (listsOf l) (stateOf l) (O.edit tol c (stateOf l)) =
       ap (λ b. cond b (O.finish (roomOf (l .tables)) (listsOf l) (stateOf l) (O.edit tol c (stateOf l))) (O.refusedAs (stateOf l) Unsound))

@@ -9,13 +9,13 @@ use lib.ListN.{length, getD, set, take, length-append}
 use lib.Seq.{length-take-le, take-suc}
 use Rattle.lists.specs.Rows.{over}
 use Rattle.lists.specs.Select.{each, has, place, ascending}
-use Rattle.lists.proofs.Rows.{take-over, over-itself, store-behind}
+use Rattle.lists.proofs.Rows.{take-over, over-nil, over-itself, store-behind}
 use Rattle.lists.proofs.Place.{place-present, length-place}
 use Rattle.lists.proofs.Select.{each-append}
 use Rattle.entities.specs.Types.{kindNumber}
 use Rattle.rules.specs.Names.{LaneKind}
 use Rattle.rules.specs.Edit.{refs}
-use Rattle.report.specs.Report.{entityWords}
+use Rattle.report.specs.Report.{entityWords, listed}
 
 -- an id named among the first n of w: one that is there, and one that is not
 module _ (w : List ℕ) (n id : ℕ) (h : n < length w) where
@@ -85,3 +85,8 @@ list-step w v ids i x h k q e =
     let second = store-behind w 0 (i * 2 + 1) (l ++ (x ∷ [])) y m (omega arith) in
     ap (λ z. set (set z (i * 2) x) (i * 2 + 1) y) e
     ∙ (ap (λ z. set z (i * 2 + 1) y) first ∙ (second ∙ ap (over w 0) (append-assoc l (x ∷ []) (y ∷ []) ∙ (ap (λ z. l ++ (z ∷ y ∷ [])) q ∙ sym (lanes-more ids i h)))))
+
+-- an empty list changes nothing
+pub listed-nil : (w : List ℕ) → listed w [] ≡ w
+unfolding listed each
+listed-nil w = over-nil w 0

@@ -8,13 +8,16 @@ use lib.ListN.{length, take, drop}
 use Rattle.lists.specs.Rows.{over}
 use Rattle.lists.specs.Select.{each}
 use Rattle.entities.specs.Types.{kindNumber, severityNumber, codeNumber, laneEntity, refusalNumber, refusalEntity}
+use Rattle.entities.specs.declared.OptionEntity.{OptionEntity}
+use Rattle.entities.specs.declared.OptionEntity.the-variants.{None as NoEntity}
 use Rattle.entities.specs.Records.{Issue, ChangeSet}
+use Rattle.rules.specs.Ops.{counterAfter}
 use Rattle.rules.specs.Names.{EntityKind, EntityRef, RuleKind, Severity, Warning, IssueCode, OrphanRule}
 use Rattle.rules.specs.Edit.{warning, no-op}
 use Rattle.store.specs.Store.{flag, writes}
 use Rattle.report.specs.declared.Counts.{Counts}
 use Rattle.report.specs.declared.Answer.{Answer}
-use Rattle.report.specs.declared.Answer.the-variants.{Changed, Refused}
+use Rattle.report.specs.declared.Answer.the-variants.{Changed, Split, Refused}
 use Rattle.report.specs.declared.Notice.{Notice}
 use Rattle.report.specs.declared.Notice.the-variants.{Nothing, NoOp, Pair}
 
@@ -23,11 +26,22 @@ use Rattle.report.specs.declared.Notice.the-variants.{Nothing, NoOp, Pai
 -- The paper's number and entity of an answer: 0 and none of an accepted call.
 abbrev pub answerNumber : Answer → ℕ
 answerNumber (Changed n) = 0
+answerNumber (Split n second) = 0
 answerNumber (Refused r) = refusalNumber r
 
-abbrev pub answerEntity : Answer → Option EntityRef
-answerEntity (Changed n) = none
+abbrev pub answerEntity : Answer → OptionEntity
+answerEntity (Changed n) = NoEntity
+answerEntity (Split n second) = NoEntity
 answerEntity (Refused r) = refusalEntity r
+
+abbrev pub answerCounts : Answer → Counts
+answerCounts (Changed n) = n
+answerCounts (Split n second) = n
+answerCounts (Refused r) = record { created = 0; modified = 0; deleted = 0; warnings = 0 }
+
+-- The counter behind a call: what is created has the ids that were allocated, and a refusal allocates none.
+abbrev pub counterBehind : ℕ → Answer → ℕ
+counterBehind counter a = counterAfter counter (answerCounts a .created)
 
 -- ---- words
 
@@ -54,6 +68,11 @@ warned w issues = writes 10 issueOnto w issues
 
 abbrev pub counts : ChangeSet → Counts
 counts cs = record { created = length (cs .created); modified = length (cs .modified); deleted = length (cs .deleted); warnings = length (cs .warnings) }
+
+-- the answer of an accepted call: the four counts, and of a split the second half of its lane
+abbrev pub accepting : ChangeSet → Option ℕ → Answer
+accepting cs none = Changed (counts cs)
+accepting cs (some second) = Split (counts cs) second
 
 -- ---- the parts of a report; nothing that a host calls rests on these
 

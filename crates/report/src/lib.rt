@@ -2,7 +2,7 @@
 ghost use mathlib.Core.Path.{_≡_};
 ghost use mathlib.Core.Bool.{true, false, cond};
 ghost use mathlib.Core.List.{[], _∷_, _++_};
-ghost use Prim.Native.Nat.{_+_, _*_, _≤_, _<_};
+ghost use Prim.Native.Nat.{_+_, _*_, _^_, _≤_, _<_};
 ghost use lib.ListN.{length, take};
 ghost use Rattle.lists.specs.Rows.{over};
 ghost use Rattle.lists.specs.Select.{has, place, ascending};
@@ -13,6 +13,7 @@ ghost use Rattle.store.specs.Store.{flag};
 ghost use Rattle.report.specs.Report as R;
 use entities::EntityKind;
 use entities::IssueCode;
+use entities::OptionEntity;
 use entities::Refusal;
 use entities::Severity;
 use lists::both;
@@ -47,9 +48,10 @@ pub struct Counts {
     pub warnings: usize,
 }
 
-// What a call answers.
+// What a call answers: a change, a change by a split with the second half of its lane, or a refusal.
 pub enum Answer {
     Changed(Counts),
+    Split(Counts, u64),
     Refused(Refusal),
 }
 
@@ -60,8 +62,51 @@ impl Answer {
     {
         match self {
             Answer::Changed(_) => 0,
+            Answer::Split(_, _) => 0,
             Answer::Refused(r) => r.number(),
         }
+    }
+
+    // The entity that a refusal names.
+    pub fn entity(self) -> OptionEntity
+        ensures { λ r. ⌜ r ≡ R.answerEntity self ⌝ }
+    {
+        match self {
+            Answer::Changed(_) => OptionEntity::None,
+            Answer::Split(_, _) => OptionEntity::None,
+            Answer::Refused(r) => r.entity(),
+        }
+    }
+
+    // How many places of the lists an accepted call has filled; none for a refused one.
+    pub fn counts(self) -> Counts
+        ensures { λ r. ⌜ r ≡ R.answerCounts self ⌝ }
+    {
+        match self {
+            Answer::Changed(n) => n,
+            Answer::Split(n, _) => n,
+            Answer::Refused(_) => Counts {
+                created: 0,
+                modified: 0,
+                deleted: 0,
+                warnings: 0,
+            },
+        }
+    }
+
+    // The counter behind the call.
+    pub fn counter(self, counter: u64) -> u64
+        requires { ⌜ R.counterBehind counter self < 2 ^ 64 ⌝ }
+        ensures { λ r. ⌜ r ≡ R.counterBehind counter self ⌝ }
+    {
+        let ids = self.counts().created as u64;
+        if ids == 0 {
+            return counter;
+        }
+        if counter == 0 {
+            return ids + 1;
+        }
+        counter + ids
     }
 }
 

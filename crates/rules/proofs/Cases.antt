@@ -13,7 +13,7 @@ use Rattle.rules.specs.Names.{Point3, Fraction, Station, Left, Right, Bo
 use Rattle.rules.specs.Sound.{Room, Lists, sound}
 use Rattle.rules.specs.Edit.{warning, no-op, laneWith}
 use Rattle.rules.specs.Lane.{orphan}
-use Rattle.rules.specs.Ops.{Command, SplitLane, MergeLanes, ConnectLanes, DisconnectLanes, SetNeighbor, RemoveLane, State, Call, Answer, refused, accepted, Outcome, step}
+use Rattle.rules.specs.Ops.{Command, SplitLane, MergeLanes, ConnectLanes, DisconnectLanes, SetNeighbor, RemoveLane, State, Call, Answer, refused, accepted, Outcome, stepMap}
 use Rattle.rules.proofs.Opened.{opened}
 
 -- ---- rows
@@ -25,7 +25,7 @@ pub record Case : Type 0 where
   pub outcome : Outcome
 
 abbrev pub Holds : Case → Type 0
-Holds c = step preset (c .room) (c .call) (c .before) ≡ c .outcome
+Holds c = stepMap preset (c .room) (c .call) (c .before) ≡ c .outcome
 
 abbrev pub AllHold : List Case → Type 0
 AllHold [] = Unit

@@ -6,6 +6,7 @@ use mathlib.Core.Option.{Option, none, some}
 use Prim.{tt}
 use Prim.Native.Nat.{ℕ, _-_, _^_}
 use lib.Ieee.{Float}
+use Rattle.entities.specs.declared.OptionNeighbor.the-variants.{Some as ANeighbor}
 use Rattle.entities.specs.Types.{same, opposing, laneEntity, boundaryEntity}
 use Rattle.entities.specs.Records.{Line, Lane, Road, Rule, StopLine, Crosswalk, Map, Issue}
 use Rattle.rules.specs.Names.{Fraction, Station, Right, EntityRef, RoadKind, RuleKind, Warning, BoundaryUnshared, OrphanRule, AttributeConflict, PositionOutside, NotMergeable, BoundaryAbsent, NoUsableLine, NotCrossing, Unsound, NoRoom, NoIds}
@@ -194,7 +195,7 @@ abbrev freed-reported : Case
 freed-reported =
     changing (counting 106 (yard (beside none (some (same 2)) (plain 1 101 102) ∷ beside (some (same 1)) none (plain 2 102 103) ∷
     beside (some (same 4)) none (plain 3 104 101) ∷ beside none (some (same 3)) (plain 4 105 104) ∷ [])
-    (e101 ∷ e102 ∷ e103 ∷ edge 104 (from n0 n10 n6) ∷ edge 105 (from n0 n10 n10) ∷ []))) (SetNeighbor 1 Right (some (same 3)))
+    (e101 ∷ e102 ∷ e103 ∷ edge 104 (from n0 n10 n6) ∷ edge 105 (from n0 n10 n10) ∷ []))) (SetNeighbor 1 Right (ANeighbor (same 3)))
     (yard (beside none (some (same 3)) (plain 1 101 102) ∷ plain 2 102 103 ∷ beside (some (same 1)) none (plain 3 104 101) ∷ plain 4 105 104 ∷ [])
     (e101 ∷ e102 ∷ e103 ∷ edge 104 (from n0 n10 n6) ∷ edge 105 (from n0 n10 n10) ∷ []))
     106 none

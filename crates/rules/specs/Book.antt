@@ -10,7 +10,7 @@ use Rattle.entities.specs.Records.{Map, ChangeSet}
 use Rattle.rules.specs.Map.{leads-to}
 use Rattle.rules.specs.Sound.{Room}
 use Rattle.rules.specs.Split.{groupOf}
-use Rattle.rules.specs.Ops.{Command, SplitLane, MergeLanes, ConnectLanes, DisconnectLanes, SetNeighbor, RemoveLane, State, Call, Answer, refused, accepted, step}
+use Rattle.rules.specs.Ops.{Command, SplitLane, MergeLanes, ConnectLanes, DisconnectLanes, SetNeighbor, RemoveLane, State, Call, Answer, refused, accepted, stepMap}
 
 abbrev pub Book : Type 0
 Book = ℕ → ℕ → Bool
@@ -69,7 +69,7 @@ booked c m (accepted cs second) k = entry c m cs k
 unfoldable pub bookAfter : Tolerance → Room → List Call → State → Book → Book
 bookAfter tol room [] s k = k
 bookAfter tol room (c ∷ cs) s k =
-    let o = step tol room c s in
+    let o = stepMap tol room c s in
     bookAfter tol room cs (o .state) (booked (c .command) (s .map) (o .answer) k)
 
 abbrev pub firstBook : Map → Book

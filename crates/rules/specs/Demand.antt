@@ -14,7 +14,7 @@ use Rattle.entities.specs.Records.{Lane, Boundary, Road, Junction, Rule, StopLi
 use Rattle.rules.specs.Map.{leads-to, comes-from}
 use Rattle.rules.specs.Sound.{sound, Room, has-neighbor, repeatFree}
 use Rattle.rules.specs.Edit.{refs}
-use Rattle.rules.specs.Ops.{Command, State, Call, Answer, refused, accepted, Outcome, step, after}
+use Rattle.rules.specs.Ops.{Command, State, Call, Answer, refused, accepted, Outcome, stepMap, after}
 use Rattle.rules.specs.Book.{bookAfter, firstBook}
 
 -- ---- entities of a map
@@ -104,7 +104,7 @@ Told s o = elim (o .answer) [ refused r ↦ o .state ≡ s | accepted cs second 
 -- along the whole list
 unfoldable pub AllTold : Tolerance → Room → List Call → State → Type 0
 AllTold tol room [] s = s ≡ s
-AllTold tol room (c ∷ cs) s = Told s (step tol room c s) × AllTold tol room cs (step tol room c s .state)
+AllTold tol room (c ∷ cs) s = Told s (stepMap tol room c s) × AllTold tol room cs (stepMap tol room c s .state)
 
 -- "the map is what document 01 makes of it call by call, sound, links and neighbours reciprocal; its links are exactly the link book's"
 pub record Demand3 (tol : Tolerance) (room : Room) (s : State) (calls : List Call) : Type 0 where

@@ -10,7 +10,7 @@ use Rattle.rules.specs.Demand.{Demand3}
 use Rattle.tables.specs.View.{Tables, view}
 use Rattle.tables.specs.Formed.{soundTables}
 use Rattle.store.specs.Store.{roomOf}
-use Rattle.edit.specs.Step.{Lent, Ended, callOf, stateOf, closing, step}
+use Rattle.step.specs.Step.{Lent, Ended, callOf, stateOf, closing, step}
 
 -- ---- one call of a list
 

@@ -7,7 +7,9 @@ use mathlib.Core.Option.{Option, none, some}
 use lib.Dec.{eqb}
 use lib.Ieee.{Float}
 use Rattle.lists.specs.Select.{has, find, ascending}
+use Rattle.lists.specs.declared.Found.{Found}
 use Rattle.lists.specs.declared.Found.the-variants.{At, Nothing}
+use Rattle.lists.proofs.Booleans.{and-fst, and-snd}
 use Rattle.lists.proofs.Select.{onFound}
 use Rattle.entities.specs.Records.{Lane, Map}
 use Rattle.rules.specs.Map.{lane, boundary, oriented-boundary, leads-to, comes-from, laneIds}
@@ -18,16 +20,21 @@ use Rattle.rules.proofs.Reciprocal.{links-agree}
 use Rattle.rules.proofs.Relations.{leads-found, comes-found}
 use Rattle.laws.proofs.Still.{ids-up}
 use Rattle.tables.specs.View.{Tables, word, idsAt, laneOf, boundaryOf, rows, view}
-use Rattle.tables.specs.Formed.{soundTables}
-use Rattle.map.specs.Returned.{laneAt}
-use Rattle.lookup.specs.Lookup.{placeOf, drawn}
-use Rattle.lookup.proofs.Laws.{find-at, find-none}
+use Rattle.tables.specs.Formed.{formed, soundTables}
+use Rattle.map.specs.Returned.{searchable, laneAt}
+use Rattle.lookup.specs.Lookup.{placeOf, sortedTable, drawn}
+use Rattle.lookup.proofs.Laws.{find-at, find-none, place-within, searchable-sorted}
 use Rattle.topology.specs.Topology.{linksAt}
-use Rattle.edit.proofs.Steps.{sound-map}
+use Rattle.facts.proofs.Stored.{lane-key}
+use Rattle.facts.proofs.Facts.{facts}
 
-lane-key : (c : List Float) (w : List ℕ) → laneOf c w .id ≡ word 0 w
-unfolding laneOf
-lane-key c w = refl
+pub sound-map : (counter : ℕ) (t : Tables) → soundTables counter t ≡ true → sound counter (view t) ≡ true
+unfolding soundTables
+sound-map counter t h = and-snd (formed t) (sound counter (view t)) h
+
+pub sound-formed : (counter : ℕ) (t : Tables) → soundTables counter t ≡ true → formed t ≡ true
+unfolding soundTables
+sound-formed counter t h = and-fst (formed t) (sound counter (view t)) h
 
 module _ (t : Tables) where
   pub lane-there : (a i : ℕ) → placeOf 52 (t .lanes) a ≡ At i → lane (view t) a ≡ some (laneOf (t .coordinates) (laneAt (t .lanes) i))
@@ -60,3 +67,22 @@ module _ (t : Tables) where
         → has b (linksAt (t .lanes) i 35) ≡ has a (linksAt (t .lanes) j 18)
     links-by-rows a b i j e f =
         sym (leads-by-row a b i e) ∙ (links-agree (view t) (sound-facts counter (view t) (sound-map counter t h) .links) a b ∙ comes-by-row a b j f)
+
+-- ---- look-ups
+
+-- a look-up that found its row, or none
+pub found : (t : List ℕ) (a i : ℕ) (r : Found) → r ≡ placeOf 52 t a → r ≡ At i → placeOf 52 t a ≡ At i
+found t a i r e f = sym e ∙ f
+
+pub missing : (t : List ℕ) (a : ℕ) (r : Found) → r ≡ placeOf 52 t a → r ≡ Nothing → placeOf 52 t a ≡ Nothing
+missing t a r e f = sym e ∙ f
+
+module _ (counter : ℕ) (t : Tables) (h : soundTables counter t ≡ true) where
+  pub lanes-search : searchable (t .lanes) ≡ true
+  lanes-search = facts counter t h .lanes
+
+  pub lanes-sorted : sortedTable 1024 52 (t .lanes) ≡ true
+  lanes-sorted = searchable-sorted (t .lanes) lanes-search
+
+  pub leads-may : (a i : ℕ) → placeOf 52 (t .lanes) a ≡ At i → (searchable (t .lanes) ≡ true) × (i < word 0 (t .lanes))
+  leads-may a i ea = (lanes-search, place-within 52 (t .lanes) a i ea)

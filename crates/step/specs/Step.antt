@@ -2,6 +2,7 @@
 use Prim.Native.Nat.{ℕ, _/_}
 use mathlib.Core.Bool.{Bool, true, false, cond}
 use mathlib.Core.List.{List}
+use mathlib.Core.Option.{Option}
 use lib.ListN.{length}
 use lib.Ieee.{Float}
 use Rattle.entities.specs.Records.{Map, ChangeSet}
@@ -12,9 +13,9 @@ use Rattle.tables.specs.View.{Tables, view}
 use Rattle.tables.specs.Formed.{soundTables}
 use Rattle.store.specs.Store.{store, roomOf}
 use Rattle.store.specs.Laid.{laid}
-use Rattle.report.specs.Report.{listed, warned, counts}
+use Rattle.report.specs.Report.{listed, warned, accepting}
 use Rattle.report.specs.declared.Answer.{Answer}
-use Rattle.report.specs.declared.Answer.the-variants.{Changed, Refused}
+use Rattle.report.specs.declared.Answer.the-variants.{Refused}
 
 -- ---- what is lent, and what a call leaves
 
@@ -50,39 +51,39 @@ stateOf l = record { map = view (l .tables); counter = l .counter }
 abbrev pub refusing : Lent → Refusal → Ended
 refusing l r = record { lent = l; answer = Refused r }
 
--- How a map is written back: "connect, disconnect, set_neighbor and remove leave every line where it is. split and merge lay all lines of the new map
--- out anew".
-abbrev pub stored : O.Command → Tables → Map → Tables
-stored (O.SplitLane i at neighbors) = laid
-stored (O.MergeLanes i j) = laid
-stored (O.ConnectLanes i j) = store
-stored (O.DisconnectLanes i j) = store
-stored (O.SetNeighbor i side n) = store
-stored (O.RemoveLane i) = store
+-- How a map is written back: connect, disconnect, set_neighbor and remove_lane leave every line where it is; split_lane and merge_lanes lay all lines
+-- of the new map out anew.
+abbrev pub writing : O.Command → Tables → Map → Tables
+writing (O.SplitLane i at neighbors) = laid
+writing (O.MergeLanes i j) = laid
+writing (O.ConnectLanes i j) = store
+writing (O.DisconnectLanes i j) = store
+writing (O.SetNeighbor i side n) = store
+writing (O.RemoveLane i) = store
 
-abbrev pub changing : O.Command → Lent → O.State → ChangeSet → Ended
-changing c l s cs =
+abbrev pub changing : O.Command → Lent → O.State → ChangeSet → Option ℕ → Ended
+changing c l s cs second =
     record {
       lent =
           record {
             counter = s .counter;
-            tables = stored c (l .tables) (s .map);
+            tables = writing c (l .tables) (s .map);
             created = listed (l .created) (cs .created);
             modified = listed (l .modified) (cs .modified);
             deleted = listed (l .deleted) (cs .deleted);
             warnings = warned (l .warnings) (cs .warnings);
           };
-      answer = Changed (counts cs);
+      answer = accepting cs second;
     }
 
 abbrev pub closing : O.Command → Lent → O.State → O.Answer → Ended
 closing c l s (O.refused r) = refusing l r
-closing c l s (O.accepted cs second) = changing c l s cs
+closing c l s (O.accepted cs second) = changing c l s cs second
 
 -- "9 comes first".
 unfoldable pub step : Tolerance → O.Command → Lent → Ended
 step tol c l =
-    let o = O.step tol (roomOf (l .tables)) (callOf c l) (stateOf l) in
+    let o = O.stepMap tol (roomOf (l .tables)) (callOf c l) (stateOf l) in
     cond (soundTables (l .counter) (l .tables)) (closing c l (o .state) (o .answer)) (refusing l Unsound)
 
 -- ---- slices as what is lent
