@@ -12,6 +12,8 @@ use Rattle.lists.specs.Select.{any, find, has, place, ascending}
 use Rattle.lists.specs.declared.Found.the-variants.{At, Nothing}
 use Rattle.lists.proofs.Booleans.{and-fst, and-snd, same-test}
 use Rattle.lists.proofs.Select.{has-place, ascending-place}
+use Rattle.entities.specs.declared.OptionNeighbor.{OptionNeighbor}
+use Rattle.entities.specs.declared.OptionNeighbor.the-variants.{None, Some}
 use Rattle.entities.specs.Types.{laneEntity, reciprocal-side}
 use Rattle.entities.specs.Records.{Lane, Map, Issue}
 use Rattle.rules.specs.Names.{Tolerance, Side, Left, Right, Neighbor, NeighborDirection, BoundaryUnshared, LaneAbsent, OwnPartner, LaneKind}
@@ -31,11 +33,12 @@ use Rattle.lookup.specs.Lookup.{placeOf, sideWord}
 use Rattle.lookup.proofs.Laws.{place-id, side-ref}
 use Rattle.topology.specs.Topology.{lanesChanged, idAt, slotHeld, beside}
 use Rattle.facts.proofs.Stored.{withLaneTable}
-use Rattle.edit.specs.Step.{Lent, step, stateOf, refusing}
+use Rattle.facts.proofs.Found.{sound-map, lane-there, lane-missing, lanes-up}
+use Rattle.step.specs.Step.{Lent, step, stateOf, refusing}
+use Rattle.step.proofs.Steps.{step-refused}
 use Rattle.relink.specs.Parts.{relinking, placeSlot, slotIds, unshared, reslotting, freeing, setting}
-use Rattle.edit.proofs.Steps.{sound-map, step-refused, step-relinking, spread}
+use Rattle.edit.proofs.Steps.{step-relinking, spread}
 use Rattle.edit.proofs.Named.{lanes-named}
-use Rattle.edit.proofs.Found.{lane-there, lane-missing, lanes-up}
 use Rattle.edit.proofs.Connects.{found-id}
 
 -- ---- the lanes whose slots are set or freed
@@ -136,19 +139,19 @@ module _ (tol : Tolerance) (l : Lent) (h : soundTables (l .counter) (l .tables) 
   abbrev t : Tables
   t = l .tables
 
-  pub set-absent : (new : Option Neighbor) → placeOf 52 (t .lanes) a ≡ Nothing → refusing l (LaneAbsent a) ≡ step tol (O.SetNeighbor a side new) l
+  pub set-absent : (new : OptionNeighbor) → placeOf 52 (t .lanes) a ≡ Nothing → refusing l (LaneAbsent a) ≡ step tol (O.SetNeighbor a side new) l
   set-absent new e = step-refused tol (O.SetNeighbor a side new) l h (LaneAbsent a) (unfold O.edit E.set-neighbor in rw (lane-missing t a e))
 
   module _ (i : ℕ) (ea : placeOf 52 (t .lanes) a ≡ At i) where
     abbrev from : Lane
     from = laneOf (t .coordinates) (laneAt (t .lanes) i)
 
-    pub set-other-absent : (n : Neighbor) → placeOf 52 (t .lanes) (n .lane) ≡ Nothing → refusing l (LaneAbsent (n .lane)) ≡ step tol (O.SetNeighbor a side (some n)) l
-    set-other-absent n e = step-refused tol (O.SetNeighbor a side (some n)) l h (LaneAbsent (n .lane)) (unfold O.edit E.set-neighbor in rw (lane-there t a i ea, lane-missing t (n .lane) e))
+    pub set-other-absent : (n : Neighbor) → placeOf 52 (t .lanes) (n .lane) ≡ Nothing → refusing l (LaneAbsent (n .lane)) ≡ step tol (O.SetNeighbor a side (Some n)) l
+    set-other-absent n e = step-refused tol (O.SetNeighbor a side (Some n)) l h (LaneAbsent (n .lane)) (unfold O.edit E.set-neighbor in rw (lane-there t a i ea, lane-missing t (n .lane) e))
 
-    pub set-itself : (n : Neighbor) (j : ℕ) → placeOf 52 (t .lanes) (n .lane) ≡ At j → n .lane ≡ a → refusing l (OwnPartner a) ≡ step tol (O.SetNeighbor a side (some n)) l
+    pub set-itself : (n : Neighbor) (j : ℕ) → placeOf 52 (t .lanes) (n .lane) ≡ At j → n .lane ≡ a → refusing l (OwnPartner a) ≡ step tol (O.SetNeighbor a side (Some n)) l
     set-itself n j e f =
-        step-refused tol (O.SetNeighbor a side (some n)) l h (OwnPartner a) (unfold O.edit E.set-neighbor in rw (lane-there t a i ea, lane-there t (n .lane) j e, eq-eqb (n .lane) a f))
+        step-refused tol (O.SetNeighbor a side (Some n)) l h (OwnPartner a) (unfold O.edit E.set-neighbor in rw (lane-there t a i ea, lane-there t (n .lane) j e, eq-eqb (n .lane) a f))
 
     abbrev old : Option Neighbor
     old = slotHeld (t .lanes) i side
@@ -180,13 +183,13 @@ module _ (tol : Tolerance) (l : Lent) (h : soundTables (l .counter) (l .tables) 
           in-map true x g = absurd (true≢false (sym (unfold has in g)))
           in-map false x g = there x g
 
-      set-done : O.edit tol (O.SetNeighbor a side new) (stateOf l) ≡ E.yield (E.relinking edited (E.lanesWhere chosen (view t .lanes)) (E.when (E.sameSlot old new) (E.no-op a) ++ is))
+      set-done : (value : OptionNeighbor) → O.edit tol (O.SetNeighbor a side value) (stateOf l) ≡ E.yield (E.relinking edited (E.lanesWhere chosen (view t .lanes)) (E.when (E.sameSlot old new) (E.no-op a) ++ is))
           → ((x : ℕ) → has x (slotIds a old new other) ≡ true → has x (laneIds (view t)) ≡ true)
           → fitsRoom (roomOf t) edited ≡ true
           → (true ≡ true → store t edited ≡ withLaneTable (cond (E.sameSlot old new) (t .lanes) (lanesChanged (E.reslotted (E.slotAfter a side new old other)) (t .lanes))) t)
-          → step tol (O.SetNeighbor a side new) l ≡ spread l (reslotting (t .lanes) i side new other is (l .modified) (l .warnings))
-      set-done yields there room st =
-          step-relinking tol (O.SetNeighbor a side new) l h edited (E.lanesWhere chosen (view t .lanes)) (E.when (E.sameSlot old new) (E.no-op a) ++ is) yields k
+          → step tol (O.SetNeighbor a side value) l ≡ spread l (reslotting (t .lanes) i side new other is (l .modified) (l .warnings))
+      set-done value yields there room st =
+          step-relinking tol (O.SetNeighbor a side value) l h edited (E.lanesWhere chosen (view t .lanes)) (E.when (E.sameSlot old new) (E.no-op a) ++ is) yields k
           (cond (E.sameSlot old new) [] (slotIds a old new other)) (cond (E.sameSlot old new) (t .lanes) (lanesChanged (E.reslotted (E.slotAfter a side new old other)) (t .lanes))) true
           (named there (E.sameSlot old new)) room st
           ∙ rw (place-id 52 (t .lanes) a i ea)
@@ -212,15 +215,15 @@ module _ (tol : Tolerance) (l : Lent) (h : soundTables (l .counter) (l .tables) 
 
     -- ---- a slot freed
 
-    free-yields : O.edit tol (O.SetNeighbor a side none) (stateOf l)
+    free-yields : O.edit tol (O.SetNeighbor a side None) (stateOf l)
         ≡ E.yield (E.relinking (edited none none []) (E.lanesWhere (chosen none none []) (view t .lanes)) (E.when (E.sameSlot old none) (E.no-op a) ++ []))
     unfolding O.edit E.set-neighbor
     free-yields = rw (lane-there t a i ea, held-any (t .coordinates) (t .lanes) i side)
 
     pub free-done : fitsRoom (roomOf t) (edited none none []) ≡ true
         → (true ≡ true → store t (edited none none []) ≡ withLaneTable (cond (E.sameSlot old none) (t .lanes) (lanesChanged (E.reslotted (E.slotAfter a side none old none)) (t .lanes))) t)
-        → step tol (O.SetNeighbor a side none) l ≡ spread l (freeing (t .lanes) i side (l .modified) (l .warnings))
-    free-done room st = set-done none none [] free-yields (all-there none none nobody nobody) room st
+        → step tol (O.SetNeighbor a side None) l ≡ spread l (freeing (t .lanes) i side (l .modified) (l .warnings))
+    free-done room st = set-done none none [] None free-yields (all-there none none nobody nobody) room st
       where
         nobody : (x : ℕ) → false ≡ true → has x (laneIds (view t)) ≡ true
         nobody x e = absurd (true≢false (sym e))
@@ -253,16 +256,16 @@ module _ (tol : Tolerance) (l : Lent) (h : soundTables (l .counter) (l .tables) 
       slot-in : E.slotIn (view t) side (some n) ≡ other
       slot-in = slot-by (view t) side n to (lane-there t (n .lane) j en) ∙ held-any (t .coordinates) (t .lanes) j answer
 
-      set-yields : O.edit tol (O.SetNeighbor a side (some n)) (stateOf l)
+      set-yields : O.edit tol (O.SetNeighbor a side (Some n)) (stateOf l)
           ≡ E.yield (E.relinking (edited (some n) other warned) (E.lanesWhere (chosen (some n) other warned) (view t .lanes)) (E.when (E.sameSlot old (some n)) (E.no-op a) ++ warned))
       unfolding O.edit E.set-neighbor
       set-yields = rw (lane-there t a i ea, lane-there t (n .lane) j en, ne, slot-in, told, held-any (t .coordinates) (t .lanes) i side)
 
       pub set-slot-done : fitsRoom (roomOf t) (edited (some n) other warned) ≡ true
           → (true ≡ true → store t (edited (some n) other warned) ≡ withLaneTable (cond (E.sameSlot old (some n)) (t .lanes) (lanesChanged (E.reslotted (E.slotAfter a side (some n) old other)) (t .lanes))) t)
-          → step tol (O.SetNeighbor a side (some n)) l ≡ spread l (setting (t .lanes) i side j (n .direction) (l .modified) (l .warnings))
+          → step tol (O.SetNeighbor a side (Some n)) l ≡ spread l (setting (t .lanes) i side j (n .direction) (l .modified) (l .warnings))
       set-slot-done room st =
-          set-done (some n) other warned set-yields (all-there (some n) other new-there other-there) room st
+          set-done (some n) other warned (Some n) set-yields (all-there (some n) other new-there other-there) room st
           ∙ ap (λ z. spread l (reslotting (t .lanes) i side (some (record { lane = z; direction = n .direction })) other warned (l .modified) (l .warnings))) (sym (place-id 52 (t .lanes) (n .lane) j en))
         where
           new-there : (x : ℕ) → names (some n) x ≡ true → has x (laneIds (view t)) ≡ true

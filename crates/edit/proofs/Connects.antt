@@ -28,11 +28,12 @@ use Rattle.lookup.specs.Lookup.{placeOf, drawn}
 use Rattle.lookup.proofs.Laws.{place-id}
 use Rattle.topology.specs.Topology.{lanesChanged, idAt, linksAt}
 use Rattle.facts.proofs.Stored.{withLaneTable}
-use Rattle.edit.specs.Step.{Lent, Ended, step, stateOf, refusing}
+use Rattle.step.specs.Step.{Lent, Ended, step, stateOf, refusing}
 use Rattle.relink.specs.Parts.{relinking, pairOf, linkRoom, linking, unlinking}
-use Rattle.edit.proofs.Steps.{sound-map, step-refused, step-relinking, spread}
+use Rattle.step.proofs.Steps.{step-refused}
+use Rattle.edit.proofs.Steps.{step-relinking, spread}
 use Rattle.edit.proofs.Named.{lanes-named}
-use Rattle.edit.proofs.Found.{lane-there, lane-missing, gapped-drawn, lanes-up, leads-by-row}
+use Rattle.facts.proofs.Found.{sound-map, lane-there, lane-missing, gapped-drawn, lanes-up, leads-by-row}
 
 -- ---- two lanes in id order
 

@@ -1,6 +1,5 @@
 pub mod Steps
 pub mod Named
-pub mod Found
 pub mod Connects
 pub mod Fitting
 pub mod Beside

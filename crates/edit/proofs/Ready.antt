@@ -11,6 +11,7 @@ use lib.Ieee.{Float}
 use Rattle.lists.specs.Every.{all}
 use Rattle.lists.specs.Select.{has, place, without}
 use Rattle.lists.specs.declared.Found.the-variants.{At}
+use Rattle.entities.specs.declared.OptionNeighbor.the-variants.{None, Some}
 use Rattle.entities.specs.Records.{Lane, Map, Issue}
 use Rattle.rules.specs.Names.{Tolerance, Side, Left, Right, Neighbor}
 use Rattle.rules.specs.Sound.{fitsRoom, lastCounter}
@@ -30,10 +31,10 @@ use Rattle.entities.specs.Types.{reciprocal-side}
 use Rattle.facts.proofs.Stored.{withLaneTable, store-relinked, onto-any}
 use Rattle.facts.proofs.Room.{room-relinked}
 use Rattle.facts.proofs.Facts.{Facts, facts}
-use Rattle.edit.specs.Step.{Lent, step}
+use Rattle.step.specs.Step.{Lent, step}
 use Rattle.relink.specs.Parts.{Linkable, linkRoom, linking, unlinking, freeing, setting}
-use Rattle.edit.proofs.Steps.{sound-formed, spread}
-use Rattle.edit.proofs.Found.{links-by-rows}
+use Rattle.edit.proofs.Steps.{spread}
+use Rattle.facts.proofs.Found.{sound-formed, links-by-rows}
 use Rattle.edit.proofs.Fitting.{within, connect-room, disconnect-room, own-room}
 use Rattle.edit.proofs.Beside.{free-done, set-slot-done}
 use Rattle.edit.proofs.Connects.{connect-done, disconnect-done}
@@ -163,13 +164,13 @@ module _ (tol : Tolerance) (l : Lent) (h : soundTables (l .counter) (l .tables) 
       slots-stored (l .counter) (l .tables) h (λ x s was. cond (E.sameSlot (slotHeld table i side) new) was (slotsOf new other x s was))
       ∙ ap (λ z. withLaneTable z (l .tables)) (slots-unless (l .counter) (l .tables) h (slotsOf new other) (E.sameSlot (slotHeld table i side) new))
 
-  pub free-ends : step tol (O.SetNeighbor a side none) l ≡ spread l (freeing table i side (l .modified) (l .warnings))
+  pub free-ends : step tol (O.SetNeighbor a side None) l ≡ spread l (freeing table i side (l .modified) (l .warnings))
   free-ends =
       free-done tol l h k a side i ea (slots-room (l .counter) (l .tables) h (λ x s was. cond (E.sameSlot (slotHeld table i side) none) was (slotsOf none none x s was)))
       (λ r. reslot-stored none none)
 
   pub set-ends : (n : Neighbor) (j : ℕ) → placeOf 52 table (n .lane) ≡ At j → eqb (n .lane) a ≡ false
-      → step tol (O.SetNeighbor a side (some n)) l ≡ spread l (setting table i side j (n .direction) (l .modified) (l .warnings))
+      → step tol (O.SetNeighbor a side (Some n)) l ≡ spread l (setting table i side j (n .direction) (l .modified) (l .warnings))
   set-ends n j en ne =
       let other = slotHeld table j (reciprocal-side side (n .direction)) in
       set-slot-done tol l h k a side i ea n j en ne

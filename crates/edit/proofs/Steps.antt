@@ -21,17 +21,11 @@ use Rattle.tables.specs.Formed.{formed, soundTables}
 use Rattle.store.specs.Store.{roomOf}
 use Rattle.facts.proofs.Stored.{withLaneTable}
 use Rattle.report.specs.Report.{listed, warned, counts, fits}
+use Rattle.report.proofs.Laws.{listed-nil}
 use Rattle.report.specs.declared.Answer.the-variants.{Changed, Refused}
-use Rattle.edit.specs.Step.{Lent, Ended, ended, step, stateOf, listsOf, refusing, stored, changing, closing}
+use Rattle.step.specs.Step.{Lent, Ended, ended, step, stateOf, listsOf, refusing, writing, changing}
+use Rattle.step.proofs.Steps.{step-decided}
 use Rattle.relink.specs.Parts.{Relinked, relinked, relinking}
-
-pub sound-map : (counter : ℕ) (t : Tables) → soundTables counter t ≡ true → sound counter (view t) ≡ true
-unfolding soundTables
-sound-map counter t h = and-snd (formed t) (sound counter (view t)) h
-
-pub sound-formed : (counter : ℕ) (t : Tables) → soundTables counter t ≡ true → formed t ≡ true
-unfolding soundTables
-sound-formed counter t h = and-fst (formed t) (sound counter (view t)) h
 
 -- what is lent, with what an edit of links and neighbours has written
 abbrev pub spread : Lent → Relinked → Ended
@@ -49,71 +43,50 @@ spread l r =
       answer = r .answer;
     }
 
-pub listed-nil : (w : List ℕ) → listed w [] ≡ w
-unfolding listed each
-listed-nil w = over-nil w 0
-
 joined : (k : ℕ) (ws : List ℕ) (n : ℕ) {t u : Tables} {c d m o e f : List ℕ} {i j : ℕ} → t ≡ u → c ≡ d → m ≡ o → e ≡ f → i ≡ j
     → _≡_ {A = Ended} (ended (record { counter = k; tables = t; created = c; modified = m; deleted = e; warnings = ws }) (Changed (record { created = 0; modified = i; deleted = 0; warnings = n })))
     (ended (record { counter = k; tables = u; created = d; modified = o; deleted = f; warnings = ws }) (Changed (record { created = 0; modified = j; deleted = 0; warnings = n })))
 joined k ws n p q r s v = rw (p, q, r, s, v)
 
-module _ (tol : Tolerance) (c : O.Command) (l : Lent) where
-  pub step-unsound : soundTables (l .counter) (l .tables) ≡ false → refusing l Unsound ≡ step tol c l
-  unfolding step
-  step-unsound h = rw h
+-- an edit of links and neighbours
+module _ (tol : Tolerance) (c : O.Command) (l : Lent) (h : soundTables (l .counter) (l .tables) ≡ true) (m : Map) (modified : List EntityRef) (ws : List Issue)
+    (e : O.edit tol c (stateOf l) ≡ E.yield (E.relinking m modified ws)) (k : l .counter ≤ lastCounter) where
+  abbrev cs : ChangeSet
+  cs = record { created = []; modified = modified; deleted = []; warnings = ws }
 
-  module _ (h : soundTables (l .counter) (l .tables) ≡ true) where
-    pub step-refused : (r : Refusal) → O.edit tol c (stateOf l) ≡ E.refuse r → refusing l r ≡ step tol c l
-    unfolding step O.stepMap
-    step-refused r e = rw (h, sound-map (l .counter) (l .tables) h, e)
+  abbrev room : Bool
+  room = fitsRoom (roomOf (l .tables)) m && O.fitsLists (listsOf l) cs
 
-    -- an edit of links and neighbours
-    module _ (m : Map) (modified : List EntityRef) (ws : List Issue) (e : O.edit tol c (stateOf l) ≡ E.yield (E.relinking m modified ws)) (k : l .counter ≤ lastCounter) where
-      abbrev cs : ChangeSet
-      cs = record { created = []; modified = modified; deleted = []; warnings = ws }
+  decided : step tol c l ≡ cond room (changing c l (record { map = m; counter = l .counter }) cs none) (refusing l NoRoom)
+  decided = step-decided tol c l h (E.relinking m modified ws) e (le-leb (l .counter) lastCounter k)
 
-      abbrev room : Bool
-      room = fitsRoom (roomOf (l .tables)) m && O.fitsLists (listsOf l) cs
+  -- the lists of lanes and warnings alone take places
+  places : (n : ℕ) → length modified ≡ n → O.fitsLists (listsOf l) cs ≡ fits n (length ws) (l .modified) (l .warnings)
+  places n q =
+      rw (q, le-leb 0 (length (l .created) / 2) (omega arith), le-leb 0 (length (l .deleted) / 2) (omega arith)) (three (leb n (length (l .modified) / 2)))
+    where
+      three : (b : Bool) → (true && b && true && leb (length ws) (length (l .warnings) / 10)) ≡ (b && leb (length ws) (length (l .warnings) / 10))
+      three true = refl
+      three false = refl
 
-      decided : step tol c l ≡ cond room (changing c l (record { map = m; counter = l .counter }) cs) (refusing l NoRoom)
-      unfolding step O.stepMap
-      decided = rw (h, sound-map (l .counter) (l .tables) h, e, le-leb (l .counter) lastCounter k) (either room)
+  -- what is written back, by the lane table as it becomes
+  pub step-relinking : (ids : List ℕ) (after : List ℕ) (fit : Bool) → modified ≡ E.refs LaneKind ids → fitsRoom (roomOf (l .tables)) m ≡ fit
+      → (fit ≡ true → writing c (l .tables) m ≡ withLaneTable after (l .tables))
+      → step tol c l ≡ spread l (relinking fit after ids ws (l .tables .lanes) (l .modified) (l .warnings))
+  unfolding relinking
+  step-relinking ids after fit q f st =
+      let n : length modified ≡ length ids = ap length q ∙ length-map ids (λ i. record { kind = LaneKind; id = i }) in
+      decided ∙ (rw (f, places (length ids) n) (sides n))
+    where
+      sides : length modified ≡ length ids → cond (fit && fits (length ids) (length ws) (l .modified) (l .warnings)) (changing c l (record { map = m; counter = l .counter }) cs none) (refusing l NoRoom)
+          ≡ spread l (cond (fit && fits (length ids) (length ws) (l .modified) (l .warnings)) (relinked after (listed (l .modified) (E.refs LaneKind ids)) (warned (l .warnings) ws) (Changed (record { created = 0; modified = length ids; deleted = 0; warnings = length ws }))) (relinked (l .tables .lanes) (l .modified) (l .warnings) (Refused NoRoom)))
+      sides n = by fit refl (fits (length ids) (length ws) (l .modified) (l .warnings))
         where
-          o : Bool → O.Outcome
-          o b = cond b (O.acceptedAs (stateOf l) (E.relinking m modified ws)) (O.refusedAs (stateOf l) NoRoom)
+          abbreviated : Bool → Relinked
+          abbreviated b = cond b (relinked after (listed (l .modified) (E.refs LaneKind ids)) (warned (l .warnings) ws) (Changed (record { created = 0; modified = length ids; deleted = 0; warnings = length ws }))) (relinked (l .tables .lanes) (l .modified) (l .warnings) (Refused NoRoom))
 
-          either : (b : Bool) → closing c l (o b .state) (o b .answer) ≡ cond b (changing c l (record { map = m; counter = l .counter }) cs) (refusing l NoRoom)
-          either true = refl
-          either false = refl
-
-      -- the lists of lanes and warnings alone take places
-      places : (n : ℕ) → length modified ≡ n → O.fitsLists (listsOf l) cs ≡ fits n (length ws) (l .modified) (l .warnings)
-      places n q =
-          rw (q, le-leb 0 (length (l .created) / 2) (omega arith), le-leb 0 (length (l .deleted) / 2) (omega arith)) (three (leb n (length (l .modified) / 2)))
-        where
-          three : (b : Bool) → (true && b && true && leb (length ws) (length (l .warnings) / 10)) ≡ (b && leb (length ws) (length (l .warnings) / 10))
-          three true = refl
-          three false = refl
-
-      -- what is written back, by the lane table as it becomes
-      pub step-relinking : (ids : List ℕ) (after : List ℕ) (fit : Bool) → modified ≡ E.refs LaneKind ids → fitsRoom (roomOf (l .tables)) m ≡ fit
-          → (fit ≡ true → stored c (l .tables) m ≡ withLaneTable after (l .tables))
-          → step tol c l ≡ spread l (relinking fit after ids ws (l .tables .lanes) (l .modified) (l .warnings))
-      unfolding relinking
-      step-relinking ids after fit q f st =
-          let n : length modified ≡ length ids = ap length q ∙ length-map ids (λ i. record { kind = LaneKind; id = i }) in
-          decided ∙ (rw (f, places (length ids) n) (sides n))
-        where
-          sides : length modified ≡ length ids → cond (fit && fits (length ids) (length ws) (l .modified) (l .warnings)) (changing c l (record { map = m; counter = l .counter }) cs) (refusing l NoRoom)
-              ≡ spread l (cond (fit && fits (length ids) (length ws) (l .modified) (l .warnings)) (relinked after (listed (l .modified) (E.refs LaneKind ids)) (warned (l .warnings) ws) (Changed (record { created = 0; modified = length ids; deleted = 0; warnings = length ws }))) (relinked (l .tables .lanes) (l .modified) (l .warnings) (Refused NoRoom)))
-          sides n = by fit refl (fits (length ids) (length ws) (l .modified) (l .warnings))
-            where
-              abbreviated : Bool → Relinked
-              abbreviated b = cond b (relinked after (listed (l .modified) (E.refs LaneKind ids)) (warned (l .warnings) ws) (Changed (record { created = 0; modified = length ids; deleted = 0; warnings = length ws }))) (relinked (l .tables .lanes) (l .modified) (l .warnings) (Refused NoRoom))
-
-              by : (x : Bool) → fit ≡ x → (b : Bool) → cond (x && b) (changing c l (record { map = m; counter = l .counter }) cs) (refusing l NoRoom) ≡ spread l (abbreviated (x && b))
-              by false x b = refl
-              by true x false = refl
-              by true x true =
-                  joined (l .counter) (warned (l .warnings) ws) (length ws) (st x) (listed-nil (l .created)) (ap (listed (l .modified)) q) (listed-nil (l .deleted)) n
+          by : (x : Bool) → fit ≡ x → (b : Bool) → cond (x && b) (changing c l (record { map = m; counter = l .counter }) cs none) (refusing l NoRoom) ≡ spread l (abbreviated (x && b))
+          by false x b = refl
+          by true x false = refl
+          by true x true =
+              joined (l .counter) (warned (l .warnings) ws) (length ws) (st x) (listed-nil (l .created)) (ap (listed (l .modified)) q) (listed-nil (l .deleted)) n

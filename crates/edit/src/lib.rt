@@ -1,12 +1,10 @@
-// edit/mod.rs: connect, disconnect, set_neighbor on lent memory. A call first tests whether the map is sound; then it looks the lanes up, decides,
-// tests the room, and only then writes.
+// edit/mod.rs: connect, disconnect, set_neighbor on lent memory that holds a sound map (`ops::apply` tests that first). Each looks the lanes up, decides,
+// tests the room, and only then writes. None allocates an id, so the counter stays.
 ghost use mathlib.Core.Path.{_≡_};
 ghost use mathlib.Core.Bool.{true};
-ghost use Rattle.entities.specs.Types.{preset};
 ghost use Rattle.rules.specs.Ops as O;
 ghost use Rattle.tables.specs.Formed.{soundTables};
-ghost use Rattle.relink.specs.Parts.{asOption};
-ghost use Rattle.edit.specs.Step as S;
+ghost use Rattle.step.specs.Step as S;
 use entities::OptionNeighbor;
 use entities::Refusal;
 use entities::Side;
@@ -14,9 +12,10 @@ use entities::Tolerance;
 use lists::Found;
 use report::Answer;
 
-// connect on a sound map.
-fn connect_sound(
+// Map::connect: a link from one lane to another.
+pub fn connect(
     counter: u64,
+    tolerance: Tolerance,
     lanes: &mut [u64],
     boundaries: &[u64],
     roads: &[u64],
@@ -33,7 +32,7 @@ fn connect_sound(
     warnings: &mut [u64],
 ) -> Answer
     requires { ⌜ soundTables counter (S.tablesOf (now lanes) (now boundaries) (now roads) (now junctions) (now rules) (now «stop_lines») (now crosswalks) (now coordinates)) ≡ true ⌝ }
-    ensures { λ r. ⌜ S.ended (S.lentOf counter (now (lanes .exit)) (now (boundaries .entry)) (now (roads .entry)) (now (junctions .entry)) (now (rules .entry)) (now («stop_lines» .entry)) (now (crosswalks .entry)) (now (coordinates .entry)) (now (created .entry)) (now (modified .exit)) (now (deleted .entry)) (now (warnings .exit))) r ≡ S.step preset (O.ConnectLanes from to) (S.lentOf counter (now (lanes .entry)) (now (boundaries .entry)) (now (roads .entry)) (now (junctions .entry)) (now (rules .entry)) (now («stop_lines» .entry)) (now (crosswalks .entry)) (now (coordinates .entry)) (now (created .entry)) (now (modified .entry)) (now (deleted .entry)) (now (warnings .entry))) ⌝ }
+    ensures { λ r. ⌜ S.ended (S.lentOf counter (now (lanes .exit)) (now (boundaries .entry)) (now (roads .entry)) (now (junctions .entry)) (now (rules .entry)) (now («stop_lines» .entry)) (now (crosswalks .entry)) (now (coordinates .entry)) (now (created .entry)) (now (modified .exit)) (now (deleted .entry)) (now (warnings .exit))) r ≡ S.step tolerance (O.ConnectLanes from to) (S.lentOf counter (now (lanes .entry)) (now (boundaries .entry)) (now (roads .entry)) (now (junctions .entry)) (now (rules .entry)) (now («stop_lines» .entry)) (now (crosswalks .entry)) (now (coordinates .entry)) (now (created .entry)) (now (modified .entry)) (now (deleted .entry)) (now (warnings .entry))) ⌝ }
 {
     let found = lookup::lane(lanes, from);
     let Found::At(i) = found else {
@@ -46,73 +45,15 @@ fn connect_sound(
     if from == to {
         return Answer::Refused(Refusal::OwnPartner(from));
     }
-    let gap = relink::links::gapped(
-        lanes,
-        i,
-        j,
-        boundaries,
-        coordinates,
-        Tolerance::GAP_TOLERANCE,
-    );
+    let gap = relink::links::gapped(lanes, i, j, boundaries, coordinates, tolerance.gap);
     let linked = relink::links::leads(lanes, i, to);
     relink::links::link(lanes, i, j, linked, gap, modified, warnings)
 }
 
-// Map::connect: a link from one lane to another.
-pub fn connect(
+// Map::disconnect: a link from one lane to another taken out.
+pub fn disconnect(
     counter: u64,
-    lanes: &mut [u64],
-    boundaries: &[u64],
-    roads: &[u64],
-    junctions: &[u64],
-    rules: &[u64],
-    stop_lines: &[u64],
-    crosswalks: &[u64],
-    coordinates: &[f64],
-    from: u64,
-    to: u64,
-    created: &[u64],
-    modified: &mut [u64],
-    deleted: &[u64],
-    warnings: &mut [u64],
-) -> Answer
-    ensures { λ r. ⌜ S.ended (S.lentOf counter (now (lanes .exit)) (now (boundaries .entry)) (now (roads .entry)) (now (junctions .entry)) (now (rules .entry)) (now («stop_lines» .entry)) (now (crosswalks .entry)) (now (coordinates .entry)) (now (created .entry)) (now (modified .exit)) (now (deleted .entry)) (now (warnings .exit))) r ≡ S.step preset (O.ConnectLanes from to) (S.lentOf counter (now (lanes .entry)) (now (boundaries .entry)) (now (roads .entry)) (now (junctions .entry)) (now (rules .entry)) (now («stop_lines» .entry)) (now (crosswalks .entry)) (now (coordinates .entry)) (now (created .entry)) (now (modified .entry)) (now (deleted .entry)) (now (warnings .entry))) ⌝ }
-{
-    if soundness::sound(
-        counter,
-        lanes,
-        boundaries,
-        roads,
-        junctions,
-        rules,
-        stop_lines,
-        crosswalks,
-        coordinates,
-    ) {
-        return connect_sound(
-            counter,
-            lanes,
-            boundaries,
-            roads,
-            junctions,
-            rules,
-            stop_lines,
-            crosswalks,
-            coordinates,
-            from,
-            to,
-            created,
-            modified,
-            deleted,
-            warnings,
-        );
-    }
-    Answer::Refused(Refusal::Unsound)
-}
-
-// disconnect on a sound map.
-fn disconnect_sound(
-    counter: u64,
+    tolerance: Tolerance,
     lanes: &mut [u64],
     boundaries: &[u64],
     roads: &[u64],
@@ -129,7 +70,7 @@ fn disconnect_sound(
     warnings: &mut [u64],
 ) -> Answer
     requires { ⌜ soundTables counter (S.tablesOf (now lanes) (now boundaries) (now roads) (now junctions) (now rules) (now «stop_lines») (now crosswalks) (now coordinates)) ≡ true ⌝ }
-    ensures { λ r. ⌜ S.ended (S.lentOf counter (now (lanes .exit)) (now (boundaries .entry)) (now (roads .entry)) (now (junctions .entry)) (now (rules .entry)) (now («stop_lines» .entry)) (now (crosswalks .entry)) (now (coordinates .entry)) (now (created .entry)) (now (modified .exit)) (now (deleted .entry)) (now (warnings .exit))) r ≡ S.step preset (O.DisconnectLanes from to) (S.lentOf counter (now (lanes .entry)) (now (boundaries .entry)) (now (roads .entry)) (now (junctions .entry)) (now (rules .entry)) (now («stop_lines» .entry)) (now (crosswalks .entry)) (now (coordinates .entry)) (now (created .entry)) (now (modified .entry)) (now (deleted .entry)) (now (warnings .entry))) ⌝ }
+    ensures { λ r. ⌜ S.ended (S.lentOf counter (now (lanes .exit)) (now (boundaries .entry)) (now (roads .entry)) (now (junctions .entry)) (now (rules .entry)) (now («stop_lines» .entry)) (now (crosswalks .entry)) (now (coordinates .entry)) (now (created .entry)) (now (modified .exit)) (now (deleted .entry)) (now (warnings .exit))) r ≡ S.step tolerance (O.DisconnectLanes from to) (S.lentOf counter (now (lanes .entry)) (now (boundaries .entry)) (now (roads .entry)) (now (junctions .entry)) (now (rules .entry)) (now («stop_lines» .entry)) (now (crosswalks .entry)) (now (coordinates .entry)) (now (created .entry)) (now (modified .entry)) (now (deleted .entry)) (now (warnings .entry))) ⌝ }
 {
     let found = lookup::lane(lanes, from);
     let Found::At(i) = found else {
@@ -143,61 +84,10 @@ fn disconnect_sound(
     relink::links::unlink(lanes, i, j, linked, modified, warnings)
 }
 
-// Map::disconnect: a link from one lane to another taken out.
-pub fn disconnect(
+// Map::set_neighbor: the neighbour of a lane on a side, or none.
+pub fn set_neighbor(
     counter: u64,
-    lanes: &mut [u64],
-    boundaries: &[u64],
-    roads: &[u64],
-    junctions: &[u64],
-    rules: &[u64],
-    stop_lines: &[u64],
-    crosswalks: &[u64],
-    coordinates: &[f64],
-    from: u64,
-    to: u64,
-    created: &[u64],
-    modified: &mut [u64],
-    deleted: &[u64],
-    warnings: &mut [u64],
-) -> Answer
-    ensures { λ r. ⌜ S.ended (S.lentOf counter (now (lanes .exit)) (now (boundaries .entry)) (now (roads .entry)) (now (junctions .entry)) (now (rules .entry)) (now («stop_lines» .entry)) (now (crosswalks .entry)) (now (coordinates .entry)) (now (created .entry)) (now (modified .exit)) (now (deleted .entry)) (now (warnings .exit))) r ≡ S.step preset (O.DisconnectLanes from to) (S.lentOf counter (now (lanes .entry)) (now (boundaries .entry)) (now (roads .entry)) (now (junctions .entry)) (now (rules .entry)) (now («stop_lines» .entry)) (now (crosswalks .entry)) (now (coordinates .entry)) (now (created .entry)) (now (modified .entry)) (now (deleted .entry)) (now (warnings .entry))) ⌝ }
-{
-    if soundness::sound(
-        counter,
-        lanes,
-        boundaries,
-        roads,
-        junctions,
-        rules,
-        stop_lines,
-        crosswalks,
-        coordinates,
-    ) {
-        return disconnect_sound(
-            counter,
-            lanes,
-            boundaries,
-            roads,
-            junctions,
-            rules,
-            stop_lines,
-            crosswalks,
-            coordinates,
-            from,
-            to,
-            created,
-            modified,
-            deleted,
-            warnings,
-        );
-    }
-    Answer::Refused(Refusal::Unsound)
-}
-
-// set_neighbor on a sound map.
-fn set_neighbor_sound(
-    counter: u64,
+    tolerance: Tolerance,
     lanes: &mut [u64],
     boundaries: &[u64],
     roads: &[u64],
@@ -215,7 +105,7 @@ fn set_neighbor_sound(
     warnings: &mut [u64],
 ) -> Answer
     requires { ⌜ soundTables counter (S.tablesOf (now lanes) (now boundaries) (now roads) (now junctions) (now rules) (now «stop_lines») (now crosswalks) (now coordinates)) ≡ true ⌝ }
-    ensures { λ r. ⌜ S.ended (S.lentOf counter (now (lanes .exit)) (now (boundaries .entry)) (now (roads .entry)) (now (junctions .entry)) (now (rules .entry)) (now («stop_lines» .entry)) (now (crosswalks .entry)) (now (coordinates .entry)) (now (created .entry)) (now (modified .exit)) (now (deleted .entry)) (now (warnings .exit))) r ≡ S.step preset (O.SetNeighbor lane side (asOption neighbor)) (S.lentOf counter (now (lanes .entry)) (now (boundaries .entry)) (now (roads .entry)) (now (junctions .entry)) (now (rules .entry)) (now («stop_lines» .entry)) (now (crosswalks .entry)) (now (coordinates .entry)) (now (created .entry)) (now (modified .entry)) (now (deleted .entry)) (now (warnings .entry))) ⌝ }
+    ensures { λ r. ⌜ S.ended (S.lentOf counter (now (lanes .exit)) (now (boundaries .entry)) (now (roads .entry)) (now (junctions .entry)) (now (rules .entry)) (now («stop_lines» .entry)) (now (crosswalks .entry)) (now (coordinates .entry)) (now (created .entry)) (now (modified .exit)) (now (deleted .entry)) (now (warnings .exit))) r ≡ S.step tolerance (O.SetNeighbor lane side neighbor) (S.lentOf counter (now (lanes .entry)) (now (boundaries .entry)) (now (roads .entry)) (now (junctions .entry)) (now (rules .entry)) (now («stop_lines» .entry)) (now (crosswalks .entry)) (now (coordinates .entry)) (now (created .entry)) (now (modified .entry)) (now (deleted .entry)) (now (warnings .entry))) ⌝ }
 {
     let found = lookup::lane(lanes, lane);
     let Found::At(i) = found else {
@@ -233,58 +123,4 @@ fn set_neighbor_sound(
         return Answer::Refused(Refusal::OwnPartner(lane));
     }
     relink::slots::set_slot(lanes, i, side, j, direction, modified, warnings)
-}
-
-// Map::set_neighbor: the neighbour of a lane on a side, or none.
-pub fn set_neighbor(
-    counter: u64,
-    lanes: &mut [u64],
-    boundaries: &[u64],
-    roads: &[u64],
-    junctions: &[u64],
-    rules: &[u64],
-    stop_lines: &[u64],
-    crosswalks: &[u64],
-    coordinates: &[f64],
-    lane: u64,
-    side: Side,
-    neighbor: OptionNeighbor,
-    created: &[u64],
-    modified: &mut [u64],
-    deleted: &[u64],
-    warnings: &mut [u64],
-) -> Answer
-    ensures { λ r. ⌜ S.ended (S.lentOf counter (now (lanes .exit)) (now (boundaries .entry)) (now (roads .entry)) (now (junctions .entry)) (now (rules .entry)) (now («stop_lines» .entry)) (now (crosswalks .entry)) (now (coordinates .entry)) (now (created .entry)) (now (modified .exit)) (now (deleted .entry)) (now (warnings .exit))) r ≡ S.step preset (O.SetNeighbor lane side (asOption neighbor)) (S.lentOf counter (now (lanes .entry)) (now (boundaries .entry)) (now (roads .entry)) (now (junctions .entry)) (now (rules .entry)) (now («stop_lines» .entry)) (now (crosswalks .entry)) (now (coordinates .entry)) (now (created .entry)) (now (modified .entry)) (now (deleted .entry)) (now (warnings .entry))) ⌝ }
-{
-    if soundness::sound(
-        counter,
-        lanes,
-        boundaries,
-        roads,
-        junctions,
-        rules,
-        stop_lines,
-        crosswalks,
-        coordinates,
-    ) {
-        return set_neighbor_sound(
-            counter,
-            lanes,
-            boundaries,
-            roads,
-            junctions,
-            rules,
-            stop_lines,
-            crosswalks,
-            coordinates,
-            lane,
-            side,
-            neighbor,
-            created,
-            modified,
-            deleted,
-            warnings,
-        );
-    }
-    Answer::Refused(Refusal::Unsound)
 }

@@ -19,7 +19,7 @@ use Rattle.tables.specs.Formed.{counted}
 use Rattle.map.specs.Returned.{laneAt}
 use Rattle.map.proofs.Lanes.{word-at, id-at}
 use Rattle.lookup.specs.Lookup.{sortedTable, placeOf, usedBesides}
-use Rattle.edit.proofs.Named.{ascending-same}
+use Rattle.lists.proofs.Same.{ascending-same}
 use Rattle.edit_lane.specs.Parts.{Holds, lonely, ordered, chosen, goneWith}
 use Rattle.edit_lane.specs.declared.Gone.{Gone}
 

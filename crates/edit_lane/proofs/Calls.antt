@@ -19,10 +19,8 @@ use Rattle.lookup.specs.Lookup.{placeOf}
 use Rattle.laws.proofs.Links.{lane-id}
 use Rattle.facts.proofs.Stored.{formed-counts, lane-key}
 use Rattle.facts.proofs.Facts.{facts}
-use Rattle.edit.specs.Step.{Lent, Ended, ended, step, refusing}
-use Rattle.edit.proofs.Steps.{sound-formed}
-use Rattle.edit.proofs.Found.{lane-there, lane-missing}
-use Rattle.edit.proofs.Ends.{lanes-sorted, leads-may}
+use Rattle.step.specs.Step.{Lent, Ended, ended, step, refusing}
+use Rattle.facts.proofs.Found.{sound-formed, lane-there, lane-missing, lanes-sorted, leads-may}
 use Rattle.naming.specs.declared.Rows.the-variants.{Lanes, Roads, Junctions, Rules}
 use Rattle.naming.specs.Naming.{tableFormed}
 use Rattle.edit_lane.specs.Parts.{Formed, Removable, Removed, goneWith, without-lane}

@@ -17,7 +17,7 @@ use Rattle.rules.specs.Names.{EntityKind, EntityRef, LaneKind, BoundaryKind, Ro
 use Rattle.rules.specs.Edit.{refs, when}
 use Rattle.tables.specs.View.{word}
 use Rattle.report.specs.Report.{entityWords, listed}
-use Rattle.edit.proofs.Steps.{listed-nil}
+use Rattle.report.proofs.Laws.{listed-nil}
 use Rattle.naming.specs.declared.Rows.{Rows}
 use Rattle.naming.specs.declared.Rows.the-variants.{Lanes, Roads, Junctions, Rules}
 use Rattle.naming.specs.Naming.{tableFormed, naming}

@@ -31,8 +31,10 @@ use Rattle.laws.proofs.RemoveLawful.{removing, remove-yields}
 use Rattle.report.specs.Report.{listed, warned, orphanRule, counts}
 use Rattle.report.specs.declared.Answer.{Answer}
 use Rattle.report.specs.declared.Answer.the-variants.{Changed, Refused}
-use Rattle.edit.specs.Step.{Lent, Ended, ended, step, stateOf, listsOf, refusing, changing, closing}
-use Rattle.edit.proofs.Steps.{sound-map, sound-formed, listed-nil}
+use Rattle.step.specs.Step.{Lent, Ended, ended, step, stateOf, listsOf, refusing, changing}
+use Rattle.step.proofs.Steps.{step-refused, step-decided}
+use Rattle.report.proofs.Laws.{listed-nil}
+use Rattle.facts.proofs.Found.{sound-map, sound-formed}
 use Rattle.naming.specs.declared.Rows.the-variants.{Orphans}
 use Rattle.naming.specs.Naming.{naming}
 use Rattle.edit_lane.specs.Parts as P
@@ -104,8 +106,7 @@ joined k modified deleted warnings p q r s x = rw (p, q, r, s, x)
 
 module _ (tol : Tolerance) (l : Lent) (h : soundTables (l .counter) (l .tables) ≡ true) (a : ℕ) where
   pub lane-absent : lane (view (l .tables)) a ≡ none → refusing l (LaneAbsent a) ≡ step tol (O.RemoveLane a) l
-  unfolding step O.stepMap O.edit remove-lane
-  lane-absent e = rw (h, sound-map (l .counter) (l .tables) h, e)
+  lane-absent e = step-refused tol (O.RemoveLane a) l h (LaneAbsent a) (unfold O.edit remove-lane in rw e)
 
   module _ (k : l .counter ≤ lastCounter) (i : ℕ) (own : word 0 (laneAt (l .tables .lanes) i) ≡ a)
       (there : lane (view (l .tables)) a ≡ some (laneOf (l .tables .coordinates) (laneAt (l .tables .lanes) i))) where
@@ -118,18 +119,10 @@ module _ (tol : Tolerance) (l : Lent) (h : soundTables (l .counter) (l .tables) 
     abbrev after : O.State
     after = record { map = removed a gone (view (l .tables)); counter = l .counter }
 
-    decided : step tol (O.RemoveLane a) l ≡ cond (O.fitsLists (listsOf l) cs) (changing (O.RemoveLane a) l after cs) (refusing l NoRoom)
-    unfolding step O.stepMap O.edit
+    decided : step tol (O.RemoveLane a) l ≡ cond (O.fitsLists (listsOf l) cs) (changing (O.RemoveLane a) l after cs none) (refusing l NoRoom)
     decided =
-        rw (h, sound-map (l .counter) (l .tables) h, remove-yields (view (l .tables)) a gone there, le-leb (l .counter) lastCounter k, room-removed (l .counter) (l .tables) h a gone)
-        (either (O.fitsLists (listsOf l) cs))
-      where
-        o : Bool → O.Outcome
-        o b = cond b (O.acceptedAs (stateOf l) (removing a gone (view (l .tables)))) (O.refusedAs (stateOf l) NoRoom)
-
-        either : (b : Bool) → closing (O.RemoveLane a) l (o b .state) (o b .answer) ≡ cond b (changing (O.RemoveLane a) l after cs) (refusing l NoRoom)
-        either true = refl
-        either false = refl
+        step-decided tol (O.RemoveLane a) l h (removing a gone (view (l .tables))) (unfold O.edit in remove-yields (view (l .tables)) a gone there) (le-leb (l .counter) lastCounter k)
+        ∙ ap (λ b. cond (b && O.fitsLists (listsOf l) cs) (changing (O.RemoveLane a) l after cs none) (refusing l NoRoom)) (room-removed (l .counter) (l .tables) h a gone)
 
     abbrev boundaries : List ℕ
     boundaries = P.goneWith (l .tables .lanes) i (l .tables .boundaries)
@@ -156,7 +149,7 @@ module _ (tol : Tolerance) (l : Lent) (h : soundTables (l .counter) (l .tables) 
 
     pub step-removed : spread l (P.without-lane a boundaries (given (l .tables)) (l .modified) (l .deleted) (l .warnings)) ≡ step tol (O.RemoveLane a) l
     unfolding P.without-lane
-    step-removed = sym (decided ∙ (ap (λ b. cond b (changing (O.RemoveLane a) l after cs) (refusing l NoRoom)) places ∙ sides (P.fits (length m) (length d) (length w) (l .modified) (l .deleted) (l .warnings))))
+    step-removed = sym (decided ∙ (ap (λ b. cond b (changing (O.RemoveLane a) l after cs none) (refusing l NoRoom)) places ∙ sides (P.fits (length m) (length d) (length w) (l .modified) (l .deleted) (l .warnings))))
       where
         end : Bool → P.Removed
         end b =
@@ -164,7 +157,7 @@ module _ (tol : Tolerance) (l : Lent) (h : soundTables (l .counter) (l .tables) 
             (P.removed (P.leftTables a boundaries (given (l .tables))) (listed (l .modified) m) (listed (l .deleted) d) (warned (l .warnings) w) (Changed (record { created = 0; modified = length m; deleted = length d; warnings = length w })))
             (P.removed (given (l .tables)) (l .modified) (l .deleted) (l .warnings) (Refused NoRoom))
 
-        sides : (b : Bool) → cond b (changing (O.RemoveLane a) l after cs) (refusing l NoRoom) ≡ spread l (end b)
+        sides : (b : Bool) → cond b (changing (O.RemoveLane a) l after cs none) (refusing l NoRoom) ≡ spread l (end b)
         sides false = refl
         sides true =
             joined (l .counter) (l .modified) (l .deleted) (l .warnings) (tables-left (l .tables) (sound-formed (l .counter) (l .tables) h) a i own) (listed-nil (l .created))

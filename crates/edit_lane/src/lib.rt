@@ -5,7 +5,6 @@ ghost use mathlib.Core.List.{[], _∷_, map};
 ghost use Prim.Native.Nat.{_+_, _*_, _≤_, _<_};
 ghost use lib.ListN.{length};
 ghost use Rattle.lists.specs.Select.{has};
-ghost use Rattle.entities.specs.Types.{preset};
 ghost use Rattle.rules.specs.Edit.{when};
 ghost use Rattle.rules.specs.Ops as O;
 ghost use Rattle.tables.specs.View.{word};
@@ -14,12 +13,13 @@ ghost use Rattle.map.specs.Returned.{laneAt};
 ghost use Rattle.lookup.specs.Lookup.{sortedTable};
 ghost use Rattle.store.specs.Rows.{stays, keptRows, onRows};
 ghost use Rattle.report.specs.Report.{listed, warned, warnedAt, orphanRule};
-ghost use Rattle.edit.specs.Step as S;
+ghost use Rattle.step.specs.Step as S;
 ghost use Rattle.naming.specs.declared.Rows.the-variants.{Lanes, Roads, Junctions, Rules, Orphans};
 ghost use Rattle.naming.specs.Naming as N;
 ghost use Rattle.edit_lane.specs.Parts as P;
 use entities::EntityKind;
 use entities::Refusal;
+use entities::Tolerance;
 use lists::Found;
 use lists::both;
 use naming::Rows;
@@ -291,9 +291,10 @@ fn remove(
     Answer::Refused(Refusal::NoRoom)
 }
 
-// remove_lane on a sound map.
-fn remove_sound(
+// Map::remove_lane: a lane goes, with the boundaries that only it uses. The map is sound.
+pub fn remove_lane(
     counter: u64,
+    tolerance: Tolerance,
     lanes: &mut [u64],
     boundaries: &mut [u64],
     roads: &mut [u64],
@@ -309,7 +310,7 @@ fn remove_sound(
     warnings: &mut [u64],
 ) -> Answer
     requires { ⌜ soundTables counter (S.tablesOf (now lanes) (now boundaries) (now roads) (now junctions) (now rules) (now «stop_lines») (now crosswalks) (now coordinates)) ≡ true ⌝ }
-    ensures { λ r. ⌜ S.ended (S.lentOf counter (now (lanes .exit)) (now (boundaries .exit)) (now (roads .exit)) (now (junctions .exit)) (now (rules .exit)) (now («stop_lines» .entry)) (now (crosswalks .entry)) (now (coordinates .entry)) (now (created .entry)) (now (modified .exit)) (now (deleted .exit)) (now (warnings .exit))) r ≡ S.step preset (O.RemoveLane lane) (S.lentOf counter (now (lanes .entry)) (now (boundaries .entry)) (now (roads .entry)) (now (junctions .entry)) (now (rules .entry)) (now («stop_lines» .entry)) (now (crosswalks .entry)) (now (coordinates .entry)) (now (created .entry)) (now (modified .entry)) (now (deleted .entry)) (now (warnings .entry))) ⌝ }
+    ensures { λ r. ⌜ S.ended (S.lentOf counter (now (lanes .exit)) (now (boundaries .exit)) (now (roads .exit)) (now (junctions .exit)) (now (rules .exit)) (now («stop_lines» .entry)) (now (crosswalks .entry)) (now (coordinates .entry)) (now (created .entry)) (now (modified .exit)) (now (deleted .exit)) (now (warnings .exit))) r ≡ S.step tolerance (O.RemoveLane lane) (S.lentOf counter (now (lanes .entry)) (now (boundaries .entry)) (now (roads .entry)) (now (junctions .entry)) (now (rules .entry)) (now («stop_lines» .entry)) (now (crosswalks .entry)) (now (coordinates .entry)) (now (created .entry)) (now (modified .entry)) (now (deleted .entry)) (now (warnings .entry))) ⌝ }
 {
     let found = lookup::lane(lanes, lane);
     let Found::At(i) = found else {
@@ -326,54 +327,4 @@ fn remove_sound(
         deleted,
         warnings,
     )
-}
-
-// Map::remove_lane: a lane goes, with the boundaries that only it uses.
-pub fn remove_lane(
-    counter: u64,
-    lanes: &mut [u64],
-    boundaries: &mut [u64],
-    roads: &mut [u64],
-    junctions: &mut [u64],
-    rules: &mut [u64],
-    stop_lines: &[u64],
-    crosswalks: &[u64],
-    coordinates: &[f64],
-    lane: u64,
-    created: &[u64],
-    modified: &mut [u64],
-    deleted: &mut [u64],
-    warnings: &mut [u64],
-) -> Answer
-    ensures { λ r. ⌜ S.ended (S.lentOf counter (now (lanes .exit)) (now (boundaries .exit)) (now (roads .exit)) (now (junctions .exit)) (now (rules .exit)) (now («stop_lines» .entry)) (now (crosswalks .entry)) (now (coordinates .entry)) (now (created .entry)) (now (modified .exit)) (now (deleted .exit)) (now (warnings .exit))) r ≡ S.step preset (O.RemoveLane lane) (S.lentOf counter (now (lanes .entry)) (now (boundaries .entry)) (now (roads .entry)) (now (junctions .entry)) (now (rules .entry)) (now («stop_lines» .entry)) (now (crosswalks .entry)) (now (coordinates .entry)) (now (created .entry)) (now (modified .entry)) (now (deleted .entry)) (now (warnings .entry))) ⌝ }
-{
-    if soundness::sound(
-        counter,
-        lanes,
-        boundaries,
-        roads,
-        junctions,
-        rules,
-        stop_lines,
-        crosswalks,
-        coordinates,
-    ) {
-        return remove_sound(
-            counter,
-            lanes,
-            boundaries,
-            roads,
-            junctions,
-            rules,
-            stop_lines,
-            crosswalks,
-            coordinates,
-            lane,
-            created,
-            modified,
-            deleted,
-            warnings,
-        );
-    }
-    Answer::Refused(Refusal::Unsound)
 }

@@ -12,7 +12,7 @@ use Rattle.lists.specs.Select.{has, place, ascending}
 use Rattle.lists.proofs.Select.{ascending-place}
 use Rattle.entities.specs.declared.OptionNeighbor.{OptionNeighbor}
 use Rattle.entities.specs.declared.OptionNeighbor.the-variants.{None, Some}
-use Rattle.entities.specs.Types.{laneEntity, reciprocal-side}
+use Rattle.entities.specs.Types.{laneEntity, reciprocal-side, neighborOption}
 use Rattle.entities.specs.Records.{Issue}
 use Rattle.rules.specs.Names.{Side, BoundaryRef, Neighbor, NeighborDirection, Same, Opposite, LaneKind, BoundaryUnshared, NoRoom}
 use Rattle.rules.specs.Sound.{sameDirection}
@@ -34,7 +34,7 @@ use Rattle.relink.proofs.Reported.{no-op-issues, pair-issues, nothing-u
 
 -- ---- what slots hold
 
-as-held : (o : Option Neighbor) → P.asOption (optional o) ≡ o
+as-held : (o : Option Neighbor) → neighborOption (optional o) ≡ o
 as-held none = refl
 as-held (some n) = refl
 
@@ -45,7 +45,7 @@ marks-same Opposite Same = refl
 marks-same Opposite Opposite = refl
 
 pub holds-both : (slot : OptionNeighbor) (n : Neighbor) (lane : ℕ) (d : NeighborDirection) (x y : ℕ) (r : Bool) → slot ≡ Some n → x ≡ directionMark d → y ≡ directionMark (n .direction)
-    → r ≡ (eqb lane (n .lane) && eqb x y) → r ≡ E.sameSlot (P.asOption slot) (some (record { lane = lane; direction = d }))
+    → r ≡ (eqb lane (n .lane) && eqb x y) → r ≡ E.sameSlot (neighborOption slot) (some (record { lane = lane; direction = d }))
 holds-both slot n lane d x y r e p q s = s ∙ rw (p, q, e, marks-same d (n .direction))
 
 pub two-boundaries : (t : List ℕ) (i : ℕ) (side : Side) (j : ℕ) (answer : Side) (x y : BoundaryRef) → x ≡ refAt (sideWord side) (laneAt t i) → y ≡ refAt (sideWord answer) (laneAt t j)
@@ -56,11 +56,11 @@ two-boundaries t i side j answer x y p q =
 -- ---- lanes named
 
 pub none-named : (slot : OptionNeighbor) (w : List ℕ) (n : ℕ) → slot ≡ None → n ≤ length w
-    → (take n w ≡ P.placeSlot (P.asOption slot) (take n w)) × (n ≡ length (P.placeSlot (P.asOption slot) (take n w)))
+    → (take n w ≡ P.placeSlot (neighborOption slot) (take n w)) × (n ≡ length (P.placeSlot (neighborOption slot) (take n w)))
 none-named slot w n e h = rw e (refl, sym (length-take-le n w h))
 
 pub one-named : (slot : OptionNeighbor) (m : Neighbor) (w v : List ℕ) (n r : ℕ) → slot ≡ Some m → (take r v ≡ place (m .lane) (take n w)) × (r ≡ length (place (m .lane) (take n w)))
-    → (take r v ≡ P.placeSlot (P.asOption slot) (take n w)) × (r ≡ length (P.placeSlot (P.asOption slot) (take n w)))
+    → (take r v ≡ P.placeSlot (neighborOption slot) (take n w)) × (r ≡ length (P.placeSlot (neighborOption slot) (take n w)))
 one-named slot m w v n r e p = rw e p
 
 -- at most k ids, in order
@@ -179,13 +179,13 @@ abbrev pub FreeEnds : List ℕ → ℕ → Side → List ℕ → List ℕ → Bo
 FreeEnds t i side md ws free first n arr r = Ends t md ws n (take n arr) (issues first ++ issues N.Nothing) r free (afterSlot t i side none none) (P.freeing t i side md ws)
 
 module _ (t : List ℕ) (i : ℕ) (side : Side) (md ws : List ℕ) (old : OptionNeighbor) (free : Bool) (first : Notice) (n : ℕ) (arr : List ℕ) (r : Bool) where
-  pub free-ends : old ≡ optional (slotHeld t i side) → free ≡ E.sameSlot (P.asOption old) none → first ≡ cond free (N.NoOp (getD t (1 + i * 52) 0)) N.Nothing
-      → (take n arr ≡ cond free [] (P.slotIds (getD t (1 + i * 52) 0) (P.asOption old) none none)) × (n ≡ length (cond free [] (P.slotIds (getD t (1 + i * 52) 0) (P.asOption old) none none)))
+  pub free-ends : old ≡ optional (slotHeld t i side) → free ≡ E.sameSlot (neighborOption old) none → first ≡ cond free (N.NoOp (getD t (1 + i * 52) 0)) N.Nothing
+      → (take n arr ≡ cond free [] (P.slotIds (getD t (1 + i * 52) 0) (neighborOption old) none none)) × (n ≡ length (cond free [] (P.slotIds (getD t (1 + i * 52) 0) (neighborOption old) none none)))
       → r ≡ fits n (length (issues first ++ issues N.Nothing)) md ws → FreeEnds t i side md ws free first n arr r
   free-ends eo es e1 p er =
-      let held : P.asOption old ≡ slotHeld t i side = ap P.asOption eo ∙ as-held (slotHeld t i side) in
+      let held : neighborOption old ≡ slotHeld t i side = ap neighborOption eo ∙ as-held (slotHeld t i side) in
       let told = ap (λ z. issues z ++ []) e1 ∙ ap (λ z. z ++ []) (no-op-issues free (getD t (1 + i * 52) 0)) in
-      reslot-ends t i side none none [] md ws (P.asOption old) free (issues first ++ issues N.Nothing) n (take n arr) r held es told p er
+      reslot-ends t i side none none [] md ws (neighborOption old) free (issues first ++ issues N.Nothing) n (take n arr) r held es told p er
 
 -- a lane set beside another
 abbrev pub SetEnds : List ℕ → ℕ → Side → ℕ → NeighborDirection → List ℕ → List ℕ → Bool → Notice → Notice → ℕ → List ℕ → Bool → Type 0
@@ -216,10 +216,10 @@ module _ (t : List ℕ) (i : ℕ) (side : Side) (j : ℕ) (d : NeighborDirection
   abbrev apartness : Bool → ℕ → ℕ → List Issue
   apartness x y z = E.when x (E.warning BoundaryUnshared (laneEntity y) (laneEntity z ∷ []))
 
-  set-ids : P.asOption other ≡ answered → cond set [] (P.slotIds a (P.asOption old) (read b) (P.asOption other)) ≡ cond set [] (P.slotIds a (P.asOption old) new answered)
+  set-ids : neighborOption other ≡ answered → cond set [] (P.slotIds a (neighborOption old) (read b) (neighborOption other)) ≡ cond set [] (P.slotIds a (neighborOption old) new answered)
   set-ids h =
-      ap (λ z. cond set [] (P.slotIds a (P.asOption old) (read z) (P.asOption other))) (id-at t j)
-      ∙ ap (λ z. cond set [] (P.slotIds a (P.asOption old) new z)) h
+      ap (λ z. cond set [] (P.slotIds a (neighborOption old) (read z) (neighborOption other))) (id-at t j)
+      ∙ ap (λ z. cond set [] (P.slotIds a (neighborOption old) new z)) h
 
   set-warned : answer ≡ reciprocal-side side d → apart ≡ P.unshared t i side j answer → second ≡ cond apart (N.Pair BoundaryUnshared a b) N.Nothing
       → issues second ≡ apartness two (idAt t i) (idAt t j)
@@ -228,15 +228,15 @@ module _ (t : List ℕ) (i : ℕ) (side : Side) (j : ℕ) (d : NeighborDirection
       ∙ (pair-issues apart BoundaryUnshared a b
       ∙ (ap (λ z. apartness z a b) (ep ∙ ap (P.unshared t i side j) ea) ∙ (ap (λ z. apartness two z b) (id-at t i) ∙ ap (apartness two (idAt t i)) (id-at t j))))
 
-  pub set-ends : answer ≡ reciprocal-side side d → old ≡ optional (slotHeld t i side) → other ≡ optional (slotHeld t j answer) → set ≡ E.sameSlot (P.asOption old) (read b)
+  pub set-ends : answer ≡ reciprocal-side side d → old ≡ optional (slotHeld t i side) → other ≡ optional (slotHeld t j answer) → set ≡ E.sameSlot (neighborOption old) (read b)
       → first ≡ cond set (N.NoOp a) N.Nothing → apart ≡ P.unshared t i side j answer → second ≡ cond apart (N.Pair BoundaryUnshared a b) N.Nothing
-      → (take n arr ≡ cond set [] (P.slotIds a (P.asOption old) (read b) (P.asOption other))) × (n ≡ length (cond set [] (P.slotIds a (P.asOption old) (read b) (P.asOption other))))
+      → (take n arr ≡ cond set [] (P.slotIds a (neighborOption old) (read b) (neighborOption other))) × (n ≡ length (cond set [] (P.slotIds a (neighborOption old) (read b) (neighborOption other))))
       → r ≡ fits n (length (issues first ++ issues second)) md ws → SetEnds t i side j d md ws set first second n arr r
   set-ends ea eo eh es e1 ep e2 p er =
-      let held : P.asOption old ≡ slotHeld t i side = ap P.asOption eo ∙ as-held (slotHeld t i side) in
-      let others : P.asOption other ≡ answered = ap P.asOption eh ∙ (as-held (slotHeld t j answer) ∙ ap (slotHeld t j) ea) in
-      let same : set ≡ E.sameSlot (P.asOption old) new = es ∙ ap (λ z. E.sameSlot (P.asOption old) (read z)) (id-at t j) in
+      let held : neighborOption old ≡ slotHeld t i side = ap neighborOption eo ∙ as-held (slotHeld t i side) in
+      let others : neighborOption other ≡ answered = ap neighborOption eh ∙ (as-held (slotHeld t j answer) ∙ ap (slotHeld t j) ea) in
+      let same : set ≡ E.sameSlot (neighborOption old) new = es ∙ ap (λ z. E.sameSlot (neighborOption old) (read z)) (id-at t j) in
       let told = ap (λ z. z ++ issues second) (ap issues e1 ∙ no-op-issues set a) ∙ ap (λ z. E.when set (E.no-op a) ++ z) (set-warned ea ep e2) in
       let ids = set-ids others in
-      reslot-ends t i side new answered (apartness two (idAt t i) (idAt t j)) md ws (P.asOption old) set (issues first ++ issues second) n (take n arr) r held same told
+      reslot-ends t i side new answered (apartness two (idAt t i) (idAt t j)) md ws (neighborOption old) set (issues first ++ issues second) n (take n arr) r held same told
       (p .0 ∙ ids, p .1 ∙ ap length ids) er

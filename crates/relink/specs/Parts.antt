@@ -7,8 +7,6 @@ use lib.Dec.{eqb, ltb}
 use lib.ListN.{length}
 use Rattle.lists.specs.Select.{has, place, ascending}
 use mathlib.Core.Option.{Option, none, some}
-use Rattle.entities.specs.declared.OptionNeighbor.{OptionNeighbor}
-use Rattle.entities.specs.declared.OptionNeighbor.the-variants.{None, Some}
 use Rattle.entities.specs.Types.{laneEntity, reciprocal-side}
 use Rattle.entities.specs.Records.{Issue}
 use Rattle.tables.specs.View.{word, refAt}
@@ -71,10 +69,6 @@ unlinking t i j linked modified warnings =
     relinking true (lanesChanged (linkOut a b) t) (cond linked (pairOf a b) []) (when (not linked) (no-op a)) t modified warnings
 
 -- ---- neighbours
-
-abbrev pub asOption : OptionNeighbor → Option Neighbor
-asOption None = none
-asOption (Some n) = some n
 
 -- the lane in a slot, among ids
 abbrev pub placeSlot : Option Neighbor → List ℕ → List ℕ

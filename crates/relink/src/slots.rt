@@ -13,6 +13,7 @@ ghost use Rattle.tables.specs.View.{word, refAt};
 ghost use Rattle.map.specs.Returned.{searchable, laneAt};
 ghost use Rattle.lookup.specs.Lookup.{sideWord};
 ghost use Rattle.topology.specs.Topology as T;
+ghost use Rattle.entities.specs.Types.{neighborOption};
 ghost use Rattle.relink.specs.Parts as P;
 use entities::IssueCode;
 use entities::Neighbor;
@@ -29,7 +30,7 @@ use tables::LANE;
 // ---- what slots hold
 
 fn is_free(slot: OptionNeighbor) -> bool
-    ensures { λ r. ⌜ r ≡ E.sameSlot (P.asOption slot) none ⌝ }
+    ensures { λ r. ⌜ r ≡ E.sameSlot (neighborOption slot) none ⌝ }
 {
     match slot {
         OptionNeighbor::None => true,
@@ -38,7 +39,7 @@ fn is_free(slot: OptionNeighbor) -> bool
 }
 
 fn holds(slot: OptionNeighbor, lane: u64, direction: NeighborDirection) -> bool
-    ensures { λ r. ⌜ r ≡ E.sameSlot (P.asOption slot) (some (record { lane = lane; direction = direction })) ⌝ }
+    ensures { λ r. ⌜ r ≡ E.sameSlot (neighborOption slot) (some (record { lane = lane; direction = direction })) ⌝ }
 {
     let OptionNeighbor::Some(n) = slot else {
         return false;
@@ -65,7 +66,7 @@ fn unshared(lanes: &[u64], i: usize, side: Side, j: usize, answer: Side) -> bool
 // The lane in a slot put in its place among the first n ids.
 fn named_slot(ids: &mut [u64], n: usize, slot: OptionNeighbor) -> usize
     requires { ⌜ (n < length (now ids)) × (ascending (take n (now ids)) ≡ true) ⌝ }
-    ensures { λ r. ⌜ (take r (now (ids .exit)) ≡ P.placeSlot (P.asOption slot) (take n (now (ids .entry)))) × (r ≡ length (P.placeSlot (P.asOption slot) (take n (now (ids .entry))))) ⌝ }
+    ensures { λ r. ⌜ (take r (now (ids .exit)) ≡ P.placeSlot (neighborOption slot) (take n (now (ids .entry)))) × (r ≡ length (P.placeSlot (neighborOption slot) (take n (now (ids .entry))))) ⌝ }
 {
     let OptionNeighbor::Some(s) = slot else {
         return n;
@@ -83,7 +84,7 @@ fn touched(
     ids: &mut [u64],
 ) -> usize
     requires { ⌜ 4 ≤ length (now ids) ⌝ }
-    ensures { λ r. ⌜ (take r (now (ids .exit)) ≡ cond skip [] (P.slotIds lane (P.asOption old) (P.asOption new) (P.asOption other))) × (r ≡ length (cond skip [] (P.slotIds lane (P.asOption old) (P.asOption new) (P.asOption other)))) ⌝ }
+    ensures { λ r. ⌜ (take r (now (ids .exit)) ≡ cond skip [] (P.slotIds lane (neighborOption old) (neighborOption new) (neighborOption other))) × (r ≡ length (cond skip [] (P.slotIds lane (neighborOption old) (neighborOption new) (neighborOption other)))) ⌝ }
 {
     if skip {
         return 0;

@@ -1,7 +1,7 @@
 -- One call, by how it ends: not sound, refused by the edit, without ids, without room, or written. Assumes nothing.
 use mathlib.Core.Path.{_≡_, refl, sym, ap, _∙_}
 use Prim.Native.Nat.{ℕ, _≤_}
-use mathlib.Core.Bool.{Bool, true, false, cond}
+use mathlib.Core.Bool.{Bool, true, false, cond, _&&_}
 use lib.Dec.{leb}
 use Rattle.rules.specs.Names.{Tolerance, Refusal, Unsound, NoRoom, NoIds}
 use Rattle.rules.specs.Sound.{sound, fitsRoom, lastCounter}
@@ -34,9 +34,7 @@ module _ (tol : Tolerance) (c : O.Command) (l : Lent) where
 
       pub step-decided : leb (O.counterAfter (l .counter) (e .ids)) lastCounter ≡ true
           → step tol c l
-          ≡ cond (fitsRoom (roomOf (l .tables)) (e .result))
-          (cond (O.fitsLists (listsOf l) (e .changes)) (changing c l after (e .changes) (e .second)) (refusing l NoRoom))
-          (refusing l NoRoom)
+          ≡ cond (fitsRoom (roomOf (l .tables)) (e .result) && O.fitsLists (listsOf l) (e .changes)) (changing c l after (e .changes) (e .second)) (refusing l NoRoom)
       unfolding step O.stepMap
       step-decided i =
           rw (h, sound-map (l .counter) (l .tables) h, y, i) (settles (fitsRoom (roomOf (l .tables)) (e .result)))
@@ -49,6 +47,6 @@ module _ (tol : Tolerance) (c : O.Command) (l : Lent) where
           lists false = refl
 
           settles : (p : Bool) → told (O.outcomeOf (stateOf l) (O.listable (listsOf l) (E.check p NoRoom >>= (λ _. E.yield e))))
-              ≡ cond p (cond (O.fitsLists (listsOf l) (e .changes)) (changing c l after (e .changes) (e .second)) (refusing l NoRoom)) (refusing l NoRoom)
+              ≡ cond (p && O.fitsLists (listsOf l) (e .changes)) (changing c l after (e .changes) (e .second)) (refusing l NoRoom)
           settles true = lists (O.fitsLists (listsOf l) (e .changes))
           settles false = refl

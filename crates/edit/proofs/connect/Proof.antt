@@ -2,45 +2,101 @@
 use borrow.Author.Needs.{needs}
 use Rattle.edit.proofs.connect.Statement.{statement}
 use Rattle.edit.proofs.connect.Tie as tie
-use mathlib.Core.Path.{sym, _∙_}
-use Rattle.entities.specs.Types.{preset}
-use Rattle.rules.specs.Ops as O
-use Rattle.edit.specs.Step.{lentOf}
-use Rattle.edit.proofs.Steps.{step-unsound}
+use native.Mathlib.Omega.{arith}
+use Rattle.tables.specs.View.{Tables}
+use Rattle.step.specs.Step.{Lent, tablesOf, lentOf}
+use Rattle.edit.proofs.Connects.{connect-first-absent, connect-second-absent, connect-itself}
+use Rattle.facts.proofs.Found.{found, missing, lanes-sorted, leads-may}
+use Rattle.edit.proofs.Ends.{gap-may, link-may, connected}
 
-sound-requires : tie.Need-sound-requires
-sound-requires c κs = search needs
+-- what is lent
+abbrev held : tie.Start → Tables
+held s =
+    tablesOf (s .args .lanes .now) (s .args .boundaries .now) (s .args .roads .now) (s .args .junctions .now) (s .args .rules .now) (s .args .stop-lines .now) (s .args .crosswalks .now)
+    (s .args .coordinates .now)
 
-connect-sound-requires : tie.Need-connect-sound-requires
-connect-sound-requires c κs = sym (c .before .before .before .before .sound .ensures) ∙ c .before .before .before .if1 .taken
+abbrev lent : tie.Start → Lent
+lent s =
+    lentOf (s .args .counter) (s .args .lanes .now) (s .args .boundaries .now) (s .args .roads .now) (s .args .junctions .now) (s .args .rules .now) (s .args .stop-lines .now)
+    (s .args .crosswalks .now) (s .args .coordinates .now) (s .args .created .now) (s .args .modified .now) (s .args .deleted .now) (s .args .warnings .now)
+
+lane-requires : tie.Need-lane-requires
+lane-requires c κs = lanes-sorted (c .before .before .before .before .before .before .before .before .before .before .before .before .before .args .counter) (held (c .before .before .before .before .before .before .before .before .before .before .before .before .before)) (c .before .before .before .before .before .before .before .before .before .before .before .before .before .pre)
+
+enum-known-found : tie.Need-enum-known-found
+enum-known-found c = search needs
+
+enum-told : tie.Need-enum-told
+enum-told c = search needs
 
 same-length : tie.Need-same-length
 same-length c = search needs
 
+returns : tie.Need-returns
+returns c = let s = c .before .before .before .before .before .before .before .before .before .before .before .before .before .before .before .before in connect-first-absent (s .args .tolerance) (lent s) (s .pre) (omega (arith, s .good .0 .1)) (s .args .from) (s .args .to) (missing (s .args .lanes .now) (s .args .from) (c .before .before .lane .result) (c .before .before .lane .ensures) (c .enum-told .given .1))
+
+lane-requires-2 : tie.Need-lane-requires-2
+lane-requires-2 c κs = lanes-sorted (c .before .before .before .before .before .before .before .before .before .before .before .before .before .before .before .before .before .before .args .counter) (held (c .before .before .before .before .before .before .before .before .before .before .before .before .before .before .before .before .before .before)) (c .before .before .before .before .before .before .before .before .before .before .before .before .before .before .before .before .before .before .pre)
+
+enum-known-other : tie.Need-enum-known-other
+enum-known-other c = search needs
+
+enum-told-2 : tie.Need-enum-told-2
+enum-told-2 c = search needs
+
 same-length-2 : tie.Need-same-length-2
 same-length-2 c = search needs
+
+returns-2 : tie.Need-returns-2
+returns-2 c = let s = c .before .before .before .before .before .before .before .before .before .before .before .before .before .before .before .before .before .before .before .before .before in connect-second-absent (s .args .tolerance) (lent s) (s .pre) (omega (arith, s .good .0 .1)) (s .args .from) (s .args .to) (c .before .before .before .before .before .found .given .0 .0) (found (s .args .lanes .now) (s .args .from) (c .before .before .before .before .before .found .given .0 .0) (c .before .before .before .before .before .before .before .lane .result) (c .before .before .before .before .before .before .before .lane .ensures) (c .before .before .before .before .before .found .given .1)) (missing (s .args .lanes .now) (s .args .to) (c .before .before .lane2 .result) (c .before .before .lane2 .ensures) (c .enum-told2 .given .1))
 
 same-length-3 : tie.Need-same-length-3
 same-length-3 c = search needs
 
-returns : tie.Need-returns
-returns c = search needs
+returns-3 : tie.Need-returns-3
+returns-3 c = let s = c .before .before .before .before .before .before .before .before .before .before .before .before .before .before .before .before .before .before .before .before .before .before .before in connect-itself (s .args .tolerance) (lent s) (s .pre) (omega (arith, s .good .0 .1)) (s .args .from) (s .args .to) (c .before .before .before .before .before .before .before .found .given .0 .0) (found (s .args .lanes .now) (s .args .from) (c .before .before .before .before .before .before .before .found .given .0 .0) (c .before .before .before .before .before .before .before .before .before .lane .result) (c .before .before .before .before .before .before .before .before .before .lane .ensures) (c .before .before .before .before .before .before .before .found .given .1)) (c .before .before .other .given .0 .0) (found (s .args .lanes .now) (s .args .to) (c .before .before .other .given .0 .0) (c .before .before .before .before .lane2 .result) (c .before .before .before .before .lane2 .ensures) (c .before .before .other .given .1)) (c .if1 .taken)
+
+gapped-requires : tie.Need-gapped-requires
+gapped-requires c κs = let s = c .before .before .before .before .before .before .before .before .before .before .before .before .before .before .before .before .before .before .before .before .before .before .before .before in gap-may (s .args .counter) (held s) (s .pre) (s .args .from) (s .args .to) (c .before .before .before .before .before .before .before .before .found .given .0 .0) (c .before .before .before .other .given .0 .0) (found (s .args .lanes .now) (s .args .from) (c .before .before .before .before .before .before .before .before .found .given .0 .0) (c .before .before .before .before .before .before .before .before .before .before .lane .result) (c .before .before .before .before .before .before .before .before .before .before .lane .ensures) (c .before .before .before .before .before .before .before .before .found .given .1)) (found (s .args .lanes .now) (s .args .to) (c .before .before .before .other .given .0 .0) (c .before .before .before .before .before .lane2 .result) (c .before .before .before .before .before .lane2 .ensures) (c .before .before .before .other .given .1))
+
+leads-requires : tie.Need-leads-requires
+leads-requires c κs = let s = c .before .before .before .before .before .before .before .before .before .before .before .before .before .before .before .before .before .before .before .before .before .before .before .before .before .before in leads-may (s .args .counter) (held s) (s .pre) (s .args .from) (c .before .before .before .before .before .before .before .before .before .before .found .given .0 .0) (found (s .args .lanes .now) (s .args .from) (c .before .before .before .before .before .before .before .before .before .before .found .given .0 .0) (c .before .before .before .before .before .before .before .before .before .before .before .before .lane .result) (c .before .before .before .before .before .before .before .before .before .before .before .before .lane .ensures) (c .before .before .before .before .before .before .before .before .before .before .found .given .1))
+
+link-requires : tie.Need-link-requires
+link-requires c κs = let s = c .before .before .before .before .before .before .before .before .before .before .before .before .before .before .before .before .before .before .before .before .before .before .before .before .before .before .before .before .before .before in link-may (s .args .counter) (held s) (s .pre) (s .args .from) (s .args .to) (c .before .before .before .before .before .before .before .before .before .before .before .before .before .before .found .given .0 .0) (c .before .before .before .before .before .before .before .before .before .other .given .0 .0) (found (s .args .lanes .now) (s .args .from) (c .before .before .before .before .before .before .before .before .before .before .before .before .before .before .found .given .0 .0) (c .before .before .before .before .before .before .before .before .before .before .before .before .before .before .before .before .lane .result) (c .before .before .before .before .before .before .before .before .before .before .before .before .before .before .before .before .lane .ensures) (c .before .before .before .before .before .before .before .before .before .before .before .before .before .before .found .given .1)) (found (s .args .lanes .now) (s .args .to) (c .before .before .before .before .before .before .before .before .before .other .given .0 .0) (c .before .before .before .before .before .before .before .before .before .before .before .lane2 .result) (c .before .before .before .before .before .before .before .before .before .before .before .lane2 .ensures) (c .before .before .before .before .before .before .before .before .before .other .given .1)) (c .before .before .before .leads .result) (c .before .before .before .leads .ensures)
 
 same-length-4 : tie.Need-same-length-4
 same-length-4 c = search needs
 
-returns-2 : tie.Need-returns-2
-returns-2 c = step-unsound preset (O.ConnectLanes (c .before .before .before .before .before .before .before .before .before .before .before .before .before .before .before .args .from) (c .before .before .before .before .before .before .before .before .before .before .before .before .before .before .before .args .to)) (lentOf (c .before .before .before .before .before .before .before .before .before .before .before .before .before .before .before .args .counter) (c .before .before .before .before .before .before .before .before .before .before .before .before .before .before .before .args .lanes .now) (c .before .before .before .before .before .before .before .before .before .before .before .before .before .before .before .args .boundaries .now) (c .before .before .before .before .before .before .before .before .before .before .before .before .before .before .before .args .roads .now) (c .before .before .before .before .before .before .before .before .before .before .before .before .before .before .before .args .junctions .now) (c .before .before .before .before .before .before .before .before .before .before .before .before .before .before .before .args .rules .now) (c .before .before .before .before .before .before .before .before .before .before .before .before .before .before .before .args .stop-lines .now) (c .before .before .before .before .before .before .before .before .before .before .before .before .before .before .before .args .crosswalks .now) (c .before .before .before .before .before .before .before .before .before .before .before .before .before .before .before .args .coordinates .now) (c .before .before .before .before .before .before .before .before .before .before .before .before .before .before .before .args .created .now) (c .before .before .before .before .before .before .before .before .before .before .before .before .before .before .before .args .modified .now) (c .before .before .before .before .before .before .before .before .before .before .before .before .before .before .before .args .deleted .now) (c .before .before .before .before .before .before .before .before .before .before .before .before .before .before .before .args .warnings .now)) (sym (c .before .sound .ensures) ∙ c .if1 .left)
+same-length-5 : tie.Need-same-length-5
+same-length-5 c = search needs
+
+same-length-6 : tie.Need-same-length-6
+same-length-6 c = search needs
+
+returns-4 : tie.Need-returns-4
+returns-4 c = let s = c .before .before .before .before .before .before .before .before .before .before .before .before .before .before .before .before .before .before .before .before .before .before .before .before .before .before .before .before .before .before .before .before .before .before .before .before .before in connected (s .args .tolerance) (lent s) (s .pre) (omega (arith, s .good .0 .1)) (s .args .from) (c .before .before .before .before .before .before .before .before .before .before .before .before .before .before .before .before .before .before .before .before .before .found .given .0 .0) (found (s .args .lanes .now) (s .args .from) (c .before .before .before .before .before .before .before .before .before .before .before .before .before .before .before .before .before .before .before .before .before .found .given .0 .0) (c .before .before .before .before .before .before .before .before .before .before .before .before .before .before .before .before .before .before .before .before .before .before .before .lane .result) (c .before .before .before .before .before .before .before .before .before .before .before .before .before .before .before .before .before .before .before .before .before .before .before .lane .ensures) (c .before .before .before .before .before .before .before .before .before .before .before .before .before .before .before .before .before .before .before .before .before .found .given .1)) (s .args .to) (c .before .before .before .before .before .before .before .before .before .before .before .before .before .before .before .before .other .given .0 .0) (found (s .args .lanes .now) (s .args .to) (c .before .before .before .before .before .before .before .before .before .before .before .before .before .before .before .before .other .given .0 .0) (c .before .before .before .before .before .before .before .before .before .before .before .before .before .before .before .before .before .before .lane2 .result) (c .before .before .before .before .before .before .before .before .before .before .before .before .before .before .before .before .before .before .lane2 .ensures) (c .before .before .before .before .before .before .before .before .before .before .before .before .before .before .before .before .other .given .1)) (c .before .before .before .before .before .before .link .last .0) (c .before .before .before .before .before .before .link .last .1 .1 .1 .1 .1 .0) (c .before .before .before .before .before .before .link .last .1 .1 .1 .1 .1 .1 .0) (c .before .before .before .before .before .before .link .result) (c .before .before .before .before .before .before .before .before .before .before .leads .result) (c .before .before .before .before .before .before .before .before .before .before .leads .ensures) (c .before .before .before .before .before .before .before .before .before .before .before .before .before .before .if1 .left) (c .before .before .before .before .before .before .before .before .before .before .before .before .gapped .result) (c .before .before .before .before .before .before .before .before .before .before .before .before .gapped .ensures) (c .before .before .before .before .before .before .link .ensures)
 
 pub connect-spec : {M : Type 1} → statement M
 connect-spec =
     tie.close
     (tie.spec
-    sound-requires
-    connect-sound-requires
+    lane-requires
+    enum-known-found
+    enum-told
     same-length
-    same-length-2
-    same-length-3
     returns
+    lane-requires-2
+    enum-known-other
+    enum-told-2
+    same-length-2
+    returns-2
+    same-length-3
+    returns-3
+    gapped-requires
+    leads-requires
+    link-requires
     same-length-4
-    returns-2)
+    same-length-5
+    same-length-6
+    returns-4)

@@ -7,7 +7,7 @@ use native.Mathlib.Omega.{arith}
 use lib.ListN.{length, take}
 use Rattle.lists.specs.Select.{place}
 use Rattle.report.proofs.Laws.{named-front}
-use Rattle.relink.specs.Parts.{asOption}
+use Rattle.entities.specs.Types.{neighborOption}
 use Rattle.relink.proofs.Reported.{nothing-up}
 use Rattle.relink.proofs.Reslot.{Named, first-named, next-named, named-few, named-up, all-named}
 
@@ -24,12 +24,12 @@ one c =
 two : (c : tie.After-named-slot) → Named 2 (c .named-slot .result) (c .named-slot .last .0)
 two c =
     let p = c .before .before .before .before in
-    next-named 1 (p .named .result) (c .named-slot .result) (c .named-slot .last .0) (p .named .last .0) (asOption (c .before .before .before .before .before .before .before .before .args .old)) (one p) (c .named-slot .ensures)
+    next-named 1 (p .named .result) (c .named-slot .result) (c .named-slot .last .0) (p .named .last .0) (neighborOption (c .before .before .before .before .before .before .before .before .args .old)) (one p) (c .named-slot .ensures)
 
 three : (c : tie.After-named-slot2) → Named 3 (c .named-slot2 .result) (c .named-slot2 .last .0)
 three c =
     let p = c .before .before .before .before in
-    next-named 2 (p .named-slot .result) (c .named-slot2 .result) (c .named-slot2 .last .0) (p .named-slot .last .0) (asOption (c .before .before .before .before .before .before .before .before .before .before .before .before .args .new)) (two p) (c .named-slot2 .ensures)
+    next-named 2 (p .named-slot .result) (c .named-slot2 .result) (c .named-slot2 .last .0) (p .named-slot .last .0) (neighborOption (c .before .before .before .before .before .before .before .before .before .before .before .before .args .new)) (two p) (c .named-slot2 .ensures)
 
 returns : tie.Need-returns
 returns c = search needs
@@ -65,7 +65,7 @@ returns-2 c =
     let m2 = c .before .before .before .before .before .before .before .before .before .before .named-slot in
     let m3 = c .before .before .before .before .before .before .named-slot2 in
     let m4 = c .before .before .named-slot3 in
-    all-named (a .skip) (a .lane) (asOption (a .old)) (asOption (a .new)) (asOption (a .other)) (m1 .result) (m2 .result) (m3 .result) (m4 .result) (a .ids .now) (m1 .last .0) (m2 .last .0) (m3 .last .0) (m4 .last .0)
+    all-named (a .skip) (a .lane) (neighborOption (a .old)) (neighborOption (a .new)) (neighborOption (a .other)) (m1 .result) (m2 .result) (m3 .result) (m4 .result) (a .ids .now) (m1 .last .0) (m2 .last .0) (m3 .last .0) (m4 .last .0)
     (c .before .before .before .before .before .before .before .before .before .before .before .before .before .before .before .before .if1 .left) (front (c .before .before .before .before .before .before .before .before .before .before .before .before .before .before) .0) (m2 .ensures .0) (m3 .ensures .0) (m4 .ensures)
 
 pub touched-spec : {M : Type 1} → statement M
