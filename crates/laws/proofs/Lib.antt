@@ -58,3 +58,4 @@ pub mod Claim
 pub mod Distinct
 pub mod DistinctRows
 pub mod RepeatFree
+pub mod Allocated

@@ -1,0 +1,88 @@
+-- What the counter becomes follows from the answer, on any memory that is lent. Assumes nothing.
+use mathlib.Core.Path.{_≡_, refl, sym, ap, _∙_, subst}
+use Prim.Native.Nat.{ℕ, _≤_}
+use mathlib.Core.Bool.{Bool, true, false, cond}
+use mathlib.Core.List.{List}
+use mathlib.Core.Option.{Option, none, some}
+use lib.Dec.{leb}
+use lib.Ieee.{Float}
+use lib.ListN.{length}
+use borrow.Author.Tests.{leb-true}
+use Rattle.entities.specs.Records.{ChangeSet}
+use Rattle.rules.specs.Names.{Tolerance, Refusal, Unsound, NoRoom, NoIds}
+use Rattle.rules.specs.Sound.{fitsRoom, lastCounter}
+use Rattle.rules.specs.Edit as E
+use Rattle.rules.specs.Ops as O
+use Rattle.laws.proofs.Allocated.{allocated}
+use Rattle.tables.specs.Formed.{soundTables}
+use Rattle.store.specs.Store.{roomOf}
+use Rattle.report.specs.Report.{counterBehind, accepting}
+use Rattle.report.specs.declared.Answer.{Answer}
+use Rattle.step.specs.Step.{Lent, Ended, step, stateOf, listsOf, refusing, changing, lentOf, ended}
+use Rattle.step.proofs.Steps.{step-unsound, step-refused, step-exhausted, step-decided}
+
+-- the state that an edit leaves
+abbrev pub stateAfter : Lent → E.Edited → O.State
+stateAfter l e = record { map = e .result; counter = O.counterAfter (l .counter) (e .ids) }
+
+-- ---- what holds of every refusal, and of every edit that has its ids, holds of every call
+
+module _ (P : Ended → Type 0) (tol : Tolerance) (c : O.Command) (l : Lent) (no : (r : Refusal) → P (refusing l r))
+    (yes : (e : E.Edited) → O.edit tol c (stateOf l) ≡ E.yield e → leb (O.counterAfter (l .counter) (e .ids)) lastCounter ≡ true
+    → P (changing c l (stateAfter l e) (e .changes) (e .second))) where
+  by-tests : (e : E.Edited) → P (changing c l (stateAfter l e) (e .changes) (e .second)) → (room lists : Bool)
+      → P (cond room (cond lists (changing c l (stateAfter l e) (e .changes) (e .second)) (refusing l NoRoom)) (refusing l NoRoom))
+  by-tests e t true true = t
+  by-tests e t true false = no NoRoom
+  by-tests e t false lists = no NoRoom
+
+  by-edit : soundTables (l .counter) (l .tables) ≡ true → (r : E.Res E.Edited) → O.edit tol c (stateOf l) ≡ r → P (step tol c l)
+  by-edit h (E.refuse r) y = subst P (step-refused tol c l h r y) (no r)
+  by-edit h (E.yield e) y = ids (leb (O.counterAfter (l .counter) (e .ids)) lastCounter) refl
+    where
+      ids : (b : Bool) → leb (O.counterAfter (l .counter) (e .ids)) lastCounter ≡ b → P (step tol c l)
+      ids false i = subst P (step-exhausted tol c l h e y i) (no NoIds)
+      ids true i =
+          subst P (sym (step-decided tol c l h e y i)) (by-tests e (yes e y i) (fitsRoom (roomOf (l .tables)) (e .result)) (O.fitsLists (listsOf l) (e .changes)))
+
+  pub step-cases : P (step tol c l)
+  step-cases = sane (soundTables (l .counter) (l .tables)) refl
+    where
+      sane : (b : Bool) → soundTables (l .counter) (l .tables) ≡ b → P (step tol c l)
+      sane false h = subst P (step-unsound tol c l h) (no Unsound)
+      sane true h = by-edit h (O.edit tol c (stateOf l)) refl
+
+-- ---- the counter
+
+-- an accepted answer has as many entities as were created
+behind : (k : ℕ) (cs : ChangeSet) (second : Option ℕ) → O.counterAfter k (length (cs .created)) ≡ counterBehind k (accepting cs second)
+behind k cs none = refl
+behind k cs (some second) = refl
+
+module _ (tol : Tolerance) (c : O.Command) (l : Lent) where
+  pub step-counter : step tol c l .lent .counter ≡ counterBehind (l .counter) (step tol c l .answer)
+  step-counter =
+      step-cases (λ n. n .lent .counter ≡ counterBehind (l .counter) (n .answer)) tol c l (λ r. refl) (λ e y i.
+      ap (O.counterAfter (l .counter)) (sym (allocated tol c (stateOf l) e y)) ∙ behind (l .counter) (e .changes) (e .second))
+
+  pub step-counter-fits : l .counter ≤ lastCounter → step tol c l .lent .counter ≤ lastCounter
+  step-counter-fits k = step-cases (λ n. n .lent .counter ≤ lastCounter) tol c l (λ r. k) (λ e y i. leb-true (O.counterAfter (l .counter) (e .ids)) lastCounter i)
+
+  -- ---- for callers
+
+  pub counted-on : (after : Lent) (a : Answer) → ended after a ≡ step tol c l → after .counter ≡ counterBehind (l .counter) a
+  counted-on after a e = subst (λ n. n .lent .counter ≡ counterBehind (l .counter) (n .answer)) (sym e) step-counter
+
+-- What a call leaves but for its counter, which is the answer's.
+module _ (tol : Tolerance) (c : O.Command) (k : ℕ) (x1 x2 x3 x4 x5 x6 x7 : List ℕ) (x8 : List Float) (x9 x10 x11 x12 : List ℕ)
+    (y1 y2 y3 y4 y5 y6 y7 : List ℕ) (y8 : List Float) (y9 y10 y11 y12 : List ℕ) (a : Answer) where
+  -- whatever the counter was left at
+  pub counter-moved : (n : ℕ) → ended (lentOf n x1 x2 x3 x4 x5 x6 x7 x8 x9 x10 x11 x12) a ≡ step tol c (lentOf k y1 y2 y3 y4 y5 y6 y7 y8 y9 y10 y11 y12)
+      → ended (lentOf (counterBehind k a) x1 x2 x3 x4 x5 x6 x7 x8 x9 x10 x11 x12) a ≡ step tol c (lentOf k y1 y2 y3 y4 y5 y6 y7 y8 y9 y10 y11 y12)
+  counter-moved n e =
+      subst (λ i. ended (lentOf i x1 x2 x3 x4 x5 x6 x7 x8 x9 x10 x11 x12) a ≡ step tol c (lentOf k y1 y2 y3 y4 y5 y6 y7 y8 y9 y10 y11 y12))
+      (counted-on tol c (lentOf k y1 y2 y3 y4 y5 y6 y7 y8 y9 y10 y11 y12) (lentOf n x1 x2 x3 x4 x5 x6 x7 x8 x9 x10 x11 x12) a e) e
+
+  pub counter-told : ended (lentOf k x1 x2 x3 x4 x5 x6 x7 x8 x9 x10 x11 x12) a ≡ step tol c (lentOf k y1 y2 y3 y4 y5 y6 y7 y8 y9 y10 y11 y12)
+      → ended (lentOf (counterBehind k a) x1 x2 x3 x4 x5 x6 x7 x8 x9 x10 x11 x12) a ≡ step tol c (lentOf k y1 y2 y3 y4 y5 y6 y7 y8 y9 y10 y11 y12)
+  counter-told e = counter-moved k e
