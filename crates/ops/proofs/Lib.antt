@@ -1,7 +1,1 @@
-pub mod Keeping
-pub mod Relinking
-pub mod Removing
-pub mod Laying
-pub mod Claim
-pub mod Cases
-pub mod LaidCases
+pub mod Applies

@@ -1,7 +1,7 @@
 -- What the counter becomes follows from the answer, on any memory that is lent. Assumes nothing.
 use mathlib.Core.Path.{_≡_, refl, sym, ap, _∙_, subst}
 use Prim.Native.Nat.{ℕ, _≤_}
-use mathlib.Core.Bool.{Bool, true, false, cond}
+use mathlib.Core.Bool.{Bool, true, false, cond, _&&_}
 use mathlib.Core.List.{List}
 use mathlib.Core.Option.{Option, none, some}
 use lib.Dec.{leb}
@@ -18,7 +18,7 @@ use Rattle.tables.specs.Formed.{soundTables}
 use Rattle.store.specs.Store.{roomOf}
 use Rattle.report.specs.Report.{counterBehind, accepting}
 use Rattle.report.specs.declared.Answer.{Answer}
-use Rattle.step.specs.Step.{Lent, Ended, step, stateOf, listsOf, refusing, changing, lentOf, ended}
+use Rattle.step.specs.Step.{Lent, Ended, step, stateOf, listsOf, refusing, changing, ended}
 use Rattle.step.proofs.Steps.{step-unsound, step-refused, step-exhausted, step-decided}
 
 -- the state that an edit leaves
@@ -30,11 +30,10 @@ stateAfter l e = record { map = e .result; counter = O.counterAfter (l .counter)
 module _ (P : Ended → Type 0) (tol : Tolerance) (c : O.Command) (l : Lent) (no : (r : Refusal) → P (refusing l r))
     (yes : (e : E.Edited) → O.edit tol c (stateOf l) ≡ E.yield e → leb (O.counterAfter (l .counter) (e .ids)) lastCounter ≡ true
     → P (changing c l (stateAfter l e) (e .changes) (e .second))) where
-  by-tests : (e : E.Edited) → P (changing c l (stateAfter l e) (e .changes) (e .second)) → (room lists : Bool)
-      → P (cond room (cond lists (changing c l (stateAfter l e) (e .changes) (e .second)) (refusing l NoRoom)) (refusing l NoRoom))
-  by-tests e t true true = t
-  by-tests e t true false = no NoRoom
-  by-tests e t false lists = no NoRoom
+  by-tests : (e : E.Edited) → P (changing c l (stateAfter l e) (e .changes) (e .second)) → (fits : Bool)
+      → P (cond fits (changing c l (stateAfter l e) (e .changes) (e .second)) (refusing l NoRoom))
+  by-tests e t true = t
+  by-tests e t false = no NoRoom
 
   by-edit : soundTables (l .counter) (l .tables) ≡ true → (r : E.Res E.Edited) → O.edit tol c (stateOf l) ≡ r → P (step tol c l)
   by-edit h (E.refuse r) y = subst P (step-refused tol c l h r y) (no r)
@@ -43,7 +42,7 @@ module _ (P : Ended → Type 0) (tol : Tolerance) (c : O.Command) (l : Lent) (no
       ids : (b : Bool) → leb (O.counterAfter (l .counter) (e .ids)) lastCounter ≡ b → P (step tol c l)
       ids false i = subst P (step-exhausted tol c l h e y i) (no NoIds)
       ids true i =
-          subst P (sym (step-decided tol c l h e y i)) (by-tests e (yes e y i) (fitsRoom (roomOf (l .tables)) (e .result)) (O.fitsLists (listsOf l) (e .changes)))
+          subst P (sym (step-decided tol c l h e y i)) (by-tests e (yes e y i) (fitsRoom (roomOf (l .tables)) (e .result) && O.fitsLists (listsOf l) (e .changes)))
 
   pub step-cases : P (step tol c l)
   step-cases = sane (soundTables (l .counter) (l .tables)) refl
@@ -73,16 +72,11 @@ module _ (tol : Tolerance) (c : O.Command) (l : Lent) where
   pub counted-on : (after : Lent) (a : Answer) → ended after a ≡ step tol c l → after .counter ≡ counterBehind (l .counter) a
   counted-on after a e = subst (λ n. n .lent .counter ≡ counterBehind (l .counter) (n .answer)) (sym e) step-counter
 
--- What a call leaves but for its counter, which is the answer's.
-module _ (tol : Tolerance) (c : O.Command) (k : ℕ) (x1 x2 x3 x4 x5 x6 x7 : List ℕ) (x8 : List Float) (x9 x10 x11 x12 : List ℕ)
-    (y1 y2 y3 y4 y5 y6 y7 : List ℕ) (y8 : List Float) (y9 y10 y11 y12 : List ℕ) (a : Answer) where
-  -- whatever the counter was left at
-  pub counter-moved : (n : ℕ) → ended (lentOf n x1 x2 x3 x4 x5 x6 x7 x8 x9 x10 x11 x12) a ≡ step tol c (lentOf k y1 y2 y3 y4 y5 y6 y7 y8 y9 y10 y11 y12)
-      → ended (lentOf (counterBehind k a) x1 x2 x3 x4 x5 x6 x7 x8 x9 x10 x11 x12) a ≡ step tol c (lentOf k y1 y2 y3 y4 y5 y6 y7 y8 y9 y10 y11 y12)
-  counter-moved n e =
-      subst (λ i. ended (lentOf i x1 x2 x3 x4 x5 x6 x7 x8 x9 x10 x11 x12) a ≡ step tol c (lentOf k y1 y2 y3 y4 y5 y6 y7 y8 y9 y10 y11 y12))
-      (counted-on tol c (lentOf k y1 y2 y3 y4 y5 y6 y7 y8 y9 y10 y11 y12) (lentOf n x1 x2 x3 x4 x5 x6 x7 x8 x9 x10 x11 x12) a e) e
+-- the same lent memory with another counter
+abbrev pub withCounter : ℕ → Lent → Lent
+withCounter k l =
+    record { counter = k; tables = l .tables; created = l .created; modified = l .modified; deleted = l .deleted; warnings = l .warnings }
 
-  pub counter-told : ended (lentOf k x1 x2 x3 x4 x5 x6 x7 x8 x9 x10 x11 x12) a ≡ step tol c (lentOf k y1 y2 y3 y4 y5 y6 y7 y8 y9 y10 y11 y12)
-      → ended (lentOf (counterBehind k a) x1 x2 x3 x4 x5 x6 x7 x8 x9 x10 x11 x12) a ≡ step tol c (lentOf k y1 y2 y3 y4 y5 y6 y7 y8 y9 y10 y11 y12)
-  counter-told e = counter-moved k e
+-- What a call leaves, told with the counter that follows from its answer, whatever counter it was told with.
+pub counter-told : (tol : Tolerance) (c : O.Command) (l after : Lent) (a : Answer) → ended after a ≡ step tol c l → ended (withCounter (counterBehind (l .counter) a) after) a ≡ step tol c l
+counter-told tol c l after a e = ap (λ k. ended (withCounter k after) a) (sym (counted-on tol c l after a e)) ∙ e

@@ -18,9 +18,9 @@ use Rattle.report.specs.Report.{listed, warned}
 use Rattle.report.specs.declared.Answer.{Answer}
 use Rattle.report.specs.declared.Answer.the-variants.{Changed, Refused}
 use Rattle.store.specs.Store.{roomOf}
-use Rattle.edit.specs.Step.{Ended, ended, step}
-use Rattle.ops.specs.Run.{Held, Lending, lend, heldIn, mapIn, callOn, runTables, closings}
-use Rattle.ops.proofs.Claim.{demand-3-tables}
+use Rattle.step.specs.Step.{Ended, ended, step}
+use Rattle.step.specs.Run.{Held, Lending, lend, heldIn, mapIn, callOn, runTables, closings}
+use Rattle.step.proofs.Claim.{demand-3-tables}
 
 -- the definitions of lent memory, opened
 unfoldable opened-tables : ℕ

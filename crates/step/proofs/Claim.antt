@@ -8,11 +8,11 @@ use Rattle.rules.specs.Names.{Tolerance}
 use Rattle.rules.specs.Ops as O
 use Rattle.laws.proofs.Claim.{lawful}
 use Rattle.tables.specs.Formed.{soundTables}
-use Rattle.ops.specs.Run.{Held, Lending, TableDemand3}
-use Rattle.ops.proofs.Keeping.{Keeps, AllKeep, table-demand-3}
-use Rattle.ops.proofs.Relinking.{connect-keeps, disconnect-keeps, set-neighbor-keeps}
-use Rattle.ops.proofs.Removing.{remove-keeps}
-use Rattle.ops.proofs.Laying.{merge-keeps, split-keeps}
+use Rattle.step.specs.Run.{Held, Lending, TableDemand3}
+use Rattle.step.proofs.Keeping.{Keeps, AllKeep, table-demand-3}
+use Rattle.step.proofs.Relinking.{connect-keeps, disconnect-keeps, set-neighbor-keeps}
+use Rattle.step.proofs.Removing.{remove-keeps}
+use Rattle.step.proofs.Laying.{merge-keeps, split-keeps}
 
 -- every edit keeps lent memory
 pub keeps : (tol : Tolerance) (c : O.Command) → Keeps tol c

@@ -26,8 +26,8 @@ use Rattle.tables.specs.View.{Tables, view}
 use Rattle.tables.specs.Formed.{soundTables}
 use Rattle.store.specs.Laid.{laid}
 use Rattle.facts.proofs.Laid.{SameBeside, view-laid, lengths-laid, kept-laid}
-use Rattle.ops.proofs.Keeping.{Keeps, Writable, Writes, writes-keep}
-use Rattle.ops.proofs.Relinking.{goes-on}
+use Rattle.step.proofs.Keeping.{Keeps, Writable, Writes, writes-keep}
+use Rattle.step.proofs.Relinking.{goes-on}
 
 -- ---- a map laid out anew
 

@@ -11,16 +11,16 @@ use lib.ListN.{getD}
 use Rattle.rules.specs.Names.{Tolerance, Refusal, Unsound, NoRoom, NoIds}
 use Rattle.rules.specs.Sound.{Room, Lists, sound, fitsRoom, lastCounter}
 use Rattle.entities.specs.Records.{Map, ChangeSet}
-use Rattle.rules.specs.Edit.{Res, refuse, yield, Edited}
+use Rattle.rules.specs.Edit.{Res, refuse, yield, _>>=_, check, Edited}
 use Rattle.rules.specs.Ops as O
 use Rattle.rules.specs.Demand.{Told}
 use Rattle.laws.proofs.Law.{Lawful, AllLawful, step-kept, demand-3}
 use Rattle.tables.specs.View.{Tables, view}
 use Rattle.tables.specs.Formed.{soundTables}
 use Rattle.store.specs.Store.{roomOf}
-use Rattle.edit.specs.Step.{Lent, listsOf, callOf, stateOf, refusing, stored, changing, closing, step}
-use Rattle.edit.proofs.Steps.{sound-map}
-use Rattle.ops.specs.Run.{Held, Lending, lend, heldIn, mapIn, call, callOn, runTables, heldAfter, closings, lengthsOf, TableDemand3}
+use Rattle.step.specs.Step.{Lent, listsOf, callOf, stateOf, refusing, writing, changing, closing, step}
+use Rattle.facts.proofs.Found.{sound-map}
+use Rattle.step.specs.Run.{Held, Lending, lend, heldIn, mapIn, call, callOn, runTables, heldAfter, closings, lengthsOf, TableDemand3}
 
 -- ---- one call
 
@@ -79,23 +79,27 @@ not-accepted r cs second e = let z : _≡_ {A = ℕ} 0 1 = cc in nothing z
 finish-yields : (room : Room) (ls : Lists) (s : O.State) (cs : ChangeSet) (second : Option ℕ) (r : Res Edited) → O.finish room ls s r .answer ≡ O.accepted cs second
     → (e : Edited) × (r ≡ yield e) × (O.finish room ls s r .state ≡ O.acceptedAs s e .state) × (fitsRoom room (e .result) ≡ true)
 finish-yields room ls s cs second (refuse r) a = absurd (not-accepted r cs second a)
-finish-yields room ls s cs second (yield e) a =
-    go (leb (O.counterAfter (s .counter) (e .ids)) lastCounter) (fitsRoom room (e .result)) (O.fitsLists ls (e .changes)) refl a
+finish-yields room ls s cs second (yield e) a = settles (leb (O.counterAfter (s .counter) (e .ids)) lastCounter) (fitsRoom room (e .result)) refl a
   where
-    ending : Bool → Bool → O.Outcome
-    ending p q = cond p (cond q (O.acceptedAs s e) (O.refusedAs s NoRoom)) (O.refusedAs s NoIds)
+    Made : O.Outcome → Type 0
+    Made o = (d : Edited) × (_≡_ {A = Res Edited} (yield e) (yield d)) × (o .state ≡ O.acceptedAs s d .state) × (fitsRoom room (d .result) ≡ true)
 
-    go : (p f g : Bool) → fitsRoom room (e .result) ≡ f → ending p (f && g) .answer ≡ O.accepted cs second
-        → (d : Edited) × (_≡_ {A = Res Edited} (yield e) (yield d)) × (ending p (f && g) .state ≡ O.acceptedAs s d .state) × (fitsRoom room (d .result) ≡ true)
-    go true true true fits b = (e, refl, refl, fits)
-    go true true false fits b = absurd (not-accepted NoRoom cs second b)
-    go true false g fits b = absurd (not-accepted NoRoom cs second b)
-    go false f g fits b = absurd (not-accepted NoIds cs second b)
+    lists : fitsRoom room (e .result) ≡ true → (l : Bool) → O.outcomeOf s (check l NoRoom >>= (λ _. yield e)) .answer ≡ O.accepted cs second
+        → Made (O.outcomeOf s (check l NoRoom >>= (λ _. yield e)))
+    lists fits true b = (e, refl, refl, fits)
+    lists fits false b = absurd (not-accepted NoRoom cs second b)
+
+    settles : (p q : Bool) → fitsRoom room (e .result) ≡ q
+        → O.outcomeOf s (O.listable ls (check p NoIds >>= (λ _. (check q NoRoom >>= (λ _. yield e))))) .answer ≡ O.accepted cs second
+        → Made (O.outcomeOf s (O.listable ls (check p NoIds >>= (λ _. (check q NoRoom >>= (λ _. yield e))))))
+    settles false q fits b = absurd (not-accepted NoIds cs second b)
+    settles true false fits b = absurd (not-accepted NoRoom cs second b)
+    settles true true fits b = lists fits (O.fitsLists ls (e .changes)) b
 
 module _ (tol : Tolerance) (c : O.Command) (l : Lent) (s : soundTables (l .counter) (l .tables) ≡ true) (cs : ChangeSet) (second : Option ℕ)
     (a : outcome tol c l .answer ≡ O.accepted cs second) where
   -- what it leaves
-  pub closed-accepted : step tol c l ≡ changing c l (outcome tol c l .state) cs
+  pub closed-accepted : step tol c l ≡ changing c l (outcome tol c l .state) cs second
   closed-accepted = closed tol c l s ∙ ap (closing c l (outcome tol c l .state)) a
 
   -- the edit behind it, and that its result has room
@@ -130,7 +134,7 @@ Writable w counter t e =
 abbrev pub Writes : Tolerance → O.Command → Type 0
 Writes tol c =
     (counter : ℕ) (t : Tables) → soundTables counter t ≡ true → (e : Edited) → O.edit tol c (record { map = view t; counter = counter }) ≡ yield e
-    → Writable (stored c) counter t e
+    → Writable (writing c) counter t e
 
 -- A lawful command whose results can be written keeps lent memory.
 pub writes-keep : (tol : Tolerance) (c : O.Command) → Lawful tol c → Writes tol c → Keeps tol c
@@ -139,7 +143,7 @@ writes-keep tol c law writes l s cs second a =
     let sane = subst (λ x. sound (x .counter) (x .map) ≡ true) is
     (step-kept tol (roomOf (l .tables)) (callOf c l) (stateOf l) (sound-map (l .counter) (l .tables) s) law .sound-left) in
     let held = writes (l .counter) (l .tables) s e y sane fits in
-    subst (λ x. Kept l (outcome tol c l) (x .lent)) (sym (closed-accepted tol c l s cs second a ∙ ap (λ x. changing c l x cs) is))
+    subst (λ x. Kept l (outcome tol c l) (x .lent)) (sym (closed-accepted tol c l s cs second a ∙ ap (λ x. changing c l x cs second) is))
     (record {
       stays-sound = held .stays-sound;
       map-left = ap (λ m. record { map = m; counter = O.counterAfter (l .counter) (e .ids) }) (held .map-held) ∙ sym is;

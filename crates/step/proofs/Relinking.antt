@@ -6,6 +6,8 @@ use mathlib.Core.Option.{Option}
 use Prim.Native.Nat.{ℕ}
 use lib.Dec.{eqb}
 use lib.ListN.{length}
+use Rattle.entities.specs.declared.OptionNeighbor.{OptionNeighbor}
+use Rattle.entities.specs.Types.{neighborOption}
 use Rattle.entities.specs.Records.{Lane, Issue}
 use Rattle.rules.specs.Names.{Tolerance, Side, Neighbor, EntityRef, OwnPartner}
 use Rattle.rules.specs.Map.{neighborOn}
@@ -18,9 +20,9 @@ use Rattle.tables.specs.Formed.{soundTables}
 use Rattle.store.specs.Store.{store}
 use Rattle.facts.proofs.Stored.{store-mapped}
 use Rattle.facts.proofs.Kept.{links-few, length-kept, view-mapped, kept-mapped}
-use Rattle.edit.proofs.Steps.{sound-formed}
-use Rattle.ops.specs.Run.{lengthsOf}
-use Rattle.ops.proofs.Keeping.{Keeps, Holds, Writable, Writes, writes-keep}
+use Rattle.facts.proofs.Found.{sound-formed}
+use Rattle.step.specs.Run.{lengthsOf}
+use Rattle.step.proofs.Keeping.{Keeps, Holds, Writable, Writes, writes-keep}
 
 -- ---- lanes changed one by one, with their ids and centrelines left
 
@@ -66,9 +68,10 @@ module _ (tol : Tolerance) (a b : ℕ) where
       let (to, h2) = goes-on (require-lane (view t) b) _ e h1 in
       relinking-writable counter t s (linkOut a b) (λ l. refl) (λ l. refl) _ _ e h2
 
-set-neighbor-writes : (tol : Tolerance) (a : ℕ) (side : Side) (new : Option Neighbor) → Writes tol (O.SetNeighbor a side new)
+set-neighbor-writes : (tol : Tolerance) (a : ℕ) (side : Side) (new : OptionNeighbor) → Writes tol (O.SetNeighbor a side new)
 unfolding O.edit set-neighbor
-set-neighbor-writes tol a side new counter t s e h =
+set-neighbor-writes tol a side value counter t s e h =
+    let new = neighborOption value in
     let (l, h1) = goes-on (require-lane (view t) a) _ e h in
     let (ok, h2) = goes-on (require-neighbor (view t) a new) _ e h1 in
     let old = neighborOn side l in
@@ -80,5 +83,5 @@ connect-keeps tol a b = writes-keep tol (O.ConnectLanes a b) (connect-lawful tol
 pub disconnect-keeps : (tol : Tolerance) (a b : ℕ) → Keeps tol (O.DisconnectLanes a b)
 disconnect-keeps tol a b = writes-keep tol (O.DisconnectLanes a b) (disconnect-lawful tol a b) (disconnect-writes tol a b)
 
-pub set-neighbor-keeps : (tol : Tolerance) (a : ℕ) (side : Side) (new : Option Neighbor) → Keeps tol (O.SetNeighbor a side new)
+pub set-neighbor-keeps : (tol : Tolerance) (a : ℕ) (side : Side) (new : OptionNeighbor) → Keeps tol (O.SetNeighbor a side new)
 set-neighbor-keeps tol a side new = writes-keep tol (O.SetNeighbor a side new) (set-neighbor-lawful tol a side new) (set-neighbor-writes tol a side new)

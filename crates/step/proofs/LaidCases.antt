@@ -15,9 +15,9 @@ use Rattle.tables.specs.Formed.{allClear, spans, laneFormed, ruleFormed, formed
 use Rattle.store.specs.Store.{laneOnto, boundaryOnto, roadOnto, junctionOnto, ruleOnto, writes, packed, storeRows, store}
 use Rattle.store.specs.Laid.{placed, laneLaid, boundaryLaid, stopLaid, crosswalkLaid, laid}
 use Rattle.report.specs.Report.{listed, warned}
-use Rattle.report.specs.declared.Answer.the-variants.{Changed}
-use Rattle.edit.specs.Step.{ended, step}
-use Rattle.ops.specs.Run.{Held, Lending, lend, runTables, closings}
+use Rattle.report.specs.declared.Answer.the-variants.{Changed, Split}
+use Rattle.step.specs.Step.{ended, step}
+use Rattle.step.specs.Run.{Held, Lending, lend, runTables, closings}
 
 unfoldable opened-tables : ℕ
 unfolding allClear spans laneFormed ruleFormed formed soundTables part rows view reads over laneOf boundaryOf roadOf junctionOf ruleOf stopLineOf crosswalkOf laneOnto boundaryOnto roadOnto junctionOnto ruleOnto writes packed storeRows store placed laneLaid boundaryLaid stopLaid crosswalkLaid laid listed warned step runTables closings
@@ -100,7 +100,7 @@ whole-sound = refl
 pub split-and-merged :
     runTables preset (lending splits (replicate 6 0) (replicate 6 0) [] ∷ lending merges [] (replicate 6 0) (replicate 6 0) ∷ []) whole
     ≡ ended (lend halved (lending splits (0 ∷ 105 ∷ 1 ∷ 103 ∷ 1 ∷ 104 ∷ []) (0 ∷ 1 ∷ 1 ∷ 101 ∷ 1 ∷ 102 ∷ []) []))
-    (Changed (record { created = 3; modified = 3; deleted = 0; warnings = 0 }))
+    (Split (record { created = 3; modified = 3; deleted = 0; warnings = 0 }) 105)
     ∷ ended (lend rejoined (lending merges [] (0 ∷ 1 ∷ 1 ∷ 101 ∷ 1 ∷ 102 ∷ []) (0 ∷ 105 ∷ 1 ∷ 103 ∷ 1 ∷ 104 ∷ [])))
     (Changed (record { created = 0; modified = 3; deleted = 3; warnings = 0 }))
     ∷ []

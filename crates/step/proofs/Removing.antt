@@ -19,7 +19,7 @@ use Rattle.tables.specs.View.{Tables, view}
 use Rattle.tables.specs.Formed.{soundTables}
 use Rattle.store.specs.Store.{store}
 use Rattle.facts.proofs.Thinned.{Keeping, view-thinned, kept-thinned, lengths-thinned}
-use Rattle.ops.proofs.Keeping.{Keeps, Holds, Writable, Writes, writes-keep}
+use Rattle.step.proofs.Keeping.{Keeps, Holds, Writable, Writes, writes-keep}
 
 -- the ids that stay: of lanes, and of boundaries
 abbrev stays : ℕ → ℕ → Bool
