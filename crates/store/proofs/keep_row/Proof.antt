@@ -2,7 +2,7 @@
 use borrow.Author.Needs.{needs}
 use Rattle.store.proofs.keep_row.Statement.{statement}
 use Rattle.store.proofs.keep_row.Tie as tie
-use Prim.Native.Nat.{_+_, _*_, _≤_}
+use Prim.Native.Nat.{_+_, _*_}
 use native.Mathlib.Nat.{mul-le-mul-right}
 use native.Mathlib.Omega.{arith}
 use lib.ListN.{take, drop}

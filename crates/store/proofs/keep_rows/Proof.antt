@@ -2,8 +2,7 @@
 use Rattle.store.proofs.keep_rows.Statement.{statement}
 use Rattle.store.proofs.keep_rows.Tie as tie
 use lib.ListN.{length-set}
-use mathlib.Core.Path.{_≡_, sym, ap, _∙_}
-use Prim.Native.Nat.{_+_, _-_, _*_, _≤_}
+use Prim.Native.Nat.{_+_, _-_, _*_}
 use native.Mathlib.Omega.{arith}
 use Rattle.tables.specs.View.{word}
 use lib.Dec.{eqb}
