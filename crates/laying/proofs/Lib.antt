@@ -2,3 +2,4 @@ pub mod Columns
 pub mod Written
 pub mod Gathers
 pub mod Lines
+pub mod Standing
