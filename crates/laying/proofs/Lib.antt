@@ -3,3 +3,4 @@ pub mod Written
 pub mod Gathers
 pub mod Lines
 pub mod Standing
+pub mod Exact
