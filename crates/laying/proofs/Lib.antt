@@ -2,3 +2,5 @@ pub mod Columns
 pub mod Written
 pub mod Gathers
 pub mod Lines
+pub mod Standing
+pub mod Exact

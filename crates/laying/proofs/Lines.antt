@@ -4,13 +4,13 @@ use mathlib.Core.Path.{_≡_, refl, sym, ap, _∙_}
 use mathlib.Core.Logic.{⊎-elim}
 use Prim.Native.Nat.{ℕ, zero, suc, _+_, _-_, _*_, _/_, _≤_}
 use native.Mathlib.Omega.{arith}
-use mathlib.Core.Bool.{true}
+use mathlib.Core.Bool.{Bool, true, false, cond}
 use mathlib.Core.List.{List, [], _∷_, _++_, map, append-nil}
 use lib.Ieee.{Float}
 use lib.ListN.{length, take, drop}
 use lib.Seq.{take-take, take-at}
 use Rattle.lists.specs.Rows.{reads, over}
-use Rattle.lists.specs.Select.{each}
+use Rattle.lists.specs.Select.{keep, each}
 use Rattle.lists.proofs.Every.{all-nil, all-cons}
 use Rattle.lists.proofs.Rows.{drop-take, drop-from-over, take-before-over}
 use Rattle.polyline.specs.Polyline.{pointOf, points, flat}
@@ -36,6 +36,15 @@ pub each-of-map : {A B : Type 0} (F : B → Type 0) (g : A → B) (xs : List A) 
 unfolding EachOf
 each-of-map F g [] e = refl
 each-of-map F g (x ∷ xs) e = (e .0, each-of-map F g xs (e .1))
+
+pub each-of-keep : {A : Type 0} (F : A → Type 0) (p : A → Bool) (xs : List A) → EachOf F xs → EachOf F (keep p xs)
+unfolding EachOf keep
+each-of-keep F p [] e = refl
+each-of-keep F p (x ∷ xs) e = go (p x) (each-of-keep F p xs (e .1))
+  where
+    go : (b : Bool) → EachOf F (keep p xs) → EachOf F (cond b (x ∷ keep p xs) (keep p xs))
+    go true r = (e .0, r)
+    go false r = r
 
 flat-reads : (n : ℕ) (w : List Float) → length w ≡ n * 3 → flat (reads 3 pointOf n w) ≡ w
 unfolding reads pointOf flat
@@ -63,7 +72,7 @@ part-before {A} w l a k n h i = sym (cut (over w a l)) ∙ (ap (drop k) same ∙
 
 -- ---- lines in `work`
 
-length-part : (c : List Float) (start n : ℕ) → within (length c / 3) (record { start = start; size = n }) ≡ true → length (part c start n) ≡ n * 3
+pub length-part : (c : List Float) (start n : ℕ) → within (length c / 3) (record { start = start; size = n }) ≡ true → length (part c start n) ≡ n * 3
 unfolding laid each total
 length-part c start n h =
     let x : Span = record { start = start; size = n } in

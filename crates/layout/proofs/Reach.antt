@@ -1,5 +1,6 @@
 -- How far lines reach: one row after the other, one column after the other. Assumes nothing.
 use mathlib.Core.Path.{_≡_, refl, sym, ap, _∙_}
+use mathlib.Core.Logic.{⊎-elim}
 use mathlib.Core.Bool.{Bool, true, false, _&&_, _||_, cond}
 use mathlib.Core.List.{List, [], _∷_, _++_}
 use Prim.Native.Nat.{ℕ, suc, _+_, _-_, _*_, _/_, _≤_, _<_, min, max}
@@ -11,11 +12,12 @@ use lib.Seq.{drop-drop}
 use lib.Ieee.{Float}
 use borrow.Author.Tests.{eq-eqb, ne-eqb, le-leb}
 use Rattle.lists.specs.Every.{all}
-use Rattle.lists.proofs.Every.{all-nil, all-cons, all-head, all-split}
+use Rattle.lists.proofs.Every.{all-nil, all-cons, all-head, all-tail, all-split}
 use Rattle.lists.proofs.Booleans.{and-fst, and-snd}
 use Rattle.tables.specs.View.{Tables, word}
 use Rattle.tables.specs.Formed.{Span, spans}
 use Rattle.apart.specs.Marks.{within}
+use Rattle.apart.proofs.Marks.{within-cases}
 use Rattle.layout.specs.Layout.{Column, centerlines, lineOf, lines, lineTables, countedLines, linesFormed, endOf, reach, boundaryLines, stopLines, leftEdges, rightEdges}
 use Rattle.layout.proofs.Column.{linesIn, lines-in, lines-more, lines-none, row-line}
 use Rattle.layout.proofs.Room.{all-within-more, lines-facts}
@@ -62,6 +64,25 @@ within-reach (s ∷ ss) =
     first : (b : Bool) → eqb (s .size) 0 ≡ b → (b || leb (s .start + s .size) (max (cond b 0 (s .start + s .size)) (reach ss))) ≡ true
     first true e = refl
     first false e = le-leb (s .start + s .size) (max (s .start + s .size) (reach ss)) (omega arith)
+
+-- and reach no farther than the points among which they lie
+pub reach-least : (n : ℕ) (ss : List Span) → all (within n) ss ≡ true → reach ss ≤ n
+unfolding reach
+reach-least n [] h = omega arith
+reach-least n (s ∷ ss) h =
+    let a = reach-least n ss (all-tail (within n) s ss h) in
+    let b : endOf s ≤ n = ⊎-elim none some (within-cases n s (all-head (within n) s ss h)) in
+    omega arith
+  where
+    none : s .size ≡ 0 → endOf s ≤ n
+    none e = rw (eq-eqb (s .size) 0 e) (omega arith)
+
+    some : s .start + s .size ≤ n → endOf s ≤ n
+    some e = go (eqb (s .size) 0)
+      where
+        go : (b : Bool) → cond b 0 (s .start + s .size) ≤ n
+        go true = omega arith
+        go false = e
 
 -- ---- rows
 

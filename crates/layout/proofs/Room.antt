@@ -79,7 +79,7 @@ clear-room n ss h c =
 
 -- ---- formed tables can be laid out
 
-within-more : (m n : ℕ) → m ≤ n → (s : Span) → within m s ≡ true → within n s ≡ true
+pub within-more : (m n : ℕ) → m ≤ n → (s : Span) → within m s ≡ true → within n s ≡ true
 within-more m n l s h =
     ⊎-elim (λ e. rw (eq-eqb (s .size) 0 e)) (λ i. rw (le-leb (s .start + s .size) n (omega arith)) (or-true (eqb (s .size) 0))) (within-cases m s h)
 
@@ -108,7 +108,7 @@ lines-gatherable work t h f = let l = lines-facts t h in record { counts = l .co
 -- ---- `work` begins with the coordinates
 
 -- lists that agree in their first m elements agree in each part of them
-same-part : {A : Type 0} (m a b : ℕ) (x y : List A) → take m x ≡ take m y → a + b ≤ m → take b (drop a x) ≡ take b (drop a y)
+pub same-part : {A : Type 0} (m a b : ℕ) (x y : List A) → take m x ≡ take m y → a + b ≤ m → take b (drop a x) ≡ take b (drop a y)
 same-part {A} m a b x y e h = from x ∙ ap (λ v. drop a (take (a + b) v)) e ∙ sym (from y)
   where
     from : (z : List A) → take b (drop a z) ≡ drop a (take (a + b) (take m z))

@@ -130,7 +130,7 @@ placed-spans line at (r ∷ rs) =
 
 -- records written into a table: what is read from it, its count, its length
 module _ {R : Type 0} (s : ℕ) (onto : List ℕ → R → List ℕ) (ok : List ℕ → R → Type 0) (long : (w : List ℕ) → length w ≡ s → (r : R) → ok w r → length (onto w r) ≡ s) where
-  writes-read : {B : Type 0} (dec : List ℕ → B) (f : R → B) → ((w : List ℕ) → length w ≡ s → (r : R) → ok w r → dec (onto w r) ≡ f r)
+  pub writes-read : {B : Type 0} (dec : List ℕ → B) (f : R → B) → ((w : List ℕ) → length w ≡ s → (r : R) → ok w r → dec (onto w r) ≡ f r)
       → (w : List ℕ) (rs : List R) → length rs * s ≤ length w → RowsFit s ok w rs → reads s dec (length rs) (writes s onto w rs) ≡ map f rs
   unfolding writes reads RowsFit
   writes-read dec f back w [] l h = refl
@@ -142,7 +142,7 @@ module _ {R : Type 0} (s : ℕ) (onto : List ℕ → R → List ℕ) (ok : List 
       let rest = writes s onto (drop s w) rs in
       rw (take-at (onto (take s w) r) rest s a, drop-at (onto (take s w) r) rest s a, b, writes-read dec f back (drop s w) rs j (h .1))
 
-  writes-length : (w : List ℕ) (rs : List R) → length rs * s ≤ length w → RowsFit s ok w rs → length (writes s onto w rs) ≡ length w
+  pub writes-length : (w : List ℕ) (rs : List R) → length rs * s ≤ length w → RowsFit s ok w rs → length (writes s onto w rs) ≡ length w
   unfolding writes RowsFit
   writes-length w [] l h = refl
   writes-length w (r ∷ rs) l h =

@@ -9,3 +9,4 @@ pub mod Lists
 pub mod Turns
 pub mod LaidRows
 pub mod LaidTables
+pub mod Growing

@@ -98,12 +98,12 @@ module _ (s : ℕ) (q : ℕ → Bool) (t : List ℕ) where
       ∙ ap (map dec) (keep-same (λ r. q (key (dec r))) (λ r. q (word 0 r)) (rows s (λ r. r) t) (λ r. ap q (same r))))
 
   -- the filter of `packed` looks at ids alone
-  kept-packed : packed s (map (λ r. word 0 r) keptOnes) (word 0 t) (drop 1 t) ≡ keptWords
+  pub kept-packed : packed s (map (λ r. word 0 r) keptOnes) (word 0 t) (drop 1 t) ≡ keptWords
   unfolding packed rows
   kept-packed = ap (λ z. over (drop 1 t) 0 (each (λ r. r) z)) (keep-keyed (λ (r : List ℕ). word 0 r) q (reads s (λ r. r) (word 0 t) (drop 1 t)))
 
   module _ (room : word 0 t * s ≤ length (drop 1 t)) where
-    words-read : {B : Type 0} (dec : List ℕ → B) → reads s dec (length keptOnes) keptWords ≡ map dec keptOnes
+    pub words-read : {B : Type 0} (dec : List ℕ → B) → reads s dec (length keptOnes) keptWords ≡ map dec keptOnes
     unfolding over rows
     words-read dec =
         let rs = reads s (λ r. r) (word 0 t) (drop 1 t) in

@@ -11,7 +11,7 @@ use lib.ListN.{length, getD, set, take, drop, length-append, length-drop}
 use lib.Seq.{getD-take, getD-drop, drop-drop, drop-cons, length-take-le}
 use Rattle.lists.specs.Rows.{reads, over}
 use Rattle.lists.specs.Select.{keep, each}
-use Rattle.lists.proofs.Rows.{over-nil, over-over, drop-over, length-reads, length-over}
+use Rattle.lists.proofs.Rows.{over-nil, over-over, drop-over, length-reads, length-over, row-within}
 use Rattle.lists.proofs.Select.{keep-append, each-append, length-keep}
 use Rattle.tables.specs.View.{word, rows}
 use Rattle.store.specs.Rows.{keptRows}
@@ -97,11 +97,11 @@ at-least zero s h = omega arith
 at-least (suc i) s h = let r = at-least i s h in omega arith
 
 -- a row that stays, and one that goes
-pub row-kept : {A B : Type 0} (b c : Bool) (x y : A) (v w u : B) → b ≡ c → b ≡ true → v ≡ w → (x ≡ cond c x y) × (v ≡ cond c w u)
-row-kept b c x y v w u e t f = let z : c ≡ true = sym e ∙ t in rw z (refl, f)
+pub row-kept : {A B : Type 0} (b : Bool) (x y : A) (v w u : B) → b ≡ true → v ≡ w → (x ≡ cond b x y) × (v ≡ cond b w u)
+row-kept b x y v w u t f = rw t (refl, f)
 
-pub row-gone : {A B : Type 0} (b c : Bool) (x y : A) (w u : B) → b ≡ c → b ≡ false → (y ≡ cond c x y) × (u ≡ cond c w u)
-row-gone b c x y w u e t = let z : c ≡ false = sym e ∙ t in rw z (refl, refl)
+pub row-gone : {A B : Type 0} (b : Bool) (x y : A) (w u : B) → b ≡ false → (y ≡ cond b x y) × (u ≡ cond b w u)
+row-gone b x y w u t = rw t (refl, refl)
 
 -- ---- the loop
 
@@ -138,6 +138,10 @@ module _ (s : ℕ) (q : ℕ → Bool) (t₀ : List ℕ) (room : 1 + word 0 t₀ 
         let b : 0 + length (stayWords s q w n) ≤ length w = omega (arith, words-few, words-room) in
         ap length (m .words) ∙ (ap suc (length-over w 0 (stayWords s q w n) b) ∙ sym (ap length (drop-cons t₀ 0 0 (omega arith))))
 
+    -- the next row lies in the table
+    pub next-inside : n < word 0 t₀ → 1 + n * s + s ≤ length t
+    next-inside h = omega (arith, moved-length, row-within n (word 0 t₀) s h, room)
+
     -- the rows that are not looked at yet are where they were
     pub row-there : take s (drop (1 + n * s) t) ≡ take s (drop (n * s) w)
     row-there =
@@ -170,31 +174,20 @@ module _ (s : ℕ) (q : ℕ → Bool) (t₀ : List ℕ) (room : 1 + word 0 t₀ 
           words = m .words ∙ ap (λ z. word 0 t₀ ∷ over w 0 (each (λ r. r) z)) (sym (stay-off s q w n e));
         }
 
-    -- one turn
-    pub moved-turn : 0 < s → n < word 0 t₀ → (v : List ℕ) (r : ℕ) → r ≡ cond (q (word (1 + n * s) t)) (kept + 1) kept
-        → v ≡ cond (q (word (1 + n * s) t)) (over t (1 + kept * s) (take s (drop (1 + n * s) t))) t → Moved s q t₀ v (n + 1) r
-    moved-turn p h v r e f = go (q (getD (take s (drop (n * s) w)) 0 0)) refl
-      where
-        key : word (1 + n * s) t ≡ getD (take s (drop (n * s) w)) 0 0
-        key =
-            let z : 1 + n * s + 0 ≡ 1 + n * s = omega arith in
-            ap (λ k. getD t k 0) (sym z)
-            ∙ (sym (getD-drop (1 + n * s) t 0 0) ∙ (sym (getD-take s (drop (1 + n * s) t) 0 0 p) ∙ ap (λ x. getD x 0 0) row-there))
+    key : 0 < s → word (1 + n * s) t ≡ getD (take s (drop (n * s) w)) 0 0
+    key p =
+        let z : 1 + n * s + 0 ≡ 1 + n * s = omega arith in
+        ap (λ k. getD t k 0) (sym z)
+        ∙ (sym (getD-drop (1 + n * s) t 0 0) ∙ (sym (getD-take s (drop (1 + n * s) t) 0 0 p) ∙ ap (λ x. getD x 0 0) row-there))
 
-        moved : (y : List ℕ) (z : ℕ) → v ≡ y → r ≡ z → Moved s q t₀ y (n + 1) z → Moved s q t₀ v (n + 1) r
-        moved y z a b k = subst (λ x. Moved s q t₀ x (n + 1) r) (sym a) (subst (λ x. Moved s q t₀ y (n + 1) x) (sym b) k)
+    moved : (v : List ℕ) (r : ℕ) (y : List ℕ) (z : ℕ) → v ≡ y → r ≡ z → Moved s q t₀ y (n + 1) z → Moved s q t₀ v (n + 1) r
+    moved v r y z a b k = subst (λ x. Moved s q t₀ x (n + 1) r) (sym a) (subst (λ x. Moved s q t₀ y (n + 1) x) (sym b) k)
 
-        go : (b : Bool) → q (getD (take s (drop (n * s) w)) 0 0) ≡ b → Moved s q t₀ v (n + 1) r
-        go true b =
-            let g : q (word (1 + n * s) t) ≡ true = ap q key ∙ b in
-            let x : v ≡ over t (1 + kept * s) (take s (drop (1 + n * s) t)) = f ∙ ap (λ c. cond c (over t (1 + kept * s) (take s (drop (1 + n * s) t))) t) g in
-            let y : r ≡ kept + 1 = e ∙ ap (λ c. cond c (kept + 1) kept) g in
-            moved (over t (1 + kept * s) (take s (drop (1 + n * s) t))) (kept + 1) x y (moved-on h b)
-        go false b =
-            let g : q (word (1 + n * s) t) ≡ false = ap q key ∙ b in
-            let x : v ≡ t = f ∙ ap (λ c. cond c (over t (1 + kept * s) (take s (drop (1 + n * s) t))) t) g in
-            let y : r ≡ kept = e ∙ ap (λ c. cond c (kept + 1) kept) g in
-            moved t kept x y (moved-off h b)
+    -- THE LAW: one turn, whatever tested the row's id
+    pub moved-turn : 0 < s → n < word 0 t₀ → (b : Bool) → b ≡ q (word (1 + n * s) t) → (v : List ℕ) (r : ℕ) → r ≡ cond b (kept + 1) kept
+        → v ≡ cond b (over t (1 + kept * s) (take s (drop (1 + n * s) t))) t → Moved s q t₀ v (n + 1) r
+    moved-turn p h true c v r e f = moved v r _ _ f e (moved-on h (sym (c ∙ ap q (key p))))
+    moved-turn p h false c v r e f = moved v r _ _ f e (moved-off h (sym (c ∙ ap q (key p))))
 
     pub moved-all : word 0 t₀ ≤ n → set t 0 kept ≡ keptRows s q t₀
     unfolding keptRows rows

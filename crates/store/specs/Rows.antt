@@ -1,5 +1,5 @@
 -- Rows of a table changed one by one, in words. Nothing that a host calls rests on this page.
-use Prim.Native.Nat.{ℕ, zero, suc}
+use Prim.Native.Nat.{ℕ, zero, suc, _+_, _*_}
 use mathlib.Core.Bool.{Bool, not, _||_, cond}
 use mathlib.Core.List.{List, [], _∷_, _++_}
 use mathlib.Core.Option.{Option, none, some}
@@ -9,7 +9,7 @@ use Rattle.lists.specs.Rows.{over}
 use Rattle.lists.specs.Select.{keep, each}
 use Rattle.entities.specs.declared.Neighbor.{Neighbor}
 use Rattle.tables.specs.View.{word, rows}
-use Rattle.store.specs.Store.{directionMark}
+use Rattle.store.specs.Store.{directionMark, writes}
 
 -- the first n rows of s words, each changed by g; what lies behind them stays
 unfoldable pub mapRows : ℕ → (List ℕ → List ℕ) → ℕ → List ℕ → List ℕ
@@ -27,6 +27,13 @@ stays a b i = not (eqb i a || eqb i b)
 -- the rows whose ids pass, with all their words, at the front of a table; what lies behind them stays
 unfoldable pub keptRows : ℕ → (ℕ → Bool) → List ℕ → List ℕ
 keptRows s q t = let rs = keep (λ r. q (word 0 r)) (rows s (λ r. r) t) in length rs ∷ over (drop 1 t) 0 (each (λ r. r) rs)
+
+-- records written onto the words behind a table's last row, and counted; the rows that are there stay, and what lies behind the new ones
+unfoldable pub appendedRows : {R : Type 0} → ℕ → (List ℕ → R → List ℕ) → List R → List ℕ → List ℕ
+appendedRows s onto rs t =
+    let n = word 0 t in
+    let w = drop 1 t in
+    (n + length rs) ∷ take (n * s) w ++ writes s onto (drop (n * s) w) rs
 
 -- a change of the row of lane `id`
 abbrev pub keyed : ℕ → (List ℕ → List ℕ) → List ℕ → List ℕ

@@ -1,10 +1,10 @@
-// How a map is written back into lent memory: the definitions and their theorems, and the two moves of words that edits share.
+// How a map is written back into lent memory: the definitions and their theorems, and the moves of words that edits share.
 ghost use mathlib.Core.Path.{_≡_};
-ghost use mathlib.Core.Bool.{cond};
+ghost use mathlib.Core.Bool.{not, cond};
 ghost use Prim.Native.Nat.{_+_, _*_, _≤_, _<_};
 ghost use lib.ListN.{length, take, drop};
 ghost use Rattle.lists.specs.Rows.{over};
-ghost use Rattle.lists.specs.Select.{without};
+ghost use Rattle.lists.specs.Select.{without, has};
 ghost use Rattle.tables.specs.View.{word, idsAt};
 ghost use Rattle.store.specs.Rows.{setList, stays, keptRows};
 use lists::both;
@@ -21,15 +21,13 @@ pub fn forget(row: &mut [u64], k: usize, id: u64)
     row[k] = left as u64;
 }
 
-// Row i moved down to row `kept`, unless its id is one of two; how many rows are kept then.
-fn keep_row(t: &mut [u64], s: usize, a: u64, b: u64, i: usize, kept: usize) -> usize
+// Row i moved down to row `kept` if it stays; how many rows are kept then.
+fn keep_row(t: &mut [u64], s: usize, stay: bool, i: usize, kept: usize) -> usize
     requires { ⌜ (0 < s) × ((1 + i * s + s ≤ length (now t)) × (kept ≤ i)) ⌝ }
-    ensures { λ r. ⌜ (r ≡ cond (stays a b (word (1 + i * s) (now (t .entry)))) (kept + 1) kept) × (now (t .exit) ≡ cond (stays a b (word (1 + i * s) (now (t .entry)))) (over (now (t .entry)) (1 + kept * s) (take s (drop (1 + i * s) (now (t .entry))))) (now (t .entry))) ⌝ }
+    ensures { λ r. ⌜ (r ≡ cond stay (kept + 1) kept) × (now (t .exit) ≡ cond stay (over (now (t .entry)) (1 + kept * s) (take s (drop (1 + i * s) (now (t .entry))))) (now (t .entry))) ⌝ }
 {
-    let from = 1 + i * s;
-    let id = t[from];
-    if both(id != a, id != b) {
-        lists::move_down(t, 1 + kept * s, from, s);
+    if stay {
+        lists::move_down(t, 1 + kept * s, 1 + i * s, s);
         return kept + 1;
     }
     kept
@@ -44,7 +42,25 @@ pub fn keep_rows(t: &mut [u64], s: usize, a: u64, b: u64)
     let mut i = 0;
     let mut kept = 0;
     while i < n {
-        kept = keep_row(t, s, a, b, i, kept);
+        let id = t[1 + i * s];
+        kept = keep_row(t, s, both(id != a, id != b), i, kept);
+        i += 1;
+    }
+    t[0] = kept as u64;
+}
+
+// The rows whose ids are not among `gone`, moved to the front of a table; what lies behind them stays.
+pub fn drop_rows(t: &mut [u64], s: usize, gone: &[u64])
+    requires { ⌜ (0 < s) × (1 + word 0 (now t) * s ≤ length (now t)) ⌝ }
+    ensures { λ _. ⌜ now (t .exit) ≡ keptRows s (λ i. not (has i (now (gone .entry)))) (now (t .entry)) ⌝ }
+{
+    let n = t[0] as usize;
+    let mut i = 0;
+    let mut kept = 0;
+    while i < n {
+        let id = t[1 + i * s];
+        let stay = !lists::contains(gone, id);
+        kept = keep_row(t, s, stay, i, kept);
         i += 1;
     }
     t[0] = kept as u64;
