@@ -1,0 +1,26 @@
+use borrow.Author.Needs.{needs}
+use Rattle.words.proofs.word.Statement.{statement}
+use Rattle.words.proofs.word.Tie as tie
+use Rattle.words.proofs.word.Reads as reads
+use Rattle.words.proofs.word.Lts as lts
+use mathlib.Core.Path.{_≡_, refl, sym, ap, _∙_}
+use Rattle.words.proofs.Numbers.{past-end}
+
+-- src/lib.rt:56:16
+mul-result : tie.Need-mul-result
+mul-result c = search needs
+
+-- src/lib.rt:56:16
+shared-slice-read-result : tie.Need-shared-slice-read-result
+shared-slice-read-result c = search needs
+
+-- src/lib.rt:56:9
+returns : tie.Need-returns
+returns c = search needs
+
+-- src/lib.rt:52:1
+returns-2 : tie.Need-returns-2
+returns-2 c = past-end (c .before .args .row .now) (c .before .args .k) (c .if1 .left)
+
+pub word-spec : {M : Type 1} → statement M
+word-spec = tie.close (tie.spec mul-result shared-slice-read-result returns returns-2)
