@@ -4,3 +4,4 @@ pub mod Rows
 pub mod Select
 pub mod Turns
 pub mod Place
+pub mod Growing
