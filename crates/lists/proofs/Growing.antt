@@ -9,7 +9,7 @@ use mathlib.Core.Option.{Option, none, some}
 use lib.Dec.{eqb}
 use lib.ListN.{length, getD, set, take, drop, length-append, length-map, take-append-drop, drop-of-length-le}
 use lib.Seq.{length-take-le, take-all, take-suc, take-take, getD-take}
-use borrow.Author.Tests.{eqb-true, eqb-false, eq-eqb, ne-eqb}
+use borrow.Author.Tests.{eq-eqb, ne-eqb}
 use Rattle.lists.specs.declared.Found.{Found}
 use Rattle.lists.specs.declared.Moved.{Moved}
 use Rattle.lists.specs.declared.Found.the-variants.{At, Nothing}

@@ -2,7 +2,7 @@
 use borrow.Author.Needs.{needs}
 use Rattle.polyline.proofs.shared_ends.Statement.{statement}
 use Rattle.polyline.proofs.shared_ends.Tie as tie
-use Rattle.polyline.specs.Polyline.{skipped, meeting}
+use Rattle.polyline.specs.Polyline.{skipped}
 
 last-requires : tie.Need-last-requires
 last-requires c κs = search needs
