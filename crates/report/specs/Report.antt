@@ -1,4 +1,4 @@
--- A change set in the slices lent for it: design, "Answers".
+-- A change set in the slices lent for it.
 use Prim.Native.Nat.{ℕ, suc, _+_, _*_, _/_}
 use mathlib.Core.Bool.{Bool, true, _&&_}
 use mathlib.Core.List.{List, [], _∷_, _++_}
