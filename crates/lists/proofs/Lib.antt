@@ -5,3 +5,4 @@ pub mod Select
 pub mod Turns
 pub mod Place
 pub mod Same
+pub mod Growing

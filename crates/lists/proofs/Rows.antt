@@ -4,17 +4,18 @@ use Prim.Native.Nat.{ℕ, zero, suc, _+_, _-_, _*_, _/_, _≤_, _<_}
 use native.Mathlib.Nat.{le-of-suc-le-suc, not-suc-le-zero, zero-mul, add-zero, mul-le-mul-right, eq-or-lt-of-le}
 use native.Mathlib.Numerals.{add-one}
 use native.Mathlib.Omega.{arith}
-use mathlib.Core.Bool.{Bool, true, false, cond}
+use mathlib.Core.Bool.{Bool, true, false, _||_, cond}
 use mathlib.Core.Logic.{_⊎_, inl, inr, ⊎-elim}
 use mathlib.Core.List.{List, [], _∷_, _++_, map, append-assoc}
 use lib.ListN.{length, getD, set, take, drop, length-append, length-drop, take-append-drop, List·getD-append}
 use lib.Seq.{drop-drop, take-take, take-nil, take-add, length-take-le, take-at, drop-at, sets-eq}
-use lib.Seq.{getD-take, getD-drop, take-suc, drop-cons, append-snoc, set-at}
-use lib.Dec.{ltb}
-use borrow.Author.Tests.{eq-eqb, ne-eqb, ltb-true, ltb-false}
+use lib.Seq.{getD-take, getD-drop, take-suc, drop-cons, append-snoc, set-at, set-getD}
+use lib.Dec.{eqb, ltb}
+use borrow.Author.Tests.{eqb-true, eqb-false, eq-eqb, ne-eqb, ltb-true, ltb-false}
+use Rattle.lists.specs.declared.Found.{Found}
 use Rattle.lists.specs.declared.Found.the-variants.{At, Nothing}
-use Rattle.lists.specs.Select.{ascending}
-use Rattle.lists.specs.Rows.{reads, over, keys, rowWith, Among}
+use Rattle.lists.specs.Select.{has, ascending}
+use Rattle.lists.specs.Rows.{reads, over, keys, later, rowWith, Among}
 use Rattle.lists.proofs.Select.{ascending-places, ascending-from}
 
 pub drop-take : {A : Type 0} (m n : ℕ) (l : List A) → drop m (take n l) ≡ take (n - m) (drop m l)
@@ -134,6 +135,18 @@ module _ {A : Type 0} where
   unfolding over
   take-before-over w a l h = take-at (take a w) (l ++ drop (a + length l) w) a (length-take-le a w h)
 
+  -- a list written in front of another
+  pub over-ahead : (w : List A) (a n : ℕ) (l m : List A) → a + length l ≡ n → n + length m ≤ length w → over (over w n m) a l ≡ over w a (l ++ m)
+  over-ahead w a n l m e h =
+      let i : n ≤ length w = omega arith in
+      let j : a ≤ n = omega arith in
+      let k : n + length m ≡ a + length (l ++ m) = rw length-append (omega arith) in
+      let t : take a (over w n m) ≡ take a w = sym (take-take a n (over w n m) j) ∙ ap (take a) (take-before-over w n m i) ∙ take-take a n w j in
+      joined (over w n m) t (drop-from-over w n m i ∙ ap (λ (q : ℕ). m ++ drop q w) k)
+    where
+      joined : (v : List A) → take a v ≡ take a w → drop n v ≡ m ++ drop (a + length (l ++ m)) w → over v a l ≡ over w a (l ++ m)
+      joined v t d = unfold over in rw (t, e, d, append-assoc l m)
+
   -- a list written at the front
   pub over-front : (w : List A) (a : ℕ) (l : List A) → a ≤ length w → over w a l ≡ over w 0 (take a w ++ l)
   unfolding over
@@ -176,6 +189,17 @@ module _ {A : Type 0} where
       let i : a + length l ≤ length w = omega arith in
       let e : a + length (l ++ (x ∷ [])) ≡ suc m = rw length-append (omega arith) in
       rw (e, q, drop-cons w m x h, ← append-assoc (take a w) l, set-at (take a w ++ l) (getD w m x) (drop (suc m) w) x m (front w a l i ∙ q), append-assoc (take a w) l, append-snoc l)
+
+  -- one store, and one id more that is there already
+  pub store-at : (w : List A) (a : ℕ) (x : A) → a < length w → set w a x ≡ over w a (x ∷ [])
+  store-at w a x h = ap (λ (v : List A). set v a x) (sym (over-nil w (a + 1))) ∙ store-before w a [] x (omega arith)
+
+  pub over-kept : (w : List A) (a : ℕ) (l : List A) (d : A) → a + 1 + length l ≤ length w → over w (a + 1) l ≡ over w a (getD w a d ∷ l)
+  over-kept w a l d h =
+      let i : a < a + 1 = omega arith in
+      let j : a + 1 ≤ length w = omega arith in
+      let e : getD (over w (a + 1) l) a d ≡ getD w a d = getD-over-before w (a + 1) l a d i j in
+      sym (set-getD (over w (a + 1) l) a d) ∙ ap (set (over w (a + 1) l) a) e ∙ store-before w a l (getD w a d) h
 
   -- one store behind the first n
   pub store-end : (w : List A) (n : ℕ) (x : A) → n < length w → set w n x ≡ over w 0 (take n w ++ (x ∷ []))
@@ -224,6 +248,12 @@ unfolding keys
 key-at s n i w p h =
     getD-reads s (λ (r : List ℕ). getD r 0 0) n i w 0 h ∙ getD-take s (drop (i * s) w) 0 0 p ∙ rw (getD-drop, add-zero)
 
+-- rows of one word are their keys
+pub keys-one : (w : List ℕ) → keys 1 (length w) w ≡ w
+unfolding keys reads
+keys-one [] = refl
+keys-one (x ∷ w) = ap (λ (ks : List ℕ). x ∷ ks) (keys-one w)
+
 -- a number that is no key has no row
 pub row-none : (x : ℕ) (ks : List ℕ) → ((k : ℕ) → k < length ks → getD ks k 0 ≡ x → ⊥) → rowWith x ks ≡ Nothing
 unfolding rowWith
@@ -252,6 +282,49 @@ row-between x m ks below above = row-none x ks (λ k l e. side k l e (ltb k m) r
     side : (k : ℕ) → k < length ks → getD ks k 0 ≡ x → (b : Bool) → ltb k m ≡ b → ⊥
     side k l e true t = omega (arith, below k (ltb-true k m t))
     side k l e false t = omega (arith, above k (ltb-false k m t) l)
+
+-- a row that is found is one of the rows and has the key; where none is found no row has it
+pub found-within : (x : ℕ) (ks : List ℕ) (j : ℕ) → rowWith x ks ≡ At j → j < length ks
+unfolding rowWith
+found-within x [] j e = let z : _≡_ {A = ℕ} 0 1 = cc in omega arith
+found-within x (k ∷ ks) j e = go (eqb k x) (rowWith x ks) (λ i q. found-within x ks i q) e
+  where
+    go : (b : Bool) (r : Found) → ((i : ℕ) → r ≡ At i → i < length ks) → cond b (At 0) (later r) ≡ At j → j < suc (length ks)
+    go true r q f = let z : j ≡ 0 = cc in omega arith
+    go false (At i) q f = let z : j ≡ suc i = cc in omega (arith, q i refl)
+    go false Nothing q f = let z : _≡_ {A = ℕ} 0 1 = cc in omega arith
+
+pub found-key : (x : ℕ) (ks : List ℕ) (j : ℕ) → rowWith x ks ≡ At j → getD ks j 0 ≡ x
+unfolding rowWith
+found-key x [] j e = let z : _≡_ {A = ℕ} 0 1 = cc in absurd (omega arith)
+found-key x (k ∷ ks) j e = go (eqb k x) refl (rowWith x ks) (λ i q. found-key x ks i q) e
+  where
+    go : (b : Bool) → eqb k x ≡ b → (r : Found) → ((i : ℕ) → r ≡ At i → getD ks i 0 ≡ x) → cond b (At 0) (later r) ≡ At j → getD (k ∷ ks) j 0 ≡ x
+    go true p r q f = let z : j ≡ 0 = cc in rw z (eqb-true k x p)
+    go false p (At i) q f = let z : j ≡ suc i = cc in rw z (q i refl)
+    go false p Nothing q f = let z : _≡_ {A = ℕ} 0 1 = cc in absurd (omega arith)
+
+abbrev pub there : Found → Bool
+there (At j) = true
+there Nothing = false
+
+pub found-has : (x : ℕ) (ks : List ℕ) → has x ks ≡ there (rowWith x ks)
+unfolding has rowWith
+found-has x [] = refl
+found-has x (k ∷ ks) = go (eqb k x) refl (rowWith x ks) (found-has x ks)
+  where
+    go : (b : Bool) → eqb k x ≡ b → (r : Found) → has x ks ≡ there r → (eqb x k || has x ks) ≡ there (cond b (At 0) (later r))
+    go true e r h = rw (eq-eqb x k (sym (eqb-true k x e)))
+    go false e (At j) h = rw (ne-eqb x k (λ q. eqb-false k x e (sym q)), h)
+    go false e Nothing h = rw (ne-eqb x k (λ q. eqb-false k x e (sym q)), h)
+
+-- the same of a search among rows of one word
+module _ (x : ℕ) (ks : List ℕ) (r : Found) (e : r ≡ rowWith x (keys 1 (length ks) ks)) where
+  pub one-found : rowWith x ks ≡ r
+  one-found = sym (e ∙ ap (rowWith x) (keys-one ks))
+
+  pub one-has : has x ks ≡ there r
+  one-has = found-has x ks ∙ ap there one-found
 
 -- ---- a search by halves
 

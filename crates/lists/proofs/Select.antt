@@ -8,14 +8,14 @@ use mathlib.Core.Bool.{Bool, true, false, not, _&&_, _||_, cond, true≢false}
 use mathlib.Core.List.{List, [], _∷_, _++_, map, append-nil, append-assoc}
 use mathlib.Core.Option.{Option, none, some}
 use lib.Dec.{eqb, ltb}
-use lib.ListN.{length, getD, take, drop, drop-of-length-le}
+use lib.ListN.{length, getD, take, drop, drop-of-length-le, length-append}
 use lib.Seq.{drop-cons, take-suc}
 use native.Mathlib.Omega.{arith}
 use borrow.Author.Tests.{eqb-true, eqb-false, eq-eqb, ne-eqb, ltb-true, lt-ltb, ltb-false, le-ltb, not-true}
 use Rattle.lists.specs.Every.{all}
-use Rattle.lists.proofs.Booleans.{and-both, and-fst, and-snd, and-false, or-false}
+use Rattle.lists.proofs.Booleans.{and-both, and-fst, and-snd, and-false, or-false, neither}
 use Rattle.lists.proofs.Every.{all-split, all-append, all-getD}
-use Rattle.lists.specs.Select.{keep, any, find, each, has, without, place, above, ascending, withSecond, insert-after}
+use Rattle.lists.specs.Select.{keep, any, find, each, has, without, place, above, ascending, withSecond, insert-after, behindFirst}
 
 -- ---- Booleans
 
@@ -488,20 +488,38 @@ module _ (hs : List (ℕ × ℕ)) where
   unfolding insert-after
   after-step l i h = each-step (withSecond hs) l i 0 h
 
-pub length-after : (x y : ℕ) (ys : List ℕ) → length (insert-after ((x, y) ∷ []) ys) ≡ length ys + length (keep (eqb x) ys)
-length-after x y [] = unfold insert-after each keep in refl
-length-after x y (z ∷ ys) = go (eqb x z) refl (length-after x y ys)
+second-length : (hs : List (ℕ × ℕ)) (z : ℕ) → length (withSecond hs z) ≡ cond (has z (map (λ h. h .0) hs)) 2 1
+second-length [] z = unfold has find in refl
+second-length (x ∷ hs) z = go (eqb z (x .0)) refl (second-length hs z)
   where
-    go : (b : Bool) → eqb x z ≡ b → length (insert-after ((x, y) ∷ []) ys) ≡ length ys + length (keep (eqb x) ys)
-        → length (insert-after ((x, y) ∷ []) (z ∷ ys)) ≡ suc (length ys) + length (keep (eqb x) (z ∷ ys))
-    go true e r =
-        let s = ap length (after-cons ((x, y) ∷ []) z ys ∙ ap (λ (u : List ℕ). u ++ insert-after ((x, y) ∷ []) ys) (second-here x y z [] (eqb-true x z e))) in
-        let k : length (keep (eqb x) (z ∷ ys)) ≡ suc (length (keep (eqb x) ys)) = unfold keep in rw e in
-        s ∙ omega arith
-    go false e r =
-        let s = ap length (after-cons ((x, y) ∷ []) z ys ∙ ap (λ (u : List ℕ). u ++ insert-after ((x, y) ∷ []) ys) (second-other x y z [] (eqb-false x z e) ∙ second-lacks z [] (unfold has in refl))) in
-        let k : length (keep (eqb x) (z ∷ ys)) ≡ length (keep (eqb x) ys) = unfold keep in rw e in
-        s ∙ omega arith
+    go : (b : Bool) → eqb z (x .0) ≡ b → length (withSecond hs z) ≡ cond (has z (map (λ h. h .0) hs)) 2 1
+        → length (withSecond (x ∷ hs) z) ≡ cond (has z (map (λ h. h .0) (x ∷ hs))) 2 1
+    go true e r = ap length (second-here (x .0) (x .1) z hs (sym (eqb-true z (x .0) e))) ∙ (unfold has in rw e)
+    go false e r = ap length (second-other (x .0) (x .1) z hs (λ q. eqb-false z (x .0) e (sym q))) ∙ r ∙ (unfold has in rw e)
+
+-- a list grows by one for each of its numbers that is a first
+pub length-after : (hs : List (ℕ × ℕ)) (ys : List ℕ) → length (insert-after hs ys) ≡ length ys + length (keep (λ i. has i (map (λ h. h .0) hs)) ys)
+length-after hs [] = unfold insert-after each keep in refl
+length-after hs (z ∷ ys) =
+    ap length (after-cons hs z ys) ∙ length-append (withSecond hs z) (insert-after hs ys)
+    ∙ go (has z (map (λ h. h .0) hs)) refl (second-length hs z) (length-after hs ys)
+  where
+    go : (b : Bool) → has z (map (λ h. h .0) hs) ≡ b → length (withSecond hs z) ≡ cond b 2 1 → length (insert-after hs ys) ≡ length ys + length (keep (λ i. has i (map (λ h. h .0) hs)) ys)
+        → length (withSecond hs z) + length (insert-after hs ys) ≡ suc (length ys) + length (keep (λ i. has i (map (λ h. h .0) hs)) (z ∷ ys))
+    go true e s r =
+        let k : length (keep (λ i. has i (map (λ h. h .0) hs)) (z ∷ ys)) ≡ suc (length (keep (λ i. has i (map (λ h. h .0) hs)) ys)) = unfold keep in rw e in
+        omega arith
+    go false e s r =
+        let k : length (keep (λ i. has i (map (λ h. h .0) hs)) (z ∷ ys)) ≡ length (keep (λ i. has i (map (λ h. h .0) hs)) ys) = unfold keep in rw e in
+        omega arith
+
+-- a list without a first stays
+pub after-still : (hs : List (ℕ × ℕ)) (ys : List ℕ) → any (λ i. has i (map (λ h. h .0) hs)) ys ≡ false → insert-after hs ys ≡ ys
+unfolding any
+after-still hs [] h = unfold insert-after each in refl
+after-still hs (z ∷ ys) h =
+    let (a, b) = neither (has z (map (λ h. h .0) hs)) (any (λ i. has i (map (λ h. h .0) hs)) ys) h in
+    after-cons hs z ys ∙ (ap (λ (u : List ℕ). u ++ insert-after hs ys) (second-lacks z hs a) ∙ ap (λ (u : List ℕ). z ∷ u) (after-still hs ys b))
 
 -- pairs one after the other: what a pair names is no first of a later pair
 pub after-pairs : (x y : ℕ) (hs : List (ℕ × ℕ)) (ys : List ℕ) → has x (map (λ h. h .0) hs) ≡ false → has y (map (λ h. h .0) hs) ≡ false
@@ -530,6 +548,43 @@ after-pairs x y hs (z ∷ ys) p q = go (eqb x z) refl (after-pairs x y hs ys p q
         let inner : insert-after ((x, y) ∷ []) (z ∷ ys) ≡ z ∷ rest =
         after-cons ((x, y) ∷ []) z ys ∙ ap (λ (u : List ℕ). u ++ rest) (second-other x y z [] n ∙ second-lacks z [] (unfold has in refl)) in
         left ∙ sym (ap (insert-after hs) inner ∙ after-cons hs z rest)
+
+-- ---- behind the first that passes
+
+module _ {A : Type 0} (p : A → Bool) where
+  pub behind-append : (xs ys : List A) → behindFirst p (xs ++ ys) ≡ cond (any p xs) (behindFirst p xs ++ ys) (behindFirst p ys)
+  unfolding behindFirst any
+  behind-append [] ys = refl
+  behind-append (x ∷ xs) ys = go (p x) (behind-append xs ys)
+    where
+      go : (b : Bool) → behindFirst p (xs ++ ys) ≡ cond (any p xs) (behindFirst p xs ++ ys) (behindFirst p ys)
+          → cond b (xs ++ ys) (behindFirst p (xs ++ ys)) ≡ cond (b || any p xs) (cond b xs (behindFirst p xs) ++ ys) (behindFirst p ys)
+      go true r = refl
+      go false r = r
+
+  pub behind-none : (xs : List A) → any p xs ≡ false → behindFirst p xs ≡ []
+  unfolding behindFirst any
+  behind-none [] h = refl
+  behind-none (x ∷ xs) h = let (a, b) = neither (p x) (any p xs) h in rw a (behind-none xs b)
+
+  pub length-behind : (xs : List A) → length (behindFirst p xs) ≤ length xs
+  unfolding behindFirst
+  length-behind [] = omega arith
+  length-behind (x ∷ xs) = go (p x) (length-behind xs)
+    where
+      go : (b : Bool) → length (behindFirst p xs) ≤ length xs → length (cond b xs (behindFirst p xs)) ≤ suc (length xs)
+      go true r = omega arith
+      go false r = omega arith
+
+  -- where one passes some are kept
+  pub some-kept : (xs : List A) → any p xs ≡ true → 0 < length (keep p xs)
+  unfolding any keep
+  some-kept [] h = absurd (true≢false (sym h))
+  some-kept (x ∷ xs) h = go (p x) refl (λ r. some-kept xs r)
+    where
+      go : (b : Bool) → p x ≡ b → (any p xs ≡ true → 0 < length (keep p xs)) → 0 < length (cond b (x ∷ keep p xs) (keep p xs))
+      go true e r = omega arith
+      go false e r = r (rw e at h)
 
 -- ---- of all elements
 

@@ -10,11 +10,11 @@ use lib.ListN.{length, getD, set, take, drop, length-append, length-drop, length
 use lib.Seq.{length-take-le, take-suc, take-take, drop-cons, append-snoc, set-at, getD-at, set-getD, getD-take, getD-drop}
 use borrow.Author.Tests.{lt-ltb}
 use Rattle.lists.specs.Every.{all}
-use Rattle.lists.specs.Select.{keep, has, place, ascending, withSecond, insert-after}
+use Rattle.lists.specs.Select.{keep, has, place, ascending}
 use Rattle.lists.specs.Rows.{over}
 use Rattle.lists.proofs.Every.{all-nil, all-places, all-step}
 use Rattle.lists.proofs.Booleans.{and-both}
-use Rattle.lists.proofs.Select.{length-keep, keep-more, second-here, second-other, second-lacks, after-append, after-more, after-step, length-after, place-between, ascending-upto, lacks-places}
+use Rattle.lists.proofs.Select.{length-keep, keep-more, place-between, ascending-upto, lacks-places}
 use Rattle.lists.proofs.Rows.{over-front, getD-over-before, getD-over-behind, store-before, store-behind}
 
 -- every element changed by f: those before i are
@@ -142,65 +142,3 @@ move-step w l a b i d g h e =
     let j : i < length (drop b w) = omega arith in
     let k : a + length (drop b w) ≤ length w = omega arith in
     rw (copy-read w (drop b w) l a i d j k e b g, ← getD-drop b w i d) (copy-step w (drop b w) l a i d j k e)
-
--- `y` put after every x of the first n: those from j on are done, and i is the one before j
-module _ (x y : ℕ) (w l : List ℕ) (n i j to : ℕ) (o : i + 1 ≡ j) (a : j ≤ n) (b : n ≤ length w) (r : length (insert-after ((x, y) ∷ []) (take n w)) ≤ length w) (t : to ≡ length (insert-after ((x, y) ∷ []) (take j (take n w)))) (e : l ≡ over w to (insert-after ((x, y) ∷ []) (drop j (take n w)))) where
-  abbrev put : List ℕ → List ℕ
-  put = insert-after ((x, y) ∷ [])
-
-  some-room : to + length (put (drop j (take n w))) ≤ length w
-  some-room =
-      let s : put (take n w) ≡ put (take j (take n w)) ++ put (drop j (take n w)) =
-      ap put (sym (take-append-drop j (take n w))) ∙ after-append ((x, y) ∷ []) (take j (take n w)) (drop j (take n w)) in
-      omega (arith, ap length s ∙ length-append (put (take j (take n w))) (put (drop j (take n w))))
-
-  here : i < length (take n w)
-  here = rw (length-take-le n w b) (omega arith)
-
-  -- nothing is shorter than before
-  behind : (m : ℕ) → m ≤ j → m ≤ length (put (take m (take n w)))
-  behind m q =
-      let g : length (take m (take n w)) ≡ m = length-take-le m (take n w) (rw (length-take-le n w b) (omega arith)) in
-      omega (arith, length-after x y (take m (take n w)))
-
-  read-back : getD l i 0 ≡ getD (take n w) i 0
-  read-back =
-      let h : i < n = omega arith in
-      rw (e, getD-take n w i 0 h) (getD-over-before w to (put (drop j (take n w))) i 0 (omega (arith, behind j (omega arith))) (omega (arith, some-room)))
-
-  -- what the element becomes goes in front of what is done
-  turn : (u : List ℕ) → withSecond ((x, y) ∷ []) (getD l i 0) ≡ u
-      → (to ≡ length (put (take i (take n w))) + length u) × (put (drop i (take n w)) ≡ u ++ put (drop j (take n w)))
-  turn u q =
-      let f : withSecond ((x, y) ∷ []) (getD (take n w) i 0) ≡ u = ap (withSecond ((x, y) ∷ [])) (sym read-back) ∙ q in
-      let g : put (take j (take n w)) ≡ put (take i (take n w)) ++ u =
-      ap (λ (k : ℕ). put (take k (take n w))) (sym o) ∙ after-more ((x, y) ∷ []) (take n w) i here ∙ ap (λ (v : List ℕ). put (take i (take n w)) ++ v) f in
-      let h : put (drop i (take n w)) ≡ u ++ put (drop j (take n w)) =
-      after-step ((x, y) ∷ []) (take n w) i here ∙ ap (λ (v : List ℕ). v ++ put (drop (i + 1) (take n w))) f ∙ ap (λ (k : ℕ). u ++ put (drop k (take n w))) o in
-      (t ∙ ap length g ∙ length-append (put (take i (take n w))) u, h)
-
-  front-store : (v : List ℕ) (k : ℕ) (z : ℕ) → 0 < k → k + length v ≤ length w → set (over w k v) (k - 1) z ≡ over w (k - 1) (z ∷ v)
-  front-store v k z p q =
-      let g : k - 1 + 1 ≡ k = omega arith in
-      ap (λ (m : ℕ). set (over w m v) (k - 1) z) (sym g) ∙ store-before w (k - 1) v z (omega arith)
-
-  pub after-one : (m : List ℕ) (k : ℕ) → m ≡ set l (to - 1) y → k ≡ to - 1 → x ≡ getD l i 0
-      → (0 < k) × ((k - 1 ≡ length (put (take i (take n w)))) × ((i ≤ k - 1) × (set m (k - 1) (getD l i 0) ≡ over w (k - 1) (put (drop i (take n w))))))
-  after-one m k p q s =
-      let z = getD l i 0 in
-      let d = turn (z ∷ y ∷ []) (second-here x y z [] s) in
-      let c = d .0 in
-      let v = put (drop j (take n w)) in
-      let g : m ≡ over w k (y ∷ v) =
-      p ∙ ap (λ (u : List ℕ). set u (to - 1) y) e ∙ front-store v to y (omega arith) some-room ∙ ap (λ (u : ℕ). over w u (y ∷ v)) (sym q) in
-      (omega arith, (omega arith, (omega (arith, behind i (omega arith)), ap (λ (u : List ℕ). set u (k - 1) z) g ∙ front-store (y ∷ v) k z (omega arith) (omega (arith, some-room)) ∙ ap (over w (k - 1)) (sym (d .1)))))
-
-  pub after-none : (m : List ℕ) (k : ℕ) → m ≡ l → k ≡ to → (x ≡ getD l i 0 → ⊥)
-      → (0 < k) × ((k - 1 ≡ length (put (take i (take n w)))) × ((i ≤ k - 1) × (set m (k - 1) (getD l i 0) ≡ over w (k - 1) (put (drop i (take n w))))))
-  after-none m k p q s =
-      let z = getD l i 0 in
-      let d = turn (z ∷ []) (second-other x y z [] s ∙ second-lacks z [] (unfold has in refl)) in
-      let c = d .0 in
-      let v = put (drop j (take n w)) in
-      let g : m ≡ over w k v = p ∙ e ∙ ap (λ (u : ℕ). over w u v) (sym q) in
-      (omega arith, (omega arith, (omega (arith, behind i (omega arith)), ap (λ (u : List ℕ). set u (k - 1) z) g ∙ front-store v k z (omega arith) (omega (arith, some-room)) ∙ ap (over w (k - 1)) (sym (d .1)))))

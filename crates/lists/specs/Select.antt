@@ -1,9 +1,10 @@
 -- Choosing from a list by a test, and lists of numbers.
-use Prim.Native.Nat.{ℕ}
+use Prim.Native.Nat.{ℕ, suc}
 use mathlib.Core.Bool.{Bool, true, false, not, _&&_, _||_, cond}
-use mathlib.Core.List.{List, [], _∷_, _++_}
+use mathlib.Core.List.{List, [], _∷_, _++_, map}
 use mathlib.Core.Option.{Option, none, some}
 use lib.Dec.{eqb, ltb}
+use lib.ListN.{length}
 
 -- those that pass, in their order
 unfoldable pub keep : {A : Type 0} → (A → Bool) → List A → List A
@@ -67,3 +68,17 @@ withSecond hs i = elim (secondOf hs i) [ none ↦ i ∷ [] | some j ↦ i ∷ j 
 
 unfoldable pub insert-after : List (ℕ × ℕ) → List ℕ → List ℕ
 insert-after hs ids = each (withSecond hs) ids
+
+-- each id beside its number, counted from `next` on
+unfoldable pub numbered : ℕ → List ℕ → List (ℕ × ℕ)
+numbered next [] = []
+numbered next (c ∷ cs) = (c, next) ∷ numbered (suc next) cs
+
+-- what stands behind the first that passes, nothing where none does
+unfoldable pub behindFirst : {A : Type 0} → (A → Bool) → List A → List A
+behindFirst p [] = []
+behindFirst p (x ∷ xs) = let rest = behindFirst p xs in cond (p x) xs rest
+
+-- Document 02, (f): growing a list writes "as many as the finished list has after its first cut lane, and none where no lane is cut".
+unfoldable pub writtenBehind : List (ℕ × ℕ) → List ℕ → ℕ
+writtenBehind hs ids = length (behindFirst (λ i. has i (map (λ h. h .0) hs)) (insert-after hs ids))

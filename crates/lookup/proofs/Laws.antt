@@ -8,18 +8,19 @@ use native.Mathlib.Nat.{zero-mul}
 use native.Mathlib.Numerals.{add-one}
 use native.Mathlib.Omega.{arith}
 use lib.Dec.{eqb, leb, ltb}
-use lib.ListN.{length, getD, take, drop, length-drop, length-take, length-reverse, drop-of-length-le}
-use lib.Seq.{drop-cons, drop-drop, getD-take, getD-drop}
+use lib.ListN.{length, getD, take, drop, length-drop, length-take, length-map, length-reverse, drop-of-length-le}
+use lib.Seq.{take-all, drop-cons, drop-drop, getD-take, getD-drop}
 use lib.Ieee.{Float}
 use borrow.Author.Tests.{eqb-true, eq-eqb, ne-eqb, leb-true, ltb-true}
 use Rattle.lists.specs.Every.{all}
 use Rattle.lists.specs.Rows.{reads, keys, rowWith, later, over}
 use Rattle.lists.specs.Select.{any, find, has, keep, above, ascending, sameNumbers}
-use Rattle.lists.proofs.Select.{any-same, any-keep, any-map, any-one, onFound, has-any, keys-keep}
+use Rattle.lists.proofs.Select.{any-same, any-keep, any-map, any-one, onFound, has-any, keys-keep, keep-map}
+use Rattle.lists.proofs.Turns.{count-one, count-none}
 use Rattle.lists.specs.declared.Found.{Found}
 use Rattle.lists.specs.declared.Found.the-variants.{At, Nothing}
 use Rattle.lists.proofs.Booleans.{and-fst, and-snd, same-test}
-use Rattle.lists.proofs.Rows.{length-keys, length-reads, getD-reads}
+use Rattle.lists.proofs.Rows.{length-keys, length-reads, getD-reads, mapped-reads, found-within, found-key}
 use Rattle.lists.proofs.Every.{all-getD}
 use Rattle.geometry.specs.declared.Point3.{Point3}
 use Rattle.polyline.specs.Polyline.{points, flat, first, last, lastFrom}
@@ -32,10 +33,10 @@ use Rattle.tables.specs.View.{word, refAt, part, rows, laneOf, boundaryOf}
 use Rattle.tables.specs.Formed.{counted, spanAt, stored, laneFormed}
 use Rattle.map.specs.Returned.{searchable}
 use Rattle.map.proofs.Tables.{table-few, table-room, row-room}
-use Rattle.map.proofs.Lanes.{found-within, rows-lent}
+use Rattle.map.proofs.Lanes.{rows-lent}
 use Rattle.map.proofs.Relations.{keys-reads}
 use Rattle.lookup.specs.declared.OptionCount.the-variants as N
-use Rattle.lookup.specs.Lookup.{sortedTable, placeOf, rowAt, allStored, allShort, countOf, pointsOf, sideWord, drawn, anyRow, rowUses, usesBesides, used, usedBesides}
+use Rattle.lookup.specs.Lookup.{sortedTable, placeOf, rowAt, allStored, allShort, countOf, pointsOf, sideWord, drawn, anyRow, rowUses, usesBesides, used, usedBesides, usesOutside, usedOutside, users}
 
 -- ---- a table in id order
 
@@ -80,17 +81,6 @@ unfolding placeOf
 lent-place t s id r m e = let l : 1 ≤ length t = omega arith in rw (rows-lent t l) at e
 
 -- ---- the row that is found
-
--- it has the key
-found-key : (x : ℕ) (ks : List ℕ) (j : ℕ) → rowWith x ks ≡ At j → getD ks j 0 ≡ x
-unfolding rowWith
-found-key x [] j e = let z : _≡_ {A = ℕ} 0 1 = cc in absurd (omega arith)
-found-key x (k ∷ ks) j e = go (eqb k x) refl (rowWith x ks) (λ i q. found-key x ks i q) e
-  where
-    go : (b : Bool) → eqb k x ≡ b → (r : Found) → ((i : ℕ) → r ≡ At i → getD ks i 0 ≡ x) → cond b (At 0) (later r) ≡ At j → getD (k ∷ ks) j 0 ≡ x
-    go true p r q f = let z : j ≡ 0 = cc in rw z (eqb-true k x p)
-    go false p (At i) q f = let z : j ≡ suc i = cc in rw z (q i refl)
-    go false p Nothing q f = let z : _≡_ {A = ℕ} 0 1 = cc in absurd (omega arith)
 
 module _ (s : ℕ) (t : List ℕ) (i j : ℕ) (e : placeOf s t i ≡ At j) where
   -- it is one of the rows, and its first word is the id
@@ -315,6 +305,10 @@ any-records s dec f t = any-reads s dec f (word 0 t) (drop 1 t)
 
 -- ---- who uses a boundary
 
+and-self : (a : Bool) → (a && a) ≡ a
+and-self true = refl
+and-self false = refl
+
 module _ (c : List Float) (t : List ℕ) (b : ℕ) where
   pub used-lanes : used t b ≡ any (uses b) (rows 52 (laneOf c) t)
   unfolding laneOf
@@ -323,6 +317,53 @@ module _ (c : List Float) (t : List ℕ) (b : ℕ) where
   pub besides-lanes : (l : ℕ) → usedBesides t b l ≡ any (λ x. not (eqb (x .id) l) && uses b x) (rows 52 (laneOf c) t)
   unfolding laneOf
   besides-lanes l = sym (any-records 52 (laneOf c) (λ x. not (eqb (x .id) l) && uses b x) t)
+
+  pub outside-lanes : (one other : ℕ) → usedOutside t b one other ≡ any (λ x. not (eqb (x .id) one) && not (eqb (x .id) other) && uses b x) (rows 52 (laneOf c) t)
+  unfolding laneOf
+  outside-lanes one other = sym (any-records 52 (laneOf c) (λ x. not (eqb (x .id) one) && not (eqb (x .id) other) && uses b x) t)
+
+  pub users-lanes : users t b ≡ length (lanes-using-boundary (rows 52 (laneOf c) t) b)
+  unfolding users lanes-using-boundary
+  users-lanes =
+      let ls = rows 52 (λ (w : List ℕ). w) t in
+      let e : keep (uses b) (rows 52 (laneOf c) t) ≡ map (laneOf c) (keep (rowUses b) ls) =
+      ap (keep (uses b)) lanes-mapped ∙ (unfold laneOf in keep-map (uses b) (laneOf c) ls) in
+      sym (length-map (keep (uses b) (rows 52 (laneOf c) t)) (λ (l : Lane). l .id) ∙ (ap length e ∙ length-map (keep (rowUses b) ls) (laneOf c)))
+    where
+      lanes-mapped : rows 52 (laneOf c) t ≡ map (laneOf c) (rows 52 (λ (w : List ℕ). w) t)
+      lanes-mapped = unfold rows in sym (mapped-reads 52 (λ (w : List ℕ). w) (laneOf c) (word 0 t) (drop 1 t))
+
+-- neither of two lanes that are one
+pub outside-one : (t : List ℕ) (b l : ℕ) → usedOutside t b l l ≡ usedBesides t b l
+outside-one t b l =
+    sym (any-records 52 (λ w. w) (usesOutside b l l) t)
+    ∙ (any-same (usesOutside b l l) (usesBesides b l) (rows 52 (λ w. w) t) (λ w. ap (λ (x : Bool). x && rowUses b w) (and-self (not (eqb (word 0 w) l))))
+    ∙ any-records 52 (λ w. w) (usesBesides b l) t)
+
+-- a count of users: m of the rows before i use b
+module _ (t : List ℕ) (b i m : ℕ) (h : i < word 0 t) (n : m ≡ length (keep (rowUses b) (take i (rows 52 (λ w. w) t)))) (u : Bool) (e : u ≡ rowUses b (rowAt 52 t i)) where
+  row-is : getD (rows 52 (λ (w : List ℕ). w) t) i [] ≡ rowAt 52 t i
+  unfolding rows
+  row-is = getD-reads 52 (λ (w : List ℕ). w) (word 0 t) i (drop 1 t) [] h ∙ rw drop-drop
+
+  within : i < length (rows 52 (λ (w : List ℕ). w) t)
+  unfolding rows
+  within = rw (length-reads 52 (λ (w : List ℕ). w) (word 0 t) (drop 1 t)) h
+
+  tested : rowUses b (getD (rows 52 (λ (w : List ℕ). w) t) i []) ≡ u
+  tested = ap (rowUses b) row-is ∙ sym e
+
+  pub user-more : u ≡ true → m + 1 ≡ length (keep (rowUses b) (take (i + 1) (rows 52 (λ w. w) t)))
+  user-more g = count-one (rowUses b) (rows 52 (λ (w : List ℕ). w) t) i m [] within n (tested ∙ g)
+
+  pub user-none : u ≡ false → m ≡ length (keep (rowUses b) (take (i + 1) (rows 52 (λ w. w) t)))
+  user-none g = count-none (rowUses b) (rows 52 (λ (w : List ℕ). w) t) i m [] within n (tested ∙ g)
+
+pub users-all : (t : List ℕ) (b i m : ℕ) → i ≡ word 0 t → m ≡ length (keep (rowUses b) (take i (rows 52 (λ w. w) t))) → m ≡ users t b
+unfolding users rows
+users-all t b i m e n =
+    let l : length (reads 52 (λ (w : List ℕ). w) (word 0 t) (drop 1 t)) ≤ i = rw (length-reads 52 (λ (w : List ℕ). w) (word 0 t) (drop 1 t)) (omega arith) in
+    n ∙ ap (λ (ls : List (List ℕ)). length (keep (rowUses b) ls)) (take-all i (reads 52 (λ (w : List ℕ). w) (word 0 t) (drop 1 t)) l)
 
 -- another lane is among those that use the boundary
 pub besides-using : (ls : List Lane) (b l : ℕ) → any (λ x. not (eqb (x .id) l) && uses b x) ls ≡ any (λ i. not (eqb i l)) (lanes-using-boundary ls b)
@@ -339,8 +380,9 @@ uses-read t i b =
     let r : 4 < 52 = omega arith in
     rw (word-in 52 t i 2 l, word-in 52 t i 4 r)
 
-pub besides-read : (t : List ℕ) (i b l : ℕ) (u : Bool) → u ≡ rowUses b (rowAt 52 t i) → (not (eqb (getD t (1 + i * 52 + 0) 0) l) && u) ≡ usesBesides b l (rowAt 52 t i)
-besides-read t i b l u e = let n : 0 < 52 = omega arith in rw (word-in 52 t i 0 n, e)
+pub outside-read : (t : List ℕ) (i b one other : ℕ) (o u : Bool) → o ≡ (not (eqb (getD t (1 + i * 52 + 0) 0) one) && not (eqb (getD t (1 + i * 52 + 0) 0) other)) → u ≡ rowUses b (rowAt 52 t i)
+    → (o && u) ≡ usesOutside b one other (rowAt 52 t i)
+outside-read t i b one other o u f e = let n : 0 < 52 = omega arith in rw (f, word-in 52 t i 0 n, e)
 
 -- ---- a boundary that one lane alone uses
 

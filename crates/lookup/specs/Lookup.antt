@@ -9,7 +9,7 @@ use lib.ListN.{length, take, drop}
 use lib.Ieee.{Float}
 use Rattle.lists.specs.Every.{all}
 use Rattle.lists.specs.Rows.{keys, rowWith}
-use Rattle.lists.specs.Select.{any, ascending}
+use Rattle.lists.specs.Select.{keep, any, ascending}
 use Rattle.lists.specs.declared.Found.{Found}
 use Rattle.lookup.specs.declared.OptionCount.{OptionCount}
 use Rattle.lookup.specs.declared.OptionCount.the-variants.{None, Some}
@@ -110,6 +110,17 @@ used t b = anyRow 52 (rowUses b) t
 
 abbrev pub usedBesides : List ℕ → ℕ → ℕ → Bool
 usedBesides t b l = anyRow 52 (usesBesides b l) t
+
+-- one that is neither of two lanes does
+abbrev pub usesOutside : ℕ → ℕ → ℕ → List ℕ → Bool
+usesOutside b one other w = not (eqb (word 0 w) one) && not (eqb (word 0 w) other) && rowUses b w
+
+abbrev pub usedOutside : List ℕ → ℕ → ℕ → ℕ → Bool
+usedOutside t b one other = anyRow 52 (usesOutside b one other) t
+
+-- how many lanes of the table use boundary b
+unfoldable pub users : List ℕ → ℕ → ℕ
+users t b = length (keep (rowUses b) (rows 52 (λ w. w) t))
 
 -- ---- anchors of rules
 

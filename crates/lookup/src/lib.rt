@@ -1,4 +1,4 @@
-// map.rs: look-ups by id, lines along a lane, users of a boundary and anchors of rules, in lent tables.
+// map.rs: look-ups by id, lines along a lane, its links, users of a boundary and anchors of rules, in lent tables.
 ghost use mathlib.Core.Path.{_≡_};
 ghost use mathlib.Core.Bool.{true, cond, _||_};
 ghost use Prim.Native.Nat.{_+_, _*_, _≤_, _<_};
@@ -9,7 +9,7 @@ ghost use Rattle.lists.specs.Select.{ascending};
 ghost use Rattle.polyline.specs.Polyline.{points, flat};
 ghost use Rattle.rules.specs.Map.{firstOf, lastOf, derived, mid, halfWay, stopAnchor, crossAnchor, stop-line, crosswalk, rule-anchor};
 ghost use Rattle.rules.specs.Names.{Left, Right};
-ghost use Rattle.tables.specs.View.{word, part, refAt, ruleOf};
+ghost use Rattle.tables.specs.View.{word, part, idsAt, refAt, ruleOf};
 ghost use Rattle.tables.specs.Formed.{counted, stored};
 ghost use Rattle.lookup.specs.Lookup as K;
 use entities::BoundaryRef;
@@ -31,12 +31,14 @@ use tables::LANE_LEFT;
 use tables::LANE_RIGHT;
 use tables::OTHER;
 use tables::POINT;
+use tables::PREDECESSORS;
 use tables::RULE;
 use tables::RULE_CROSSWALK;
 use tables::RULE_KIND;
 use tables::RULE_STOP_LINES;
 use tables::STOP_LINE;
 use tables::STOP_LINE_START;
+use tables::SUCCESSORS;
 
 const RULE_FIRST_STOP: usize = 136;
 
@@ -190,6 +192,33 @@ pub fn oriented_last(
         return polyline::first(line);
     }
     polyline::last(line)
+}
+
+// ---- links of a lane
+
+// The list whose count stands at word `column` of row i, as its part of the lane table.
+fn links<'a>(lanes: &'a [u64], i: usize, column: usize) -> &'a [u64]
+    requires { ⌜ (K.sortedTable 1024 52 (now lanes) ≡ true) × ((i < word 0 (now lanes)) × (column + 1 + word column (K.rowAt 52 (now lanes) i) ≤ 52)) ⌝ }
+    ensures { λ r. ⌜ now r ≡ idsAt column (K.rowAt 52 (now (lanes .entry)) i) ⌝ }
+{
+    let at = 1 + i * LANE + column;
+    let from = at + 1;
+    let to = from + lanes[at] as usize;
+    &lanes[from..to]
+}
+
+pub fn predecessors<'a>(lanes: &'a [u64], i: usize) -> &'a [u64]
+    requires { ⌜ (K.sortedTable 1024 52 (now lanes) ≡ true) × ((i < word 0 (now lanes)) × (word 18 (K.rowAt 52 (now lanes) i) ≤ 16)) ⌝ }
+    ensures { λ r. ⌜ now r ≡ idsAt 18 (K.rowAt 52 (now (lanes .entry)) i) ⌝ }
+{
+    links(lanes, i, PREDECESSORS)
+}
+
+pub fn successors<'a>(lanes: &'a [u64], i: usize) -> &'a [u64]
+    requires { ⌜ (K.sortedTable 1024 52 (now lanes) ≡ true) × ((i < word 0 (now lanes)) × (word 35 (K.rowAt 52 (now lanes) i) ≤ 16)) ⌝ }
+    ensures { λ r. ⌜ now r ≡ idsAt 35 (K.rowAt 52 (now (lanes .entry)) i) ⌝ }
+{
+    links(lanes, i, SUCCESSORS)
 }
 
 // ---- functions that write a line to the front of a lent part
@@ -361,13 +390,15 @@ fn row_uses(lanes: &[u64], i: usize, boundary: u64) -> bool
     )
 }
 
-// Whether the lane in row i is not `lane`, and names a boundary.
-fn row_uses_besides(lanes: &[u64], i: usize, boundary: u64, lane: u64) -> bool
+// Whether the lane in row i is neither of two, and names a boundary.
+fn row_uses_outside(lanes: &[u64], i: usize, boundary: u64, one: u64, other: u64) -> bool
     requires { ⌜ (K.sortedTable 1024 52 (now lanes) ≡ true) × (i < word 0 (now lanes)) ⌝ }
-    ensures { λ r. ⌜ r ≡ K.usesBesides boundary lane (K.rowAt 52 (now (lanes .entry)) i) ⌝ }
+    ensures { λ r. ⌜ r ≡ K.usesOutside boundary one other (K.rowAt 52 (now (lanes .entry)) i) ⌝ }
 {
     let at = 1 + i * LANE + LANE_ID;
-    both(lanes[at] != lane, row_uses(lanes, i, boundary))
+    let id = lanes[at];
+    let outside = both(id != one, id != other);
+    both(outside, row_uses(lanes, i, boundary))
 }
 
 // Whether a lane uses a boundary.
@@ -386,20 +417,45 @@ pub fn used(lanes: &[u64], boundary: u64) -> bool
     false
 }
 
-// Whether another lane than `lane` uses a boundary.
-pub fn used_besides(lanes: &[u64], boundary: u64, lane: u64) -> bool
+// Whether a lane that is neither of two uses a boundary.
+pub fn used_outside(lanes: &[u64], boundary: u64, one: u64, other: u64) -> bool
     requires { ⌜ K.sortedTable 1024 52 (now lanes) ≡ true ⌝ }
-    ensures { λ r. ⌜ r ≡ K.usedBesides (now (lanes .entry)) boundary lane ⌝ }
+    ensures { λ r. ⌜ r ≡ K.usedOutside (now (lanes .entry)) boundary one other ⌝ }
 {
     let n = lanes[0] as usize;
     let mut i = 0;
     while i < n {
-        if row_uses_besides(lanes, i, boundary, lane) {
+        if row_uses_outside(lanes, i, boundary, one, other) {
             return true;
         }
         i += 1;
     }
     false
+}
+
+// Whether another lane than `lane` uses a boundary.
+pub fn used_besides(lanes: &[u64], boundary: u64, lane: u64) -> bool
+    requires { ⌜ K.sortedTable 1024 52 (now lanes) ≡ true ⌝ }
+    ensures { λ r. ⌜ r ≡ K.usedBesides (now (lanes .entry)) boundary lane ⌝ }
+{
+    used_outside(lanes, boundary, lane, lane)
+}
+
+// How many lanes use a boundary; one with it on both sides counts once.
+pub fn users(lanes: &[u64], boundary: u64) -> usize
+    requires { ⌜ K.sortedTable 1024 52 (now lanes) ≡ true ⌝ }
+    ensures { λ r. ⌜ r ≡ K.users (now (lanes .entry)) boundary ⌝ }
+{
+    let n = lanes[0] as usize;
+    let mut i = 0;
+    let mut count = 0;
+    while i < n {
+        if row_uses(lanes, i, boundary) {
+            count += 1;
+        }
+        i += 1;
+    }
+    count
 }
 
 // ---- anchors of rules

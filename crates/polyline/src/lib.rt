@@ -432,19 +432,24 @@ pub fn reversed(line: &[f64], out: &mut [f64]) -> usize
     n
 }
 
-// Whether one line ends where another begins, nearer than `join`: 1, else 0.
-fn shared_ends(join: f64, one: &[f64], other: &[f64]) -> usize
-    ensures { λ r. ⌜ r ≡ L.skipped join (points (now (one .entry))) (points (now (other .entry))) ⌝ }
+// How many points a line that begins at `start` loses behind one that ends at `end`: 1 where both are there and nearer than `join`, else 0.
+pub fn meeting(join: f64, end: OptionPoint3, start: OptionPoint3) -> usize
+    ensures { λ r. ⌜ r ≡ L.meeting join end start ⌝ }
 {
-    let end = last(one);
     let OptionPoint3::Some(p) = end else {
         return 0;
     };
-    let start = first(other);
     let OptionPoint3::Some(q) = start else {
         return 0;
     };
     if p.distance(q) < join { 1 } else { 0 }
+}
+
+// The same of two lines.
+fn shared_ends(join: f64, one: &[f64], other: &[f64]) -> usize
+    ensures { λ r. ⌜ r ≡ L.skipped join (points (now (one .entry))) (points (now (other .entry))) ⌝ }
+{
+    meeting(join, last(one), first(other))
 }
 
 pub fn concat_points(join: f64, one: &[f64], other: &[f64]) -> usize
