@@ -11,7 +11,7 @@ ghost use Rattle.tables.specs.Formed.{laneFormed};
 ghost use Rattle.map.specs.Good.{allRows};
 ghost use Rattle.report.specs.Report.{issues};
 ghost use Rattle.lookup.specs.Lookup as K;
-ghost use Rattle.merge_plan.specs.Plan as P;
+ghost use Rattle.merge_plan.specs.Deciding as P;
 use entities::IssueCode;
 use entities::Refusal;
 use entities::Side;
@@ -178,7 +178,7 @@ pub fn center_plan(join: f64, lanes: &[u64], i: usize, j: usize, coordinates: &[
 
 // ---- the whole plan
 
-pub fn plan(
+pub fn decide(
     join: f64,
     lanes: &[u64],
     i: usize,

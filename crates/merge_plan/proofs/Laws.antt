@@ -1,0 +1,125 @@
+-- Rows that are read for a merge: a row's own place, how many points its line has, and document 01's plan of a side by the rows. Assumes nothing.
+use mathlib.Core.Path.{_≡_, refl, sym, ap, _∙_}
+use Prim.Native.Nat.{ℕ, suc, _+_, _-_, _*_, _≤_, _<_}
+use native.Mathlib.Omega.{arith}
+use native.Mathlib.Nat.{add-zero}
+use mathlib.Core.Bool.{Bool, true, false, not, _&&_, _||_, cond}
+use mathlib.Core.List.{List, [], _∷_, reverse}
+use mathlib.Core.Option.{Option, none, some}
+use lib.Dec.{eqb}
+use lib.ListN.{length, getD, take, drop, length-drop, length-take}
+use lib.Seq.{drop-drop}
+use lib.Ieee.{Float}
+use borrow.Author.Tests.{eqb-true, eqb-false, eq-eqb, ne-eqb}
+use Rattle.lists.specs.Rows.{keys}
+use Rattle.lists.specs.Select.{sameNumbers}
+use Rattle.lists.specs.declared.Found.the-variants.{At, Nothing}
+use Rattle.lists.proofs.Booleans.{or-left, or-right}
+use Rattle.lists.proofs.Rows.{length-keys, getD-reads, row-at}
+use Rattle.polyline.specs.Polyline.{points, first, last, meeting, skipped, concat}
+use Rattle.polyline.proofs.Points.{length-points}
+use Rattle.polyline.proofs.Lines.{skipped-few, length-concat}
+use Rattle.polyline.specs.declared.OptionPoint3.{OptionPoint3}
+use Rattle.entities.specs.Records.{Line}
+use Rattle.rules.specs.Names.{Side, Left, Right, BoundaryAbsent}
+use Rattle.rules.specs.Map.{boundary, boundaryOn, oriented-boundary, firstOf, lastOf, uses, lanes-using-boundary}
+use Rattle.rules.specs.Edit.{Res, refuse, yield}
+use Rattle.rules.specs.Merge.{SidePlan, kept, joined, joinedLines, side-plan}
+use Rattle.tables.specs.View.{word, mark, refAt, part, rows, laneOf}
+use Rattle.tables.specs.Formed.{spanAt, stored}
+use Rattle.lookup.specs.Lookup.{rowAt, sortedTable, placeOf, allStored, pointsOf, sideWord, sideLine, usedBesides, drawn}
+use Rattle.lookup.proofs.Laws.{sorted-ascends, stored-room, part-few, place-within, word-in, row-passes, length-turned, side-ref, oriented-absent, oriented-there, alone-using}
+use Rattle.merge_plan.specs.Deciding.{laneIn, drawnLanes, sidePlan, joinedLength, bothAlone}
+
+-- ---- rows
+
+-- row i is where its own id is found
+pub own-place : (limit s : ℕ) (t : List ℕ) → sortedTable limit s t ≡ true → (i : ℕ) → i < word 0 t → placeOf s t (word 0 (rowAt s t i)) ≡ At i
+unfolding placeOf keys
+own-place limit s t h i l =
+    let k : i < length (keys s (word 0 t) (drop 1 t)) = rw (length-keys s (word 0 t) (drop 1 t)) l in
+    let e : getD (keys s (word 0 t) (drop 1 t)) i 0 ≡ word 0 (rowAt s t i) =
+    getD-reads s (λ (r : List ℕ). getD r 0 0) (word 0 t) i (drop 1 t) 0 l ∙ rw drop-drop in
+    row-at (word 0 (rowAt s t i)) i (keys s (word 0 t) (drop 1 t)) (sorted-ascends limit s t h) k e
+
+-- its id, as it is read
+pub id-read : (s : ℕ) (t : List ℕ) (i : ℕ) → 0 < s → getD t (1 + i * s) 0 ≡ word 0 (rowAt s t i)
+id-read s t i h = let e : 1 + i * s ≡ 1 + i * s + 0 = omega arith in ap (λ (n : ℕ). getD t n 0) e ∙ word-in s t i 0 h
+
+-- ---- lines
+
+-- a stored line has the points that its row says
+pub stored-long : (c : List Float) (start n : ℕ) → stored c (record { start = start; size = n }) ≡ true → length (points (part c start n)) ≡ n
+stored-long c start n h = go (eqb n 0) refl
+  where
+    go : (b : Bool) → eqb n 0 ≡ b → length (points (part c start n)) ≡ n
+    go true e = omega (arith, part-few c start n, eqb-true n 0 e)
+    go false e = let r = stored-room c start n h (eqb-false n 0 e) in unfold part in rw (length-points, length-take, length-drop) (omega arith)
+
+module _ (c : List Float) (lanes boundaries : List ℕ) (i : ℕ) (side : Side) (s : allStored 5 2 c boundaries ≡ true) (x : ℕ)
+    (q : placeOf 5 boundaries (refAt (sideWord side) (rowAt 52 lanes i) .boundary) ≡ At x) where
+  abbrev stands : Line
+  stands = points (part c (word 2 (rowAt 5 boundaries x)) (word 3 (rowAt 5 boundaries x)))
+
+  abbrev turned : Bool
+  turned = mark (suc (sideWord side)) (rowAt 52 lanes i)
+
+  side-there : sideLine c lanes boundaries i side ≡ some (cond turned (reverse stands) stands)
+  side-there =
+      oriented-there c boundaries (rowAt 52 lanes i) side (refAt (sideWord side) (rowAt 52 lanes i)) refl x q (part c (word 2 (rowAt 5 boundaries x)) (word 3 (rowAt 5 boundaries x))) refl
+
+  -- a boundary that is present has a line
+  pub side-some : sideLine c lanes boundaries i side ≡ some (pointsOf (sideLine c lanes boundaries i side))
+  side-some = rw side-there
+
+  -- along the lane it has as many points as its row says
+  pub side-long : length (pointsOf (sideLine c lanes boundaries i side)) ≡ getD boundaries (1 + x * 5 + 3) 0
+  unfolding allStored
+  side-long =
+      let l : 3 < 5 = omega arith in
+      let p = row-passes 5 (λ w. stored c (spanAt 2 w)) boundaries s x (place-within 5 boundaries (refAt (sideWord side) (rowAt 52 lanes i) .boundary) x q) in
+      ap (λ o. length (pointsOf o)) side-there
+      ∙ (sym (length-turned turned stands) ∙ (stored-long c (word 2 (rowAt 5 boundaries x)) (word 3 (rowAt 5 boundaries x)) p ∙ sym (word-in 5 boundaries x 3 l)))
+
+-- ---- joined lines
+
+last-of : (o : Option Line) → lastOf o ≡ last (pointsOf o)
+unfolding last
+last-of none = refl
+last-of (some l) = refl
+
+first-of : (o : Option Line) → firstOf o ≡ first (pointsOf o)
+unfolding first
+first-of none = refl
+first-of (some l) = refl
+
+module _ (join : Float) (o p : Option Line) where
+  met : meeting join (lastOf o) (firstOf p) ≡ skipped join (pointsOf o) (pointsOf p)
+  unfolding skipped
+  met = rw (last-of o, first-of p)
+
+  -- of the second line no more points are dropped than it has
+  pub met-few : meeting join (lastOf o) (firstOf p) ≤ length (pointsOf p)
+  met-few = rw met (skipped-few join (pointsOf o) (pointsOf p))
+
+  pub joined-long : length (pointsOf o) + length (pointsOf p) - meeting join (lastOf o) (firstOf p) ≡ joinedLength join o p
+  joined-long = omega (arith, met, skipped-few join (pointsOf o) (pointsOf p), length-concat join (pointsOf o) (pointsOf p))
+
+-- ---- the plan of a side
+
+module _ (c : List Float) (lanes : List ℕ) (h : sortedTable 1024 52 lanes ≡ true) (i : ℕ) (l : i < word 0 lanes) (side : Side) where
+  own-boundary : uses (refAt (sideWord side) (rowAt 52 lanes i) .boundary) (laneOf c (rowAt 52 lanes i)) ≡ true
+  own-boundary = go side
+    where
+      go : (s : Side) → uses (refAt (sideWord s) (rowAt 52 lanes i) .boundary) (laneOf c (rowAt 52 lanes i)) ≡ true
+      go Left = unfold laneOf in rw (eq-eqb (word 2 (rowAt 52 lanes i)) (word 2 (rowAt 52 lanes i)) refl)
+      go Right =
+          unfold laneOf in
+          or-right (eqb (word 2 (rowAt 52 lanes i)) (word 4 (rowAt 52 lanes i))) (eqb (word 4 (rowAt 52 lanes i)) (word 4 (rowAt 52 lanes i)))
+          (eq-eqb (word 4 (rowAt 52 lanes i)) (word 4 (rowAt 52 lanes i)) refl)
+
+  -- the rules' test that the lane alone uses its boundary
+  pub own-alone : sameNumbers (lanes-using-boundary (rows 52 (laneOf c) lanes) (refAt (sideWord side) (rowAt 52 lanes i) .boundary)) (laneIn c lanes i .id ∷ [])
+      ≡ not (usedBesides lanes (refAt (sideWord side) (rowAt 52 lanes i) .boundary) (word 0 (rowAt 52 lanes i)))
+  unfolding laneOf
+  own-alone = alone-using c lanes h (word 0 (rowAt 52 lanes i)) (refAt (sideWord side) (rowAt 52 lanes i) .boundary) i (own-place 1024 52 lanes h i l) own-boundary

@@ -1,0 +1,62 @@
+use borrow.Author.Needs.{needs}
+use Rattle.merge_plan.proofs.decide.Statement.{statement}
+use Rattle.merge_plan.proofs.decide.Tie as tie
+use Rattle.merge_plan.proofs.decide.Reads as reads
+use Rattle.merge_plan.proofs.decide.Lts as lts
+use Rattle.merge_plan.proofs.center_plan.Reads as center-plan-reads
+use Rattle.merge_plan.proofs.side_plan.Reads as side-plan-reads
+
+-- src/lib.rt:192:9
+side-plan-requires : tie.Need-side-plan-requires
+side-plan-requires c κs = search needs
+
+-- src/lib.rt:193:9
+side-plan-requires-2 : tie.Need-side-plan-requires-2
+side-plan-requires-2 c κs = search needs
+
+-- src/lib.rt:194:9
+center-plan-requires : tie.Need-center-plan-requires
+center-plan-requires c κs = search needs
+
+-- src/lib.rt:196:30
+enum-known-l : tie.Need-enum-known-l
+enum-known-l c = search needs
+
+-- src/lib.rt:197:28
+enum-known-l-2 : tie.Need-enum-known-l-2
+enum-known-l-2 c = search needs
+
+-- src/lib.rt:198:34
+enum-known-r : tie.Need-enum-known-r
+enum-known-r c = search needs
+
+-- src/lib.rt:199:32
+enum-known-r-2 : tie.Need-enum-known-r-2
+enum-known-r-2 c = search needs
+
+-- src/lib.rt:181:1
+returns : tie.Need-returns
+returns c = ?
+
+-- src/lib.rt:181:1
+returns-2 : tie.Need-returns-2
+returns-2 c = ?
+
+-- src/lib.rt:181:1
+returns-3 : tie.Need-returns-3
+returns-3 c = ?
+
+pub decide-spec : {M : Type 1} → statement M
+decide-spec =
+    tie.close
+    (tie.spec
+    side-plan-requires
+    side-plan-requires-2
+    center-plan-requires
+    enum-known-l
+    enum-known-l-2
+    enum-known-r
+    enum-known-r-2
+    returns
+    returns-2
+    returns-3)

@@ -1,0 +1,89 @@
+use borrow.Author.Needs.{needs}
+use Rattle.merge_plan.proofs.side_plan.Statement.{statement}
+use Rattle.merge_plan.proofs.side_plan.Tie as tie
+use Rattle.merge_plan.proofs.side_plan.Reads as reads
+use Rattle.merge_plan.proofs.side_plan.Lts as lts
+use Rattle.lookup.proofs.boundary.Reads as boundary-reads
+use Rattle.lookup.proofs.boundary_ref.Reads as boundary-ref-reads
+use Rattle.merge_plan.proofs.alone.Reads as alone-reads
+use Rattle.merge_plan.proofs.joined_points.Reads as joined-points-reads
+
+-- src/lib.rt:137:15
+boundary-ref-requires : tie.Need-boundary-ref-requires
+boundary-ref-requires c κs = search needs
+
+-- src/lib.rt:138:15
+boundary-ref-requires-2 : tie.Need-boundary-ref-requires-2
+boundary-ref-requires-2 c κs = search needs
+
+-- src/lib.rt:140:9
+returns : tie.Need-returns
+returns c = ?
+
+-- src/lib.rt:142:9
+boundary-requires : tie.Need-boundary-requires
+boundary-requires c κs = search needs
+
+-- src/lib.rt:143:19
+enum-known-found : tie.Need-enum-known-found
+enum-known-found c = search needs
+
+-- src/lib.rt:144:37
+enum-told : tie.Need-enum-told
+enum-told c = search needs
+
+-- src/lib.rt:144:9
+returns-2 : tie.Need-returns-2
+returns-2 c = ?
+
+-- src/lib.rt:146:9
+boundary-requires-2 : tie.Need-boundary-requires-2
+boundary-requires-2 c κs = search needs
+
+-- src/lib.rt:147:19
+enum-known-other : tie.Need-enum-known-other
+enum-known-other c = search needs
+
+-- src/lib.rt:148:37
+enum-told-2 : tie.Need-enum-told-2
+enum-told-2 c = search needs
+
+-- src/lib.rt:148:9
+returns-3 : tie.Need-returns-3
+returns-3 c = ?
+
+-- src/lib.rt:150:9
+joined-points-requires : tie.Need-joined-points-requires
+joined-points-requires c κs = ?
+
+-- src/lib.rt:151:8
+alone-requires : tie.Need-alone-requires
+alone-requires c κs = search needs
+
+-- src/lib.rt:152:9
+returns-4 : tie.Need-returns-4
+returns-4 c = ?
+
+-- src/lib.rt:125:1
+returns-5 : tie.Need-returns-5
+returns-5 c = ?
+
+pub side-plan-spec : {M : Type 1} → statement M
+side-plan-spec =
+    tie.close
+    (tie.spec
+    boundary-ref-requires
+    boundary-ref-requires-2
+    returns
+    boundary-requires
+    enum-known-found
+    enum-told
+    returns-2
+    boundary-requires-2
+    enum-known-other
+    enum-told-2
+    returns-3
+    joined-points-requires
+    alone-requires
+    returns-4
+    returns-5)

@@ -1,0 +1,30 @@
+use borrow.Author.Needs.{needs}
+use Rattle.merge_plan.proofs.speeds_differ.Statement.{statement}
+use Rattle.merge_plan.proofs.speeds_differ.Tie as tie
+use Rattle.merge_plan.proofs.speeds_differ.Reads as reads
+use Rattle.merge_plan.proofs.speeds_differ.Lts as lts
+use Rattle.bits.proofs.double.Reads as double-reads
+
+-- src/lib.rt:215:9
+returns : tie.Need-returns
+returns c = ?
+
+-- src/lib.rt:218:9
+returns-2 : tie.Need-returns-2
+returns-2 c = ?
+
+-- src/lib.rt:220:5
+double-requires : tie.Need-double-requires
+double-requires c κs = search needs
+
+-- src/lib.rt:220:24
+double-requires-2 : tie.Need-double-requires-2
+double-requires-2 c κs = search needs
+
+-- src/lib.rt:211:1
+returns-3 : tie.Need-returns-3
+returns-3 c = ?
+
+pub speeds-differ-spec : {M : Type 1} → statement M
+speeds-differ-spec =
+    tie.close (tie.spec returns returns-2 double-requires double-requires-2 returns-3)
