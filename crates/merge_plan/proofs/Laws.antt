@@ -28,8 +28,9 @@ use Rattle.rules.specs.Merge.{SidePlan, kept, joined, joinedLines, side-plan}
 use Rattle.tables.specs.View.{word, mark, refAt, part, rows, laneOf}
 use Rattle.tables.specs.Formed.{spanAt, stored}
 use Rattle.lookup.specs.Lookup.{rowAt, sortedTable, placeOf, allStored, pointsOf, sideWord, sideLine, usedBesides, drawn}
-use Rattle.lookup.proofs.Laws.{sorted-ascends, stored-room, part-few, place-within, word-in, row-passes, length-turned, side-ref, oriented-absent, oriented-there, alone-using}
-use Rattle.merge_plan.specs.Deciding.{laneIn, drawnLanes, sidePlan, joinedLength, bothAlone}
+use Rattle.lookup.proofs.Laws.{sorted-ascends, sorted-row, stored-room, part-few, place-within, word-in, row-passes, length-turned, side-ref, oriented-absent, oriented-there, alone-using}
+use Rattle.lookup.proofs.Center.{oriented-few}
+use Rattle.merge_plan.specs.Deciding.{SideRows, laneIn, drawnLanes, sidePlan, joinedLength, bothAlone}
 
 -- ---- rows
 
@@ -45,6 +46,20 @@ own-place limit s t h i l =
 -- its id, as it is read
 pub id-read : (s : ℕ) (t : List ℕ) (i : ℕ) → 0 < s → getD t (1 + i * s) 0 ≡ word 0 (rowAt s t i)
 id-read s t i h = let e : 1 + i * s ≡ 1 + i * s + 0 = omega arith in ap (λ (n : ℕ). getD t n 0) e ∙ word-in s t i 0 h
+
+-- boundaries that are each their lane's alone, as it is asked of the lanes' ids
+module _ (lanes : List ℕ) (i one j two : ℕ) where
+  alone-read : bothAlone lanes i one j two ≡ (not (usedBesides lanes one (getD lanes (1 + i * 52) 0)) && not (usedBesides lanes two (getD lanes (1 + j * 52) 0)))
+  alone-read =
+      let p : 0 < 52 = omega arith in
+      rw (id-read 52 lanes i p, id-read 52 lanes j p)
+
+  module _ (r : Bool) (e : r ≡ usedBesides lanes one (getD lanes (1 + i * 52) 0)) where
+    pub first-shared : r ≡ true → false ≡ bothAlone lanes i one j two
+    first-shared t = sym (alone-read ∙ rw (← e, t))
+
+    pub first-alone : r ≡ false → (s : Bool) → s ≡ usedBesides lanes two (getD lanes (1 + j * 52) 0) → not s ≡ bothAlone lanes i one j two
+    first-alone t s f = sym (alone-read ∙ rw (← e, ← f, t))
 
 -- ---- lines
 
@@ -93,17 +108,43 @@ unfolding first
 first-of none = refl
 first-of (some l) = refl
 
-module _ (join : Float) (o p : Option Line) where
-  met : meeting join (lastOf o) (firstOf p) ≡ skipped join (pointsOf o) (pointsOf p)
+-- two lines of `one` and `two` points that are joined, and the points where they meet
+module _ (join : Float) (o p : Option Line) (one two : ℕ) (eo : length (pointsOf o) ≡ one) (ep : length (pointsOf p) ≡ two)
+    (end start : OptionPoint3) (ee : end ≡ lastOf o) (es : start ≡ firstOf p) (m : ℕ) (em : m ≡ meeting join end start) where
+  met : m ≡ skipped join (pointsOf o) (pointsOf p)
   unfolding skipped
-  met = rw (last-of o, first-of p)
+  met = rw (em, ee, es, last-of o, first-of p)
 
   -- of the second line no more points are dropped than it has
-  pub met-few : meeting join (lastOf o) (firstOf p) ≤ length (pointsOf p)
-  met-few = rw met (skipped-few join (pointsOf o) (pointsOf p))
+  pub met-few : m ≤ two
+  met-few = omega (arith, met, skipped-few join (pointsOf o) (pointsOf p))
 
-  pub joined-long : length (pointsOf o) + length (pointsOf p) - meeting join (lastOf o) (firstOf p) ≡ joinedLength join o p
+  pub joined-long : one + two - m ≡ joinedLength join o p
   joined-long = omega (arith, met, skipped-few join (pointsOf o) (pointsOf p), length-concat join (pointsOf o) (pointsOf p))
+
+-- the lines of two boundaries along their lanes
+module _ (lanes : List ℕ) (i j : ℕ) (side : Side) (boundaries : List ℕ) (x y : ℕ) (c : List Float) (h : SideRows lanes i j side boundaries x y c) where
+  pub first-long : length (pointsOf (sideLine c lanes boundaries i side)) ≡ getD boundaries (1 + x * 5 + 3) 0
+  first-long = side-long c lanes boundaries i side (h .drawable .boundaries-stored) x (h .first-boundary)
+
+  pub second-long : length (pointsOf (sideLine c lanes boundaries j side)) ≡ getD boundaries (1 + y * 5 + 3) 0
+  second-long = side-long c lanes boundaries j side (h .drawable .boundaries-stored) y (h .second-boundary)
+
+  pub both-few : getD boundaries (1 + x * 5 + 3) 0 + getD boundaries (1 + y * 5 + 3) 0 ≤ 512
+  both-few =
+      omega
+      (arith,
+      first-long,
+      second-long,
+      oriented-few c boundaries (rowAt 52 lanes i) side (h .drawable .boundaries-short),
+      oriented-few c boundaries (rowAt 52 lanes j) side (h .drawable .boundaries-short))
+
+  -- their rows lie within the table
+  pub first-row : 1 + x * 5 + 5 ≤ length boundaries
+  first-row = sorted-row 4096 5 boundaries (h .drawable .boundaries-sorted) x (place-within 5 boundaries (refAt (sideWord side) (rowAt 52 lanes i) .boundary) x (h .first-boundary))
+
+  pub second-row : 1 + y * 5 + 5 ≤ length boundaries
+  second-row = sorted-row 4096 5 boundaries (h .drawable .boundaries-sorted) y (place-within 5 boundaries (refAt (sideWord side) (rowAt 52 lanes j) .boundary) y (h .second-boundary))
 
 -- ---- the plan of a side
 
@@ -123,3 +164,39 @@ module _ (c : List Float) (lanes : List ℕ) (h : sortedTable 1024 52 lanes ≡ 
       ≡ not (usedBesides lanes (refAt (sideWord side) (rowAt 52 lanes i) .boundary) (word 0 (rowAt 52 lanes i)))
   unfolding laneOf
   own-alone = alone-using c lanes h (word 0 (rowAt 52 lanes i)) (refAt (sideWord side) (rowAt 52 lanes i) .boundary) i (own-place 1024 52 lanes h i l) own-boundary
+
+module _ (join : Float) (c : List Float) (lanes boundaries : List ℕ) (h : sortedTable 1024 52 lanes ≡ true) (i j : ℕ) (l : i < word 0 lanes) (k : j < word 0 lanes) (side : Side) where
+  abbrev one : ℕ
+  one = refAt (sideWord side) (rowAt 52 lanes i) .boundary
+
+  abbrev two : ℕ
+  two = refAt (sideWord side) (rowAt 52 lanes j) .boundary
+
+  drawn-same : (n : ℕ) → oriented-boundary (drawnLanes c lanes boundaries) side (laneIn c lanes n) ≡ sideLine c lanes boundaries n side
+  unfolding oriented-boundary boundary
+  drawn-same n = refl
+
+  planned-side : sidePlan join c lanes boundaries i j side
+      ≡ cond (eqb one two) (yield kept) (joinedLines join (bothAlone lanes i one j two) one two (sideLine c lanes boundaries i side) (sideLine c lanes boundaries j side))
+  unfolding side-plan
+  planned-side =
+      rw (side-ref c (rowAt 52 lanes i) side, side-ref c (rowAt 52 lanes j) side, drawn-same i, drawn-same j, own-alone c lanes h i l side, own-alone c lanes h j k side)
+
+  -- a boundary that both lanes name
+  pub side-kept : one ≡ two → sidePlan join c lanes boundaries i j side ≡ yield kept
+  side-kept e = planned-side ∙ rw (eq-eqb one two e)
+
+  module _ (n : one ≡ two → ⊥) where
+    pub first-absent : placeOf 5 boundaries one ≡ Nothing → sidePlan join c lanes boundaries i j side ≡ refuse (BoundaryAbsent one)
+    first-absent q = planned-side ∙ rw (ne-eqb one two n, oriented-absent c boundaries (rowAt 52 lanes i) side (refAt (sideWord side) (rowAt 52 lanes i)) refl q)
+
+    module _ (s : allStored 5 2 c boundaries ≡ true) (x : ℕ) (q : placeOf 5 boundaries one ≡ At x) where
+      pub second-absent : placeOf 5 boundaries two ≡ Nothing → sidePlan join c lanes boundaries i j side ≡ refuse (BoundaryAbsent two)
+      second-absent r =
+          planned-side ∙ rw (ne-eqb one two n, side-some c lanes boundaries i side s x q, oriented-absent c boundaries (rowAt 52 lanes j) side (refAt (sideWord side) (rowAt 52 lanes j)) refl r)
+
+      -- both are present
+      pub side-joined : (y : ℕ) → placeOf 5 boundaries two ≡ At y
+          → sidePlan join c lanes boundaries i j side
+          ≡ yield (joined (bothAlone lanes i one j two) (concat join (pointsOf (sideLine c lanes boundaries i side)) (pointsOf (sideLine c lanes boundaries j side))))
+      side-joined y r = planned-side ∙ rw (ne-eqb one two n, side-some c lanes boundaries i side s x q, side-some c lanes boundaries j side s y r)

@@ -249,7 +249,7 @@ fn slot_word(side: Side) -> usize
 
 // The warning that a neighbour of the lane in row j is dropped: the slot of the lane in row i on that side names another lane, or none.
 pub fn dropped(lanes: &[u64], i: usize, j: usize, side: Side) -> Notice
-    requires { ⌜ (K.sortedTable 1024 52 (now lanes) ≡ true) × ((i < word 0 (now lanes)) × ((j < word 0 (now lanes)) × (allRows 52 laneFormed (now lanes) ≡ true))) ⌝ }
+    requires { ⌜ (K.sortedTable 1024 52 (now lanes) ≡ true) × ((i < word 0 (now lanes)) × (j < word 0 (now lanes))) ⌝ }
     ensures { λ r. ⌜ issues r ≡ M.dropped (P.laneIn [] (now (lanes .entry)) i .id) (neighborOn side (P.laneIn [] (now (lanes .entry)) j)) (neighborOn side (P.laneIn [] (now (lanes .entry)) i)) ⌝ }
 {
     let k = slot_word(side);

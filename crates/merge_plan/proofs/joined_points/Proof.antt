@@ -6,6 +6,9 @@ use Rattle.merge_plan.proofs.joined_points.Lts as lts
 use Rattle.lookup.proofs.oriented_first.Reads as oriented-first-reads
 use Rattle.lookup.proofs.oriented_last.Reads as oriented-last-reads
 use Rattle.polyline.proofs.meeting.Reads as meeting-reads
+use native.Mathlib.Omega.{arith}
+use Rattle.lookup.specs.Lookup.{sideLine}
+use Rattle.merge_plan.proofs.Laws.{met-few, joined-long, first-long, second-long, both-few, first-row, second-row}
 
 -- src/lib.rt:104:9
 oriented-last-requires : tie.Need-oriented-last-requires
@@ -17,47 +20,47 @@ oriented-first-requires c κs = search needs
 
 -- src/lib.rt:106:30
 mul-one : tie.Need-mul-one
-mul-one c = ?
+mul-one c = omega (arith, first-row (c .before .before .before .before .before .args .lanes .now) (c .before .before .before .before .before .args .i) (c .before .before .before .before .before .args .j) (c .before .before .before .before .before .args .side) (c .before .before .before .before .before .args .boundaries .now) (c .before .before .before .before .before .args .x) (c .before .before .before .before .before .args .y) (c .before .before .before .before .before .args .coordinates .now) (c .before .before .before .before .before .pre), second-row (c .before .before .before .before .before .args .lanes .now) (c .before .before .before .before .before .args .i) (c .before .before .before .before .before .args .j) (c .before .before .before .before .before .args .side) (c .before .before .before .before .before .args .boundaries .now) (c .before .before .before .before .before .args .x) (c .before .before .before .before .before .args .y) (c .before .before .before .before .before .args .coordinates .now) (c .before .before .before .before .before .pre))
 
 -- src/lib.rt:106:26
 add-one : tie.Need-add-one
-add-one c = ?
+add-one c = omega (arith, first-row (c .before .before .before .before .before .args .lanes .now) (c .before .before .before .before .before .args .i) (c .before .before .before .before .before .args .j) (c .before .before .before .before .before .args .side) (c .before .before .before .before .before .args .boundaries .now) (c .before .before .before .before .before .args .x) (c .before .before .before .before .before .args .y) (c .before .before .before .before .before .args .coordinates .now) (c .before .before .before .before .before .pre), second-row (c .before .before .before .before .before .args .lanes .now) (c .before .before .before .before .before .args .i) (c .before .before .before .before .before .args .j) (c .before .before .before .before .before .args .side) (c .before .before .before .before .before .args .boundaries .now) (c .before .before .before .before .before .args .x) (c .before .before .before .before .before .args .y) (c .before .before .before .before .before .args .coordinates .now) (c .before .before .before .before .before .pre))
 
 -- src/lib.rt:106:26
 add-one-2 : tie.Need-add-one-2
-add-one-2 c = ?
+add-one-2 c = omega (arith, first-row (c .before .before .before .before .before .args .lanes .now) (c .before .before .before .before .before .args .i) (c .before .before .before .before .before .args .j) (c .before .before .before .before .before .args .side) (c .before .before .before .before .before .args .boundaries .now) (c .before .before .before .before .before .args .x) (c .before .before .before .before .before .args .y) (c .before .before .before .before .before .args .coordinates .now) (c .before .before .before .before .before .pre), second-row (c .before .before .before .before .before .args .lanes .now) (c .before .before .before .before .before .args .i) (c .before .before .before .before .before .args .j) (c .before .before .before .before .before .args .side) (c .before .before .before .before .before .args .boundaries .now) (c .before .before .before .before .before .args .x) (c .before .before .before .before .before .args .y) (c .before .before .before .before .before .args .coordinates .now) (c .before .before .before .before .before .pre))
 
 -- src/lib.rt:106:15
 mul-one-2 : tie.Need-mul-one-2
-mul-one-2 c = ?
+mul-one-2 c = omega (arith, first-row (c .before .before .before .before .before .args .lanes .now) (c .before .before .before .before .before .args .i) (c .before .before .before .before .before .args .j) (c .before .before .before .before .before .args .side) (c .before .before .before .before .before .args .boundaries .now) (c .before .before .before .before .before .args .x) (c .before .before .before .before .before .args .y) (c .before .before .before .before .before .args .coordinates .now) (c .before .before .before .before .before .pre), second-row (c .before .before .before .before .before .args .lanes .now) (c .before .before .before .before .before .args .i) (c .before .before .before .before .before .args .j) (c .before .before .before .before .before .args .side) (c .before .before .before .before .before .args .boundaries .now) (c .before .before .before .before .before .args .x) (c .before .before .before .before .before .args .y) (c .before .before .before .before .before .args .coordinates .now) (c .before .before .before .before .before .pre))
 
 -- src/lib.rt:106:15
 shared-slice-read-one : tie.Need-shared-slice-read-one
-shared-slice-read-one c = ?
+shared-slice-read-one c = omega (arith, first-row (c .before .before .before .before .before .before .args .lanes .now) (c .before .before .before .before .before .before .args .i) (c .before .before .before .before .before .before .args .j) (c .before .before .before .before .before .before .args .side) (c .before .before .before .before .before .before .args .boundaries .now) (c .before .before .before .before .before .before .args .x) (c .before .before .before .before .before .before .args .y) (c .before .before .before .before .before .before .args .coordinates .now) (c .before .before .before .before .before .before .pre), second-row (c .before .before .before .before .before .before .args .lanes .now) (c .before .before .before .before .before .before .args .i) (c .before .before .before .before .before .before .args .j) (c .before .before .before .before .before .before .args .side) (c .before .before .before .before .before .before .args .boundaries .now) (c .before .before .before .before .before .before .args .x) (c .before .before .before .before .before .before .args .y) (c .before .before .before .before .before .before .args .coordinates .now) (c .before .before .before .before .before .before .pre))
 
 -- src/lib.rt:107:30
 mul-two : tie.Need-mul-two
-mul-two c = ?
+mul-two c = omega (arith, first-row (c .before .before .before .before .before .before .args .lanes .now) (c .before .before .before .before .before .before .args .i) (c .before .before .before .before .before .before .args .j) (c .before .before .before .before .before .before .args .side) (c .before .before .before .before .before .before .args .boundaries .now) (c .before .before .before .before .before .before .args .x) (c .before .before .before .before .before .before .args .y) (c .before .before .before .before .before .before .args .coordinates .now) (c .before .before .before .before .before .before .pre), second-row (c .before .before .before .before .before .before .args .lanes .now) (c .before .before .before .before .before .before .args .i) (c .before .before .before .before .before .before .args .j) (c .before .before .before .before .before .before .args .side) (c .before .before .before .before .before .before .args .boundaries .now) (c .before .before .before .before .before .before .args .x) (c .before .before .before .before .before .before .args .y) (c .before .before .before .before .before .before .args .coordinates .now) (c .before .before .before .before .before .before .pre))
 
 -- src/lib.rt:107:26
 add-two : tie.Need-add-two
-add-two c = ?
+add-two c = omega (arith, first-row (c .before .before .before .before .before .before .args .lanes .now) (c .before .before .before .before .before .before .args .i) (c .before .before .before .before .before .before .args .j) (c .before .before .before .before .before .before .args .side) (c .before .before .before .before .before .before .args .boundaries .now) (c .before .before .before .before .before .before .args .x) (c .before .before .before .before .before .before .args .y) (c .before .before .before .before .before .before .args .coordinates .now) (c .before .before .before .before .before .before .pre), second-row (c .before .before .before .before .before .before .args .lanes .now) (c .before .before .before .before .before .before .args .i) (c .before .before .before .before .before .before .args .j) (c .before .before .before .before .before .before .args .side) (c .before .before .before .before .before .before .args .boundaries .now) (c .before .before .before .before .before .before .args .x) (c .before .before .before .before .before .before .args .y) (c .before .before .before .before .before .before .args .coordinates .now) (c .before .before .before .before .before .before .pre))
 
 -- src/lib.rt:107:26
 add-two-2 : tie.Need-add-two-2
-add-two-2 c = ?
+add-two-2 c = omega (arith, first-row (c .before .before .before .before .before .before .args .lanes .now) (c .before .before .before .before .before .before .args .i) (c .before .before .before .before .before .before .args .j) (c .before .before .before .before .before .before .args .side) (c .before .before .before .before .before .before .args .boundaries .now) (c .before .before .before .before .before .before .args .x) (c .before .before .before .before .before .before .args .y) (c .before .before .before .before .before .before .args .coordinates .now) (c .before .before .before .before .before .before .pre), second-row (c .before .before .before .before .before .before .args .lanes .now) (c .before .before .before .before .before .before .args .i) (c .before .before .before .before .before .before .args .j) (c .before .before .before .before .before .before .args .side) (c .before .before .before .before .before .before .args .boundaries .now) (c .before .before .before .before .before .before .args .x) (c .before .before .before .before .before .before .args .y) (c .before .before .before .before .before .before .args .coordinates .now) (c .before .before .before .before .before .before .pre))
 
 -- src/lib.rt:107:15
 mul-two-2 : tie.Need-mul-two-2
-mul-two-2 c = ?
+mul-two-2 c = omega (arith, first-row (c .before .before .before .before .before .before .args .lanes .now) (c .before .before .before .before .before .before .args .i) (c .before .before .before .before .before .before .args .j) (c .before .before .before .before .before .before .args .side) (c .before .before .before .before .before .before .args .boundaries .now) (c .before .before .before .before .before .before .args .x) (c .before .before .before .before .before .before .args .y) (c .before .before .before .before .before .before .args .coordinates .now) (c .before .before .before .before .before .before .pre), second-row (c .before .before .before .before .before .before .args .lanes .now) (c .before .before .before .before .before .before .args .i) (c .before .before .before .before .before .before .args .j) (c .before .before .before .before .before .before .args .side) (c .before .before .before .before .before .before .args .boundaries .now) (c .before .before .before .before .before .before .args .x) (c .before .before .before .before .before .before .args .y) (c .before .before .before .before .before .before .args .coordinates .now) (c .before .before .before .before .before .before .pre))
 
 -- src/lib.rt:107:15
 shared-slice-read-two : tie.Need-shared-slice-read-two
-shared-slice-read-two c = ?
+shared-slice-read-two c = omega (arith, first-row (c .before .before .before .before .before .before .before .args .lanes .now) (c .before .before .before .before .before .before .before .args .i) (c .before .before .before .before .before .before .before .args .j) (c .before .before .before .before .before .before .before .args .side) (c .before .before .before .before .before .before .before .args .boundaries .now) (c .before .before .before .before .before .before .before .args .x) (c .before .before .before .before .before .before .before .args .y) (c .before .before .before .before .before .before .before .args .coordinates .now) (c .before .before .before .before .before .before .before .pre), second-row (c .before .before .before .before .before .before .before .args .lanes .now) (c .before .before .before .before .before .before .before .args .i) (c .before .before .before .before .before .before .before .args .j) (c .before .before .before .before .before .before .before .args .side) (c .before .before .before .before .before .before .before .args .boundaries .now) (c .before .before .before .before .before .before .before .args .x) (c .before .before .before .before .before .before .before .args .y) (c .before .before .before .before .before .before .before .args .coordinates .now) (c .before .before .before .before .before .before .before .pre))
 
 -- src/lib.rt:108:5
 add-result : tie.Need-add-result
-add-result c = ?
+add-result c = omega (arith, both-few (c .before .before .before .before .before .before .before .args .lanes .now) (c .before .before .before .before .before .before .before .args .i) (c .before .before .before .before .before .before .before .args .j) (c .before .before .before .before .before .before .before .args .side) (c .before .before .before .before .before .before .before .args .boundaries .now) (c .before .before .before .before .before .before .before .args .x) (c .before .before .before .before .before .before .before .args .y) (c .before .before .before .before .before .before .before .args .coordinates .now) (c .before .before .before .before .before .before .before .pre))
 
 -- src/lib.rt:108:17
 meeting-requires : tie.Need-meeting-requires
@@ -65,11 +68,11 @@ meeting-requires c κs = search needs
 
 -- src/lib.rt:108:5
 sub-result : tie.Need-sub-result
-sub-result c = ?
+sub-result c = omega (arith, met-few (c .before .before .before .before .before .before .before .before .args .join) (sideLine (c .before .before .before .before .before .before .before .before .args .coordinates .now) (c .before .before .before .before .before .before .before .before .args .lanes .now) (c .before .before .before .before .before .before .before .before .args .boundaries .now) (c .before .before .before .before .before .before .before .before .args .i) (c .before .before .before .before .before .before .before .before .args .side)) (sideLine (c .before .before .before .before .before .before .before .before .args .coordinates .now) (c .before .before .before .before .before .before .before .before .args .lanes .now) (c .before .before .before .before .before .before .before .before .args .boundaries .now) (c .before .before .before .before .before .before .before .before .args .j) (c .before .before .before .before .before .before .before .before .args .side)) _ _ (first-long (c .before .before .before .before .before .before .before .before .args .lanes .now) (c .before .before .before .before .before .before .before .before .args .i) (c .before .before .before .before .before .before .before .before .args .j) (c .before .before .before .before .before .before .before .before .args .side) (c .before .before .before .before .before .before .before .before .args .boundaries .now) (c .before .before .before .before .before .before .before .before .args .x) (c .before .before .before .before .before .before .before .before .args .y) (c .before .before .before .before .before .before .before .before .args .coordinates .now) (c .before .before .before .before .before .before .before .before .pre)) (second-long (c .before .before .before .before .before .before .before .before .args .lanes .now) (c .before .before .before .before .before .before .before .before .args .i) (c .before .before .before .before .before .before .before .before .args .j) (c .before .before .before .before .before .before .before .before .args .side) (c .before .before .before .before .before .before .before .before .args .boundaries .now) (c .before .before .before .before .before .before .before .before .args .x) (c .before .before .before .before .before .before .before .before .args .y) (c .before .before .before .before .before .before .before .before .args .coordinates .now) (c .before .before .before .before .before .before .before .before .pre)) (c .before .before .before .before .oriented-last .result) (c .before .before .before .oriented-first .result) (c .before .before .before .before .oriented-last .ensures) (c .before .before .before .oriented-first .ensures) (c .meeting .result) (c .meeting .ensures))
 
 -- src/lib.rt:90:1
 returns : tie.Need-returns
-returns c = ?
+returns c = joined-long (c .before .before .before .before .before .before .before .before .args .join) (sideLine (c .before .before .before .before .before .before .before .before .args .coordinates .now) (c .before .before .before .before .before .before .before .before .args .lanes .now) (c .before .before .before .before .before .before .before .before .args .boundaries .now) (c .before .before .before .before .before .before .before .before .args .i) (c .before .before .before .before .before .before .before .before .args .side)) (sideLine (c .before .before .before .before .before .before .before .before .args .coordinates .now) (c .before .before .before .before .before .before .before .before .args .lanes .now) (c .before .before .before .before .before .before .before .before .args .boundaries .now) (c .before .before .before .before .before .before .before .before .args .j) (c .before .before .before .before .before .before .before .before .args .side)) _ _ (first-long (c .before .before .before .before .before .before .before .before .args .lanes .now) (c .before .before .before .before .before .before .before .before .args .i) (c .before .before .before .before .before .before .before .before .args .j) (c .before .before .before .before .before .before .before .before .args .side) (c .before .before .before .before .before .before .before .before .args .boundaries .now) (c .before .before .before .before .before .before .before .before .args .x) (c .before .before .before .before .before .before .before .before .args .y) (c .before .before .before .before .before .before .before .before .args .coordinates .now) (c .before .before .before .before .before .before .before .before .pre)) (second-long (c .before .before .before .before .before .before .before .before .args .lanes .now) (c .before .before .before .before .before .before .before .before .args .i) (c .before .before .before .before .before .before .before .before .args .j) (c .before .before .before .before .before .before .before .before .args .side) (c .before .before .before .before .before .before .before .before .args .boundaries .now) (c .before .before .before .before .before .before .before .before .args .x) (c .before .before .before .before .before .before .before .before .args .y) (c .before .before .before .before .before .before .before .before .args .coordinates .now) (c .before .before .before .before .before .before .before .before .pre)) (c .before .before .before .before .oriented-last .result) (c .before .before .before .oriented-first .result) (c .before .before .before .before .oriented-last .ensures) (c .before .before .before .oriented-first .ensures) (c .meeting .result) (c .meeting .ensures)
 
 pub joined-points-spec : {M : Type 1} → statement M
 joined-points-spec =
