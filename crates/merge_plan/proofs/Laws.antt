@@ -21,16 +21,18 @@ use Rattle.polyline.proofs.Points.{length-points}
 use Rattle.polyline.proofs.Lines.{skipped-few, length-concat}
 use Rattle.polyline.specs.declared.OptionPoint3.{OptionPoint3}
 use Rattle.entities.specs.Records.{Line}
-use Rattle.rules.specs.Names.{Side, Left, Right, BoundaryAbsent}
+use Rattle.rules.specs.Names.{Side, Left, Right, BoundaryRef, BoundaryAbsent}
 use Rattle.rules.specs.Map.{boundary, boundaryOn, oriented-boundary, firstOf, lastOf, uses, lanes-using-boundary}
 use Rattle.rules.specs.Edit.{Res, refuse, yield}
 use Rattle.rules.specs.Merge.{SidePlan, kept, joined, joinedLines, side-plan}
 use Rattle.tables.specs.View.{word, mark, refAt, part, rows, laneOf}
 use Rattle.tables.specs.Formed.{spanAt, stored}
-use Rattle.lookup.specs.Lookup.{rowAt, sortedTable, placeOf, allStored, pointsOf, sideWord, sideLine, usedBesides, drawn}
+use Rattle.lookup.specs.Lookup.{Drawable, rowAt, sortedTable, placeOf, allStored, pointsOf, sideWord, sideLine, usedBesides, drawn}
 use Rattle.lookup.proofs.Laws.{sorted-ascends, sorted-row, stored-room, part-few, place-within, word-in, row-passes, length-turned, side-ref, oriented-absent, oriented-there, alone-using}
 use Rattle.lookup.proofs.Center.{oriented-few}
-use Rattle.merge_plan.specs.Deciding.{SideRows, laneIn, drawnLanes, sidePlan, joinedLength, bothAlone}
+use Rattle.merge_plan.specs.Deciding.{SideRows, laneIn, drawnLanes, sideTold, sidePlan, joinedLength, bothAlone}
+use Rattle.merge_plan.specs.declared.Joined.the-variants.{Kept, InPlace, Fresh}
+use Rattle.merge_plan.specs.declared.SidePlanned.the-variants.{Refused, Joins}
 
 -- ---- rows
 
@@ -165,38 +167,53 @@ module _ (c : List Float) (lanes : List ℕ) (h : sortedTable 1024 52 lanes ≡ 
   unfolding laneOf
   own-alone = alone-using c lanes h (word 0 (rowAt 52 lanes i)) (refAt (sideWord side) (rowAt 52 lanes i) .boundary) i (own-place 1024 52 lanes h i l) own-boundary
 
-module _ (join : Float) (c : List Float) (lanes boundaries : List ℕ) (h : sortedTable 1024 52 lanes ≡ true) (i j : ℕ) (l : i < word 0 lanes) (k : j < word 0 lanes) (side : Side) where
+-- the lanes in rows i and j, whose references on a side are ra and rb
+module _ (join : Float) (c : List Float) (lanes boundaries : List ℕ) (d : Drawable lanes boundaries c) (i j : ℕ) (l : i < word 0 lanes) (k : j < word 0 lanes) (side : Side)
+    (ra rb : BoundaryRef) (ea : ra ≡ refAt (sideWord side) (rowAt 52 lanes i)) (eb : rb ≡ refAt (sideWord side) (rowAt 52 lanes j)) where
   abbrev one : ℕ
-  one = refAt (sideWord side) (rowAt 52 lanes i) .boundary
+  one = ra .boundary
 
   abbrev two : ℕ
-  two = refAt (sideWord side) (rowAt 52 lanes j) .boundary
+  two = rb .boundary
+
+  abbrev plan : Res SidePlan
+  plan = sidePlan join c lanes boundaries i j side
 
   drawn-same : (n : ℕ) → oriented-boundary (drawnLanes c lanes boundaries) side (laneIn c lanes n) ≡ sideLine c lanes boundaries n side
   unfolding oriented-boundary boundary
   drawn-same n = refl
 
-  planned-side : sidePlan join c lanes boundaries i j side
-      ≡ cond (eqb one two) (yield kept) (joinedLines join (bothAlone lanes i one j two) one two (sideLine c lanes boundaries i side) (sideLine c lanes boundaries j side))
+  planned-side : plan ≡ cond (eqb one two) (yield kept) (joinedLines join (bothAlone lanes i one j two) one two (sideLine c lanes boundaries i side) (sideLine c lanes boundaries j side))
   unfolding side-plan
   planned-side =
-      rw (side-ref c (rowAt 52 lanes i) side, side-ref c (rowAt 52 lanes j) side, drawn-same i, drawn-same j, own-alone c lanes h i l side, own-alone c lanes h j k side)
+      rw (ea, eb, side-ref c (rowAt 52 lanes i) side, side-ref c (rowAt 52 lanes j) side, drawn-same i, drawn-same j, own-alone c lanes (d .lanes-sorted) i l side, own-alone c lanes (d .lanes-sorted) j k side)
 
   -- a boundary that both lanes name
-  pub side-kept : one ≡ two → sidePlan join c lanes boundaries i j side ≡ yield kept
-  side-kept e = planned-side ∙ rw (eq-eqb one two e)
+  pub side-kept : one ≡ two → Joins Kept ≡ sideTold plan
+  side-kept e = sym (ap sideTold planned-side ∙ rw (eq-eqb one two e))
 
   module _ (n : one ≡ two → ⊥) where
-    pub first-absent : placeOf 5 boundaries one ≡ Nothing → sidePlan join c lanes boundaries i j side ≡ refuse (BoundaryAbsent one)
-    first-absent q = planned-side ∙ rw (ne-eqb one two n, oriented-absent c boundaries (rowAt 52 lanes i) side (refAt (sideWord side) (rowAt 52 lanes i)) refl q)
+    pub first-absent : placeOf 5 boundaries one ≡ Nothing → Refused (BoundaryAbsent one) ≡ sideTold plan
+    first-absent q = sym (ap sideTold planned-side ∙ rw (ne-eqb one two n, oriented-absent c boundaries (rowAt 52 lanes i) side ra ea q))
 
-    module _ (s : allStored 5 2 c boundaries ≡ true) (x : ℕ) (q : placeOf 5 boundaries one ≡ At x) where
-      pub second-absent : placeOf 5 boundaries two ≡ Nothing → sidePlan join c lanes boundaries i j side ≡ refuse (BoundaryAbsent two)
-      second-absent r =
-          planned-side ∙ rw (ne-eqb one two n, side-some c lanes boundaries i side s x q, oriented-absent c boundaries (rowAt 52 lanes j) side (refAt (sideWord side) (rowAt 52 lanes j)) refl r)
+    module _ (x : ℕ) (q : placeOf 5 boundaries one ≡ At x) where
+      first-some : sideLine c lanes boundaries i side ≡ some (pointsOf (sideLine c lanes boundaries i side))
+      first-some = side-some c lanes boundaries i side (d .boundaries-stored) x (rw ea at q)
 
-      -- both are present
-      pub side-joined : (y : ℕ) → placeOf 5 boundaries two ≡ At y
-          → sidePlan join c lanes boundaries i j side
-          ≡ yield (joined (bothAlone lanes i one j two) (concat join (pointsOf (sideLine c lanes boundaries i side)) (pointsOf (sideLine c lanes boundaries j side))))
-      side-joined y r = planned-side ∙ rw (ne-eqb one two n, side-some c lanes boundaries i side s x q, side-some c lanes boundaries j side s y r)
+      pub second-absent : placeOf 5 boundaries two ≡ Nothing → Refused (BoundaryAbsent two) ≡ sideTold plan
+      second-absent r = sym (ap sideTold planned-side ∙ rw (ne-eqb one two n, first-some, oriented-absent c boundaries (rowAt 52 lanes j) side rb eb r))
+
+      module _ (y : ℕ) (r : placeOf 5 boundaries two ≡ At y) where
+        -- both boundaries are present
+        pub side-rows : SideRows lanes i j side boundaries x y c
+        side-rows = record { drawable = d; first = l; second = k; first-boundary = rw ea at q; second-boundary = rw eb at r }
+
+        side-joined : plan ≡ yield (joined (bothAlone lanes i one j two) (concat join (pointsOf (sideLine c lanes boundaries i side)) (pointsOf (sideLine c lanes boundaries j side))))
+        side-joined = planned-side ∙ rw (ne-eqb one two n, first-some, side-some c lanes boundaries j side (d .boundaries-stored) y (rw eb at r))
+
+        module _ (m : ℕ) (em : m ≡ joinedLength join (sideLine c lanes boundaries i side) (sideLine c lanes boundaries j side)) (b : Bool) (f : b ≡ bothAlone lanes i one j two) where
+          pub side-in-place : b ≡ true → Joins (InPlace m) ≡ sideTold plan
+          side-in-place t = sym (ap sideTold side-joined ∙ rw (← f, t, em))
+
+          pub side-fresh : b ≡ false → Joins (Fresh m) ≡ sideTold plan
+          side-fresh t = sym (ap sideTold side-joined ∙ rw (← f, t, em))

@@ -7,7 +7,7 @@ use mathlib.Core.List.{List, [], _∷_}
 use mathlib.Core.Option.{Option, none, some}
 use lib.Dec.{eqb}
 use lib.ListN.{length, getD}
-use lib.Ieee.{Float}
+use lib.Ieee.{Float, binary64, ofBits, ne}
 use borrow.Author.Tests.{eq-eqb, ne-eqb}
 use Rattle.lists.specs.Select.{sameNumbers}
 use Rattle.lists.proofs.Booleans.{or-right, or-false, and-false}
@@ -148,33 +148,33 @@ module _ (join : Float) (c : List Float) (lanes : List ℕ) (i j : ℕ) where
 
 -- ---- both sides
 
-module _ (l r : Res SidePlan) (x y : SidePlanned) (ex : x ≡ sideTold l) (ey : y ≡ sideTold r) (center : OptionCount) where
-  pub left-refused : (z : Refusal) → x ≡ Refused z → N.Refused z ≡ planTold center (bothPlans l r)
+module _ (l r : Res SidePlan) (x y : SidePlanned) (ex : x ≡ sideTold l) (ey : y ≡ sideTold r) (center count : OptionCount) (ec : center ≡ count) where
+  pub left-refused : (z : Refusal) → x ≡ Refused z → N.Refused z ≡ planTold count (bothPlans l r)
   left-refused z e = go l (sym e ∙ ex)
     where
-      go : (l : Res SidePlan) → Refused z ≡ sideTold l → N.Refused z ≡ planTold center (bothPlans l r)
+      go : (l : Res SidePlan) → Refused z ≡ sideTold l → N.Refused z ≡ planTold count (bothPlans l r)
       go (refuse s) f = cc
       go (yield p) f = let z : _≡_ {A = ℕ} 0 1 = cc in absurd (omega arith)
 
   module _ (a : Joined) (ea : x ≡ Joins a) where
-    pub right-refused : (z : Refusal) → y ≡ Refused z → N.Refused z ≡ planTold center (bothPlans l r)
+    pub right-refused : (z : Refusal) → y ≡ Refused z → N.Refused z ≡ planTold count (bothPlans l r)
     right-refused z e = go l r (sym ea ∙ ex) (sym e ∙ ey)
       where
-        go : (l r : Res SidePlan) → Joins a ≡ sideTold l → Refused z ≡ sideTold r → N.Refused z ≡ planTold center (bothPlans l r)
+        go : (l r : Res SidePlan) → Joins a ≡ sideTold l → Refused z ≡ sideTold r → N.Refused z ≡ planTold count (bothPlans l r)
         go (refuse s) r f g = let z : _≡_ {A = ℕ} 0 1 = cc in absurd (omega arith)
         go (yield p) (refuse s) f g = cc
         go (yield p) (yield q) f g = let z : _≡_ {A = ℕ} 0 1 = cc in absurd (omega arith)
 
-    pub both-join : (b : Joined) → y ≡ Joins b → N.Merges (record { left = a; right = b; center = center }) ≡ planTold center (bothPlans l r)
+    pub both-join : (b : Joined) → y ≡ Joins b → N.Merges (record { left = a; right = b; center = center }) ≡ planTold count (bothPlans l r)
     both-join b e = go l r (sym ea ∙ ex) (sym e ∙ ey)
       where
-        go : (l r : Res SidePlan) → Joins a ≡ sideTold l → Joins b ≡ sideTold r → N.Merges (record { left = a; right = b; center = center }) ≡ planTold center (bothPlans l r)
+        go : (l r : Res SidePlan) → Joins a ≡ sideTold l → Joins b ≡ sideTold r → N.Merges (record { left = a; right = b; center = center }) ≡ planTold count (bothPlans l r)
         go (refuse s) r f g = let z : _≡_ {A = ℕ} 0 1 = cc in absurd (omega arith)
         go (yield p) (refuse s) f g = let z : _≡_ {A = ℕ} 0 1 = cc in absurd (omega arith)
         go (yield p) (yield q) f g =
             let u : a ≡ counted p = cc in
             let v : b ≡ counted q = cc in
-            rw (u, v)
+            rw (u, v, ec)
 
 -- ---- what is warned of
 
@@ -184,6 +184,22 @@ cond-not false x y = refl
 
 speed-at : (w : List ℕ) → optionAt 9 w ≡ speedOf (word 9 w) (word 10 w)
 speed-at w = cond-not (eqb (word 9 w) 0) (some (word 10 w)) none
+
+-- speed limits as they are read, with their marks
+module _ (one x two y : ℕ) where
+  pub first-unlimited : one ≡ 0 → not (eqb two 0) ≡ speedWords one x two y
+  first-unlimited e = rw (eq-eqb one 0 e) (go (eqb two 0))
+    where
+      go : (b : Bool) → not b ≡ speedsDiffer none (cond b none (some y))
+      go true = refl
+      go false = refl
+
+  module _ (n : one ≡ 0 → ⊥) where
+    pub second-unlimited : two ≡ 0 → true ≡ speedWords one x two y
+    second-unlimited e = rw (ne-eqb one 0 n, eq-eqb two 0 e)
+
+    pub both-limited : (two ≡ 0 → ⊥) → (p q : Float) → p ≡ ofBits binary64 x → q ≡ ofBits binary64 y → ne p q ≡ speedWords one x two y
+    both-limited m p q ep eq = rw (ne-eqb one 0 n, ne-eqb two 0 m, ep, eq)
 
 module _ (lanes : List ℕ) (i j : ℕ) where
   read : (k n : ℕ) → k < 52 → getD lanes (1 + n * 52 + k) 0 ≡ word k (rowAt 52 lanes n)
@@ -246,18 +262,18 @@ dropped-slot a k w f e = rw e (go (eqb (word k w) 1))
     go false = refl
 
 module _ (lanes : List ℕ) (i j k : ℕ) (side : Side) (ek : k ≡ slotWord side) where
-  small : suc k < 52
-  small = go side ek
+  pub slot-small : suc k < 52
+  slot-small = go side ek
     where
       go : (s : Side) → k ≡ slotWord s → suc k < 52
       go Left e = omega arith
       go Right e = omega arith
 
   mark-read : (n : ℕ) → getD lanes (1 + n * 52 + k) 0 ≡ word k (rowAt 52 lanes n)
-  mark-read n = let p : k < 52 = omega (arith, small) in word-in 52 lanes n k p
+  mark-read n = let p : k < 52 = omega (arith, slot-small) in word-in 52 lanes n k p
 
   lane-read : (n : ℕ) → getD lanes (1 + n * 52 + k + 1) 0 ≡ word (suc k) (rowAt 52 lanes n)
-  lane-read n = next-in 52 lanes n k small
+  lane-read n = next-in 52 lanes n k slot-small
 
   slot-in : (n : ℕ) → neighborOn side (laneIn [] lanes n) ≡ slotAt k (rowAt 52 lanes n)
   slot-in n = rw ek (slot-on side (rowAt 52 lanes n))
