@@ -2,19 +2,18 @@
 use mathlib.Core.Path.{_≡_, refl, sym, ap, _∙_}
 use Prim.Native.Nat.{ℕ, suc, _+_, _-_, _*_, _≤_, _<_}
 use native.Mathlib.Omega.{arith}
-use native.Mathlib.Nat.{add-zero}
-use mathlib.Core.Bool.{Bool, true, false, not, _&&_, _||_, cond}
+use mathlib.Core.Bool.{Bool, true, false, not, _&&_, cond}
 use mathlib.Core.List.{List, [], _∷_, reverse}
 use mathlib.Core.Option.{Option, none, some}
 use lib.Dec.{eqb}
-use lib.ListN.{length, getD, take, drop, length-drop, length-take}
+use lib.ListN.{length, getD, drop, length-drop, length-take}
 use lib.Seq.{drop-drop}
 use lib.Ieee.{Float}
 use borrow.Author.Tests.{eqb-true, eqb-false, eq-eqb, ne-eqb}
 use Rattle.lists.specs.Rows.{keys}
 use Rattle.lists.specs.Select.{sameNumbers}
 use Rattle.lists.specs.declared.Found.the-variants.{At, Nothing}
-use Rattle.lists.proofs.Booleans.{or-left, or-right}
+use Rattle.lists.proofs.Booleans.{or-right}
 use Rattle.lists.proofs.Rows.{length-keys, getD-reads, row-at}
 use Rattle.polyline.specs.Polyline.{points, first, last, meeting, skipped, concat}
 use Rattle.polyline.proofs.Points.{length-points}
@@ -22,12 +21,12 @@ use Rattle.polyline.proofs.Lines.{skipped-few, length-concat}
 use Rattle.polyline.specs.declared.OptionPoint3.{OptionPoint3}
 use Rattle.entities.specs.Records.{Line}
 use Rattle.rules.specs.Names.{Side, Left, Right, BoundaryRef, BoundaryAbsent}
-use Rattle.rules.specs.Map.{boundary, boundaryOn, oriented-boundary, firstOf, lastOf, uses, lanes-using-boundary}
-use Rattle.rules.specs.Edit.{Res, refuse, yield}
+use Rattle.rules.specs.Map.{boundary, oriented-boundary, firstOf, lastOf, uses, lanes-using-boundary}
+use Rattle.rules.specs.Edit.{Res, yield}
 use Rattle.rules.specs.Merge.{SidePlan, kept, joined, joinedLines, side-plan}
 use Rattle.tables.specs.View.{word, mark, refAt, part, rows, laneOf}
 use Rattle.tables.specs.Formed.{spanAt, stored}
-use Rattle.lookup.specs.Lookup.{Drawable, rowAt, sortedTable, placeOf, allStored, pointsOf, sideWord, sideLine, usedBesides, drawn}
+use Rattle.lookup.specs.Lookup.{Drawable, rowAt, sortedTable, placeOf, allStored, pointsOf, sideWord, sideLine, usedBesides}
 use Rattle.lookup.proofs.Laws.{sorted-ascends, sorted-row, stored-room, part-few, place-within, word-in, row-passes, length-turned, side-ref, oriented-absent, oriented-there, alone-using}
 use Rattle.lookup.proofs.Center.{oriented-few}
 use Rattle.merge_plan.specs.Deciding.{SideRows, laneIn, drawnLanes, sideTold, sidePlan, joinedLength, bothAlone}
@@ -134,12 +133,13 @@ module _ (lanes : List ℕ) (i j : ℕ) (side : Side) (boundaries : List ℕ) (x
 
   pub both-few : getD boundaries (1 + x * 5 + 3) 0 + getD boundaries (1 + y * 5 + 3) 0 ≤ 512
   both-few =
-      omega
-      (arith,
-      first-long,
-      second-long,
-      oriented-few c boundaries (rowAt 52 lanes i) side (h .drawable .boundaries-short),
-      oriented-few c boundaries (rowAt 52 lanes j) side (h .drawable .boundaries-short))
+      omega (
+        arith,
+        first-long,
+        second-long,
+        oriented-few c boundaries (rowAt 52 lanes i) side (h .drawable .boundaries-short),
+        oriented-few c boundaries (rowAt 52 lanes j) side (h .drawable .boundaries-short),
+      )
 
   -- their rows lie within the table
   pub first-row : 1 + x * 5 + 5 ≤ length boundaries

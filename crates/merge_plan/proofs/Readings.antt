@@ -11,7 +11,7 @@ use lib.Ieee.{Float, binary64, ofBits, ne}
 use borrow.Author.Tests.{eq-eqb, ne-eqb}
 use Rattle.lists.specs.Select.{sameNumbers}
 use Rattle.lists.proofs.Booleans.{or-right, or-false, and-false}
-use Rattle.polyline.specs.Polyline.{points, first, last, meeting, concat}
+use Rattle.polyline.specs.Polyline.{points, first, last, meeting}
 use Rattle.polyline.specs.declared.OptionPoint3.{OptionPoint3}
 use Rattle.entities.specs.Types.{same, opposing, laneEntity}
 use Rattle.entities.specs.Records.{Line, Issue}

@@ -2,7 +2,7 @@
 -- calls rests on this page; the laws in proofs/ tie it to the rules.
 use mathlib.Core.Path.{_≡_}
 use Prim.Native.Nat.{ℕ, _<_}
-use mathlib.Core.Bool.{Bool, true, false, not, _&&_, cond}
+use mathlib.Core.Bool.{Bool, true, not, _&&_, cond}
 use mathlib.Core.List.{List, [], _∷_}
 use mathlib.Core.Option.{Option, none, some}
 use lib.Dec.{eqb}
@@ -25,7 +25,6 @@ use Rattle.merge_plan.specs.declared.Joined.{Joined}
 use Rattle.merge_plan.specs.declared.Joined.the-variants.{Kept, InPlace, Fresh}
 use Rattle.merge_plan.specs.declared.SidePlanned.{SidePlanned}
 use Rattle.merge_plan.specs.declared.SidePlanned.the-variants.{Refused, Joins}
-use Rattle.merge_plan.specs.declared.Plan.{Plan}
 use Rattle.merge_plan.specs.declared.Planned.{Planned}
 use Rattle.merge_plan.specs.declared.Planned.the-variants as N
 

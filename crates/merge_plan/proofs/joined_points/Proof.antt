@@ -1,76 +1,56 @@
-use borrow.Author.Needs.{needs}
-use Rattle.merge_plan.proofs.joined_points.Statement.{statement}
-use Rattle.merge_plan.proofs.joined_points.Tie as tie
-use Rattle.merge_plan.proofs.joined_points.Reads as reads
-use Rattle.merge_plan.proofs.joined_points.Lts as lts
-use Rattle.lookup.proofs.oriented_first.Reads as oriented-first-reads
-use Rattle.lookup.proofs.oriented_last.Reads as oriented-last-reads
-use Rattle.polyline.proofs.meeting.Reads as meeting-reads
+-- `merge_plan::joined_points` meets its contract: a stored line has as many points as its row says, and joined lines as many as both but where they meet. Assumes nothing.
 use native.Mathlib.Omega.{arith}
+use borrow.Author.Needs.{needs}
 use Rattle.lookup.specs.Lookup.{sideLine}
 use Rattle.merge_plan.proofs.Laws.{met-few, joined-long, first-long, second-long, both-few, first-row, second-row}
+use Rattle.merge_plan.proofs.joined_points.Statement.{statement}
+use Rattle.merge_plan.proofs.joined_points.Tie as tie
 
--- src/lib.rt:104:9
 oriented-last-requires : tie.Need-oriented-last-requires
 oriented-last-requires c κs = search needs
 
--- src/lib.rt:105:9
 oriented-first-requires : tie.Need-oriented-first-requires
 oriented-first-requires c κs = search needs
 
--- src/lib.rt:106:30
 mul-one : tie.Need-mul-one
 mul-one c = omega (arith, first-row (c .before .before .before .before .before .args .lanes .now) (c .before .before .before .before .before .args .i) (c .before .before .before .before .before .args .j) (c .before .before .before .before .before .args .side) (c .before .before .before .before .before .args .boundaries .now) (c .before .before .before .before .before .args .x) (c .before .before .before .before .before .args .y) (c .before .before .before .before .before .args .coordinates .now) (c .before .before .before .before .before .pre), second-row (c .before .before .before .before .before .args .lanes .now) (c .before .before .before .before .before .args .i) (c .before .before .before .before .before .args .j) (c .before .before .before .before .before .args .side) (c .before .before .before .before .before .args .boundaries .now) (c .before .before .before .before .before .args .x) (c .before .before .before .before .before .args .y) (c .before .before .before .before .before .args .coordinates .now) (c .before .before .before .before .before .pre))
 
--- src/lib.rt:106:26
 add-one : tie.Need-add-one
 add-one c = omega (arith, first-row (c .before .before .before .before .before .args .lanes .now) (c .before .before .before .before .before .args .i) (c .before .before .before .before .before .args .j) (c .before .before .before .before .before .args .side) (c .before .before .before .before .before .args .boundaries .now) (c .before .before .before .before .before .args .x) (c .before .before .before .before .before .args .y) (c .before .before .before .before .before .args .coordinates .now) (c .before .before .before .before .before .pre), second-row (c .before .before .before .before .before .args .lanes .now) (c .before .before .before .before .before .args .i) (c .before .before .before .before .before .args .j) (c .before .before .before .before .before .args .side) (c .before .before .before .before .before .args .boundaries .now) (c .before .before .before .before .before .args .x) (c .before .before .before .before .before .args .y) (c .before .before .before .before .before .args .coordinates .now) (c .before .before .before .before .before .pre))
 
--- src/lib.rt:106:26
 add-one-2 : tie.Need-add-one-2
 add-one-2 c = omega (arith, first-row (c .before .before .before .before .before .args .lanes .now) (c .before .before .before .before .before .args .i) (c .before .before .before .before .before .args .j) (c .before .before .before .before .before .args .side) (c .before .before .before .before .before .args .boundaries .now) (c .before .before .before .before .before .args .x) (c .before .before .before .before .before .args .y) (c .before .before .before .before .before .args .coordinates .now) (c .before .before .before .before .before .pre), second-row (c .before .before .before .before .before .args .lanes .now) (c .before .before .before .before .before .args .i) (c .before .before .before .before .before .args .j) (c .before .before .before .before .before .args .side) (c .before .before .before .before .before .args .boundaries .now) (c .before .before .before .before .before .args .x) (c .before .before .before .before .before .args .y) (c .before .before .before .before .before .args .coordinates .now) (c .before .before .before .before .before .pre))
 
--- src/lib.rt:106:15
 mul-one-2 : tie.Need-mul-one-2
 mul-one-2 c = omega (arith, first-row (c .before .before .before .before .before .args .lanes .now) (c .before .before .before .before .before .args .i) (c .before .before .before .before .before .args .j) (c .before .before .before .before .before .args .side) (c .before .before .before .before .before .args .boundaries .now) (c .before .before .before .before .before .args .x) (c .before .before .before .before .before .args .y) (c .before .before .before .before .before .args .coordinates .now) (c .before .before .before .before .before .pre), second-row (c .before .before .before .before .before .args .lanes .now) (c .before .before .before .before .before .args .i) (c .before .before .before .before .before .args .j) (c .before .before .before .before .before .args .side) (c .before .before .before .before .before .args .boundaries .now) (c .before .before .before .before .before .args .x) (c .before .before .before .before .before .args .y) (c .before .before .before .before .before .args .coordinates .now) (c .before .before .before .before .before .pre))
 
--- src/lib.rt:106:15
 shared-slice-read-one : tie.Need-shared-slice-read-one
 shared-slice-read-one c = omega (arith, first-row (c .before .before .before .before .before .before .args .lanes .now) (c .before .before .before .before .before .before .args .i) (c .before .before .before .before .before .before .args .j) (c .before .before .before .before .before .before .args .side) (c .before .before .before .before .before .before .args .boundaries .now) (c .before .before .before .before .before .before .args .x) (c .before .before .before .before .before .before .args .y) (c .before .before .before .before .before .before .args .coordinates .now) (c .before .before .before .before .before .before .pre), second-row (c .before .before .before .before .before .before .args .lanes .now) (c .before .before .before .before .before .before .args .i) (c .before .before .before .before .before .before .args .j) (c .before .before .before .before .before .before .args .side) (c .before .before .before .before .before .before .args .boundaries .now) (c .before .before .before .before .before .before .args .x) (c .before .before .before .before .before .before .args .y) (c .before .before .before .before .before .before .args .coordinates .now) (c .before .before .before .before .before .before .pre))
 
--- src/lib.rt:107:30
 mul-two : tie.Need-mul-two
 mul-two c = omega (arith, first-row (c .before .before .before .before .before .before .args .lanes .now) (c .before .before .before .before .before .before .args .i) (c .before .before .before .before .before .before .args .j) (c .before .before .before .before .before .before .args .side) (c .before .before .before .before .before .before .args .boundaries .now) (c .before .before .before .before .before .before .args .x) (c .before .before .before .before .before .before .args .y) (c .before .before .before .before .before .before .args .coordinates .now) (c .before .before .before .before .before .before .pre), second-row (c .before .before .before .before .before .before .args .lanes .now) (c .before .before .before .before .before .before .args .i) (c .before .before .before .before .before .before .args .j) (c .before .before .before .before .before .before .args .side) (c .before .before .before .before .before .before .args .boundaries .now) (c .before .before .before .before .before .before .args .x) (c .before .before .before .before .before .before .args .y) (c .before .before .before .before .before .before .args .coordinates .now) (c .before .before .before .before .before .before .pre))
 
--- src/lib.rt:107:26
 add-two : tie.Need-add-two
 add-two c = omega (arith, first-row (c .before .before .before .before .before .before .args .lanes .now) (c .before .before .before .before .before .before .args .i) (c .before .before .before .before .before .before .args .j) (c .before .before .before .before .before .before .args .side) (c .before .before .before .before .before .before .args .boundaries .now) (c .before .before .before .before .before .before .args .x) (c .before .before .before .before .before .before .args .y) (c .before .before .before .before .before .before .args .coordinates .now) (c .before .before .before .before .before .before .pre), second-row (c .before .before .before .before .before .before .args .lanes .now) (c .before .before .before .before .before .before .args .i) (c .before .before .before .before .before .before .args .j) (c .before .before .before .before .before .before .args .side) (c .before .before .before .before .before .before .args .boundaries .now) (c .before .before .before .before .before .before .args .x) (c .before .before .before .before .before .before .args .y) (c .before .before .before .before .before .before .args .coordinates .now) (c .before .before .before .before .before .before .pre))
 
--- src/lib.rt:107:26
 add-two-2 : tie.Need-add-two-2
 add-two-2 c = omega (arith, first-row (c .before .before .before .before .before .before .args .lanes .now) (c .before .before .before .before .before .before .args .i) (c .before .before .before .before .before .before .args .j) (c .before .before .before .before .before .before .args .side) (c .before .before .before .before .before .before .args .boundaries .now) (c .before .before .before .before .before .before .args .x) (c .before .before .before .before .before .before .args .y) (c .before .before .before .before .before .before .args .coordinates .now) (c .before .before .before .before .before .before .pre), second-row (c .before .before .before .before .before .before .args .lanes .now) (c .before .before .before .before .before .before .args .i) (c .before .before .before .before .before .before .args .j) (c .before .before .before .before .before .before .args .side) (c .before .before .before .before .before .before .args .boundaries .now) (c .before .before .before .before .before .before .args .x) (c .before .before .before .before .before .before .args .y) (c .before .before .before .before .before .before .args .coordinates .now) (c .before .before .before .before .before .before .pre))
 
--- src/lib.rt:107:15
 mul-two-2 : tie.Need-mul-two-2
 mul-two-2 c = omega (arith, first-row (c .before .before .before .before .before .before .args .lanes .now) (c .before .before .before .before .before .before .args .i) (c .before .before .before .before .before .before .args .j) (c .before .before .before .before .before .before .args .side) (c .before .before .before .before .before .before .args .boundaries .now) (c .before .before .before .before .before .before .args .x) (c .before .before .before .before .before .before .args .y) (c .before .before .before .before .before .before .args .coordinates .now) (c .before .before .before .before .before .before .pre), second-row (c .before .before .before .before .before .before .args .lanes .now) (c .before .before .before .before .before .before .args .i) (c .before .before .before .before .before .before .args .j) (c .before .before .before .before .before .before .args .side) (c .before .before .before .before .before .before .args .boundaries .now) (c .before .before .before .before .before .before .args .x) (c .before .before .before .before .before .before .args .y) (c .before .before .before .before .before .before .args .coordinates .now) (c .before .before .before .before .before .before .pre))
 
--- src/lib.rt:107:15
 shared-slice-read-two : tie.Need-shared-slice-read-two
 shared-slice-read-two c = omega (arith, first-row (c .before .before .before .before .before .before .before .args .lanes .now) (c .before .before .before .before .before .before .before .args .i) (c .before .before .before .before .before .before .before .args .j) (c .before .before .before .before .before .before .before .args .side) (c .before .before .before .before .before .before .before .args .boundaries .now) (c .before .before .before .before .before .before .before .args .x) (c .before .before .before .before .before .before .before .args .y) (c .before .before .before .before .before .before .before .args .coordinates .now) (c .before .before .before .before .before .before .before .pre), second-row (c .before .before .before .before .before .before .before .args .lanes .now) (c .before .before .before .before .before .before .before .args .i) (c .before .before .before .before .before .before .before .args .j) (c .before .before .before .before .before .before .before .args .side) (c .before .before .before .before .before .before .before .args .boundaries .now) (c .before .before .before .before .before .before .before .args .x) (c .before .before .before .before .before .before .before .args .y) (c .before .before .before .before .before .before .before .args .coordinates .now) (c .before .before .before .before .before .before .before .pre))
 
--- src/lib.rt:108:5
 add-result : tie.Need-add-result
 add-result c = omega (arith, both-few (c .before .before .before .before .before .before .before .args .lanes .now) (c .before .before .before .before .before .before .before .args .i) (c .before .before .before .before .before .before .before .args .j) (c .before .before .before .before .before .before .before .args .side) (c .before .before .before .before .before .before .before .args .boundaries .now) (c .before .before .before .before .before .before .before .args .x) (c .before .before .before .before .before .before .before .args .y) (c .before .before .before .before .before .before .before .args .coordinates .now) (c .before .before .before .before .before .before .before .pre))
 
--- src/lib.rt:108:17
 meeting-requires : tie.Need-meeting-requires
 meeting-requires c κs = search needs
 
--- src/lib.rt:108:5
 sub-result : tie.Need-sub-result
 sub-result c = omega (arith, met-few (c .before .before .before .before .before .before .before .before .args .join) (sideLine (c .before .before .before .before .before .before .before .before .args .coordinates .now) (c .before .before .before .before .before .before .before .before .args .lanes .now) (c .before .before .before .before .before .before .before .before .args .boundaries .now) (c .before .before .before .before .before .before .before .before .args .i) (c .before .before .before .before .before .before .before .before .args .side)) (sideLine (c .before .before .before .before .before .before .before .before .args .coordinates .now) (c .before .before .before .before .before .before .before .before .args .lanes .now) (c .before .before .before .before .before .before .before .before .args .boundaries .now) (c .before .before .before .before .before .before .before .before .args .j) (c .before .before .before .before .before .before .before .before .args .side)) _ _ (first-long (c .before .before .before .before .before .before .before .before .args .lanes .now) (c .before .before .before .before .before .before .before .before .args .i) (c .before .before .before .before .before .before .before .before .args .j) (c .before .before .before .before .before .before .before .before .args .side) (c .before .before .before .before .before .before .before .before .args .boundaries .now) (c .before .before .before .before .before .before .before .before .args .x) (c .before .before .before .before .before .before .before .before .args .y) (c .before .before .before .before .before .before .before .before .args .coordinates .now) (c .before .before .before .before .before .before .before .before .pre)) (second-long (c .before .before .before .before .before .before .before .before .args .lanes .now) (c .before .before .before .before .before .before .before .before .args .i) (c .before .before .before .before .before .before .before .before .args .j) (c .before .before .before .before .before .before .before .before .args .side) (c .before .before .before .before .before .before .before .before .args .boundaries .now) (c .before .before .before .before .before .before .before .before .args .x) (c .before .before .before .before .before .before .before .before .args .y) (c .before .before .before .before .before .before .before .before .args .coordinates .now) (c .before .before .before .before .before .before .before .before .pre)) (c .before .before .before .before .oriented-last .result) (c .before .before .before .oriented-first .result) (c .before .before .before .before .oriented-last .ensures) (c .before .before .before .oriented-first .ensures) (c .meeting .result) (c .meeting .ensures))
 
--- src/lib.rt:90:1
 returns : tie.Need-returns
 returns c = joined-long (c .before .before .before .before .before .before .before .before .args .join) (sideLine (c .before .before .before .before .before .before .before .before .args .coordinates .now) (c .before .before .before .before .before .before .before .before .args .lanes .now) (c .before .before .before .before .before .before .before .before .args .boundaries .now) (c .before .before .before .before .before .before .before .before .args .i) (c .before .before .before .before .before .before .before .before .args .side)) (sideLine (c .before .before .before .before .before .before .before .before .args .coordinates .now) (c .before .before .before .before .before .before .before .before .args .lanes .now) (c .before .before .before .before .before .before .before .before .args .boundaries .now) (c .before .before .before .before .before .before .before .before .args .j) (c .before .before .before .before .before .before .before .before .args .side)) _ _ (first-long (c .before .before .before .before .before .before .before .before .args .lanes .now) (c .before .before .before .before .before .before .before .before .args .i) (c .before .before .before .before .before .before .before .before .args .j) (c .before .before .before .before .before .before .before .before .args .side) (c .before .before .before .before .before .before .before .before .args .boundaries .now) (c .before .before .before .before .before .before .before .before .args .x) (c .before .before .before .before .before .before .before .before .args .y) (c .before .before .before .before .before .before .before .before .args .coordinates .now) (c .before .before .before .before .before .before .before .before .pre)) (second-long (c .before .before .before .before .before .before .before .before .args .lanes .now) (c .before .before .before .before .before .before .before .before .args .i) (c .before .before .before .before .before .before .before .before .args .j) (c .before .before .before .before .before .before .before .before .args .side) (c .before .before .before .before .before .before .before .before .args .boundaries .now) (c .before .before .before .before .before .before .before .before .args .x) (c .before .before .before .before .before .before .before .before .args .y) (c .before .before .before .before .before .before .before .before .args .coordinates .now) (c .before .before .before .before .before .before .before .before .pre)) (c .before .before .before .before .oriented-last .result) (c .before .before .before .oriented-first .result) (c .before .before .before .before .oriented-last .ensures) (c .before .before .before .oriented-first .ensures) (c .meeting .result) (c .meeting .ensures)
 

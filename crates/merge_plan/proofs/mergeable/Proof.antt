@@ -1,76 +1,54 @@
-use borrow.Author.Needs.{needs}
-use Rattle.merge_plan.proofs.mergeable.Statement.{statement}
-use Rattle.merge_plan.proofs.mergeable.Tie as tie
-use Rattle.merge_plan.proofs.mergeable.Reads as reads
-use Rattle.merge_plan.proofs.mergeable.Lts as lts
-use Rattle.lists.proofs.both.Reads as both-reads
-use Rattle.lookup.proofs.predecessors.Reads as predecessors-reads
-use Rattle.lookup.proofs.successors.Reads as successors-reads
-use Rattle.merge_plan.proofs.only.Reads as only-reads
+-- `merge_plan::mergeable` meets its contract: a formed row's lists have at most 16 ids, and the words that are read are the lanes' ids. Assumes nothing.
+use mathlib.Core.Path.{_∙_}
 use native.Mathlib.Omega.{arith}
-use Rattle.store.proofs.Marks.{lane-marks}
-use Rattle.lookup.specs.Lookup.{rowAt}
+use borrow.Author.Needs.{needs}
 use Rattle.lookup.proofs.Laws.{sorted-row}
 use Rattle.merge_plan.proofs.Readings.{same-lane, other-lane, formed-row}
-use mathlib.Core.Path.{_∙_}
+use Rattle.merge_plan.proofs.mergeable.Statement.{statement}
+use Rattle.merge_plan.proofs.mergeable.Tie as tie
 
--- src/lib.rt:76:27
 mul-first : tie.Need-mul-first
 mul-first c = omega (arith, sorted-row 1024 52 (c .before .args .lanes .now) (c .before .pre .0) (c .before .args .i) (c .before .pre .1 .1 .0), sorted-row 1024 52 (c .before .args .lanes .now) (c .before .pre .0) (c .before .args .j) (c .before .pre .1 .1 .1))
 
--- src/lib.rt:76:23
 add-first : tie.Need-add-first
 add-first c = omega (arith, sorted-row 1024 52 (c .before .args .lanes .now) (c .before .pre .0) (c .before .args .i) (c .before .pre .1 .1 .0), sorted-row 1024 52 (c .before .args .lanes .now) (c .before .pre .0) (c .before .args .j) (c .before .pre .1 .1 .1))
 
--- src/lib.rt:76:17
 mul-first-2 : tie.Need-mul-first-2
 mul-first-2 c = omega (arith, sorted-row 1024 52 (c .before .args .lanes .now) (c .before .pre .0) (c .before .args .i) (c .before .pre .1 .1 .0), sorted-row 1024 52 (c .before .args .lanes .now) (c .before .pre .0) (c .before .args .j) (c .before .pre .1 .1 .1))
 
--- src/lib.rt:76:17
 shared-slice-read-first : tie.Need-shared-slice-read-first
 shared-slice-read-first c = omega (arith, sorted-row 1024 52 (c .before .before .args .lanes .now) (c .before .before .pre .0) (c .before .before .args .i) (c .before .before .pre .1 .1 .0), sorted-row 1024 52 (c .before .before .args .lanes .now) (c .before .before .pre .0) (c .before .before .args .j) (c .before .before .pre .1 .1 .1))
 
--- src/lib.rt:77:28
 mul-second : tie.Need-mul-second
 mul-second c = omega (arith, sorted-row 1024 52 (c .before .before .args .lanes .now) (c .before .before .pre .0) (c .before .before .args .i) (c .before .before .pre .1 .1 .0), sorted-row 1024 52 (c .before .before .args .lanes .now) (c .before .before .pre .0) (c .before .before .args .j) (c .before .before .pre .1 .1 .1))
 
--- src/lib.rt:77:24
 add-second : tie.Need-add-second
 add-second c = omega (arith, sorted-row 1024 52 (c .before .before .args .lanes .now) (c .before .before .pre .0) (c .before .before .args .i) (c .before .before .pre .1 .1 .0), sorted-row 1024 52 (c .before .before .args .lanes .now) (c .before .before .pre .0) (c .before .before .args .j) (c .before .before .pre .1 .1 .1))
 
--- src/lib.rt:77:18
 mul-second-2 : tie.Need-mul-second-2
 mul-second-2 c = omega (arith, sorted-row 1024 52 (c .before .before .args .lanes .now) (c .before .before .pre .0) (c .before .before .args .i) (c .before .before .pre .1 .1 .0), sorted-row 1024 52 (c .before .before .args .lanes .now) (c .before .before .pre .0) (c .before .before .args .j) (c .before .before .pre .1 .1 .1))
 
--- src/lib.rt:77:18
 shared-slice-read-second : tie.Need-shared-slice-read-second
 shared-slice-read-second c = omega (arith, sorted-row 1024 52 (c .before .before .before .args .lanes .now) (c .before .before .before .pre .0) (c .before .before .before .args .i) (c .before .before .before .pre .1 .1 .0), sorted-row 1024 52 (c .before .before .before .args .lanes .now) (c .before .before .before .pre .0) (c .before .before .before .args .j) (c .before .before .before .pre .1 .1 .1))
 
--- src/lib.rt:79:9
 returns : tie.Need-returns
 returns c = same-lane (c .before .before .before .before .args .lanes .now) (c .before .before .before .before .args .i) (c .before .before .before .before .args .j) (c .if1 .taken)
 
--- src/lib.rt:82:14
 successors-requires : tie.Need-successors-requires
 successors-requires c κs = (c .before .before .before .before .pre .0, (c .before .before .before .before .pre .1 .1 .0, formed-row (c .before .before .before .before .args .lanes .now) (c .before .before .before .before .pre .1 .0) (c .before .before .before .before .args .i) (c .before .before .before .before .pre .1 .1 .0) .after))
 
--- src/lib.rt:82:9
 only-requires : tie.Need-only-requires
 only-requires c κs = search needs
 
--- src/lib.rt:83:14
 predecessors-requires : tie.Need-predecessors-requires
 predecessors-requires c κs = (c .before .before .before .before .before .before .pre .0, (c .before .before .before .before .before .before .pre .1 .1 .1, formed-row (c .before .before .before .before .before .before .args .lanes .now) (c .before .before .before .before .before .before .pre .1 .0) (c .before .before .before .before .before .before .args .j) (c .before .before .before .before .before .before .pre .1 .1 .1) .before))
 
--- src/lib.rt:83:9
 only-requires-2 : tie.Need-only-requires-2
 only-requires-2 c κs = search needs
 
--- src/lib.rt:81:5
 both-requires : tie.Need-both-requires
 both-requires c κs = search needs
 
--- src/lib.rt:72:1
 returns-2 : tie.Need-returns-2
 returns-2 c = c .both .ensures ∙ other-lane (c .before .before .before .before .before .before .before .before .before .args .lanes .now) (c .before .before .before .before .before .before .before .before .before .args .i) (c .before .before .before .before .before .before .before .before .before .args .j) (c .before .before .before .before .before .if1 .left) (c .before .before .before .before .successors .result .now) (c .before .before .predecessors .result .now) (c .before .before .before .before .successors .ensures) (c .before .before .predecessors .ensures) (c .before .before .before .only .result) (c .before .only2 .result) (c .before .before .before .only .ensures) (c .before .only2 .ensures)
 
