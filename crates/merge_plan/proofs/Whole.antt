@@ -1,5 +1,5 @@
 -- What a merge decides by two rows is what merge-lanes decides on the whole map. Assumes nothing.
-use mathlib.Core.Path.{_≡_, refl, sym, ap, _∙_}
+use mathlib.Core.Path.{_≡_, refl, sym, _∙_}
 use Prim.Native.Nat.{ℕ}
 use native.Mathlib.Omega.{arith}
 use mathlib.Core.Bool.{Bool, true, false, not, _&&_}
@@ -15,7 +15,7 @@ use Rattle.rules.specs.Map.{lane, boundary, oriented-boundary}
 use Rattle.rules.specs.Edit.{Res, refuse, yield, _>>=_, check, Edited}
 use Rattle.rules.specs.Merge.{SidePlan, side-plan, joinedCenter, merged, merge-lanes}
 use Rattle.tables.specs.View.{Tables, word, rows, laneOf, boundaryOf, view}
-use Rattle.lookup.specs.Lookup.{placeOf, rowAt, countOf}
+use Rattle.lookup.specs.Lookup.{placeOf, countOf}
 use Rattle.lookup.proofs.Laws.{find-at, place-id}
 use Rattle.merge_plan.specs.Deciding.{laneIn, counted, follows, sidePlan, centerPlan, bothPlans, planTold, planned}
 use Rattle.merge_plan.specs.declared.Plan.{Plan}
