@@ -11,9 +11,9 @@ use Rattle.lists.specs.Select.{sameNumbers}
 use Rattle.lists.specs.declared.Found.the-variants.{At}
 use Rattle.entities.specs.Records.{Lane, Map}
 use Rattle.rules.specs.Names.{Side, Left, Right, Tolerance, Refusal, NotMergeable}
-use Rattle.rules.specs.Map.{lane, boundary, oriented-boundary}
+use Rattle.rules.specs.Map.{lane, boundary, neighborOn, oriented-boundary}
 use Rattle.rules.specs.Edit.{Res, refuse, yield, _>>=_, check, Edited}
-use Rattle.rules.specs.Merge.{SidePlan, side-plan, joinedCenter, merged, merge-lanes}
+use Rattle.rules.specs.Merge.{SidePlan, side-plan, joinedCenter, conflict, merged, merge-lanes}
 use Rattle.tables.specs.View.{Tables, word, rows, laneOf, boundaryOf, view}
 use Rattle.lookup.specs.Lookup.{placeOf, countOf}
 use Rattle.lookup.proofs.Laws.{find-at, place-id}
@@ -28,6 +28,19 @@ module _ (tol : Tolerance) (m : Map) (c : List Float) (lanes boundaries : List �
   pub whole-side : (side : Side) (i j : ℕ) → side-plan tol m side (laneIn c lanes i) (laneIn c lanes j) ≡ sidePlan (tol .join) c lanes boundaries i j side
   unfolding side-plan oriented-boundary boundary
   whole-side side i j = rw (el, eb)
+
+-- ---- what is warned of
+
+-- warnings look at no line
+module _ (c : List Float) (lanes : List ℕ) where
+  pub conflict-lineless : (i j : ℕ) → conflict (laneIn c lanes i) (laneIn c lanes j) ≡ conflict (laneIn [] lanes i) (laneIn [] lanes j)
+  unfolding laneOf
+  conflict-lineless i j = refl
+
+  pub slot-lineless : (side : Side) (i : ℕ) → neighborOn side (laneIn c lanes i) ≡ neighborOn side (laneIn [] lanes i)
+  unfolding laneOf
+  slot-lineless Left i = refl
+  slot-lineless Right i = refl
 
 -- ---- merge_lanes
 
