@@ -344,8 +344,8 @@ pub fn report(
     requires { ⌜ R.fits (length (now ids)) (length (R.issues first ++ R.issues second)) (now modified) (now warnings) ≡ true ⌝ }
     ensures { λ r. ⌜ (r ≡ record { created = 0; modified = length (now (ids .entry)); deleted = 0; warnings = length (R.issues first ++ R.issues second) }) × ((now (modified .exit) ≡ R.listed (now (modified .entry)) (E.refs LaneKind (now (ids .entry)))) × (now (warnings .exit) ≡ R.warned (now (warnings .entry)) (R.issues first ++ R.issues second))) ⌝ }
 {
-    let lanes = EntityKind::Lane;
-    let listed = list_ids(lanes, ids, modified, 0);
+    let kind = EntityKind::Lane;
+    let listed = list_ids(kind, ids, modified, 0);
     let n = note(warnings, 0, first);
     let noted = note(warnings, n, second);
     Counts {
