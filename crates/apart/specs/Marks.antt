@@ -10,6 +10,8 @@ use Rattle.lists.specs.Rows.{over}
 use Rattle.lists.specs.Select.{each}
 use Rattle.tables.specs.View.{rows}
 use Rattle.tables.specs.Formed.{Span, spanAt, centerSpan, counted}
+use Rattle.tables.specs.Columns.{boundaryStart, boundaryWords, crosswalkLeftStart, crosswalkRightStart, crosswalkWords, laneWords, stopLineStart, stopLineWords}
+use Rattle.rules.specs.Limits.{maxBoundaries, maxCrosswalks, maxLanes, maxStopLines}
 
 abbrev pub trues : ℕ → List Bool
 trues zero = []
@@ -41,19 +43,19 @@ abbrev pub taken : List Bool → Span → List Bool
 taken marks s = cond (unmarked marks s) (marked marks s) marks
 
 abbrev pub restSpans : List ℕ → List ℕ → List Span
-restSpans stops crosswalks = rows 4 (spanAt 1) stops ++ (rows 7 (spanAt 1) crosswalks ++ rows 7 (spanAt 3) crosswalks)
+restSpans stops crosswalks = rows stopLineWords (spanAt stopLineStart) stops ++ (rows crosswalkWords (spanAt crosswalkLeftStart) crosswalks ++ rows crosswalkWords (spanAt crosswalkRightStart) crosswalks)
 
 -- every line, in the order of `spans`
 abbrev pub lineSpans : List ℕ → List ℕ → List ℕ → List ℕ → List Span
-lineSpans lanes boundaries stops crosswalks = rows 5 (spanAt 2) boundaries ++ (each (λ s. s) (rows 52 centerSpan lanes) ++ restSpans stops crosswalks)
+lineSpans lanes boundaries stops crosswalks = rows boundaryWords (spanAt boundaryStart) boundaries ++ (each (λ s. s) (rows laneWords centerSpan lanes) ++ restSpans stops crosswalks)
 
 unfoldable pub restTakeable : ℕ → List ℕ → List ℕ → Bool
-restTakeable n stops crosswalks = counted 512 4 stops && counted 128 7 crosswalks && all (within n) (restSpans stops crosswalks)
+restTakeable n stops crosswalks = counted maxStopLines stopLineWords stops && counted maxCrosswalks crosswalkWords crosswalks && all (within n) (restSpans stops crosswalks)
 
 unfoldable pub takeable : ℕ → List ℕ → List ℕ → List ℕ → List ℕ → Bool
 takeable n lanes boundaries stops crosswalks =
-    counted 1024 52 lanes
-    && counted 4096 5 boundaries
-    && all (within n) (rows 5 (spanAt 2) boundaries)
-    && all (within n) (each (λ s. s) (rows 52 centerSpan lanes))
+    counted maxLanes laneWords lanes
+    && counted maxBoundaries boundaryWords boundaries
+    && all (within n) (rows boundaryWords (spanAt boundaryStart) boundaries)
+    && all (within n) (each (λ s. s) (rows laneWords centerSpan lanes))
     && restTakeable n stops crosswalks

@@ -19,6 +19,8 @@ use Rattle.report.specs.declared.Answer.the-variants.{Changed, Refused}
 use Rattle.edit_lane.specs.declared.Gone.{Gone}
 use Rattle.naming.specs.declared.Rows.the-variants.{Lanes, Roads, Junctions, Rules, Orphans}
 use Rattle.naming.specs.Naming.{tableFormed, naming, forgets}
+use Rattle.tables.specs.Columns.{boundaryWords, junctionWords, laneLeft, laneRight, laneWords, roadWords, rowCount, rowId, ruleWords}
+use Rattle.rules.specs.Limits.{maxBoundaries, maxLanes}
 
 -- ---- what a removal asks of the tables
 
@@ -30,9 +32,9 @@ pub record Formed (ls rs js us : List ℕ) : Type 0 where
 
 -- of the lane table, the lane's row, the tables of boundaries, roads, junctions and rules
 pub record Removable (ls : List ℕ) (i : ℕ) (bs rs js us : List ℕ) : Type 0 where
-  pub lanes-sorted : sortedTable 1024 52 ls ≡ true
-  pub row : i < word 0 ls
-  pub boundaries-sorted : sortedTable 4096 5 bs ≡ true
+  pub lanes-sorted : sortedTable maxLanes laneWords ls ≡ true
+  pub row : i < word rowCount ls
+  pub boundaries-sorted : sortedTable maxBoundaries boundaryWords bs ≡ true
   pub formed : Formed ls rs js us
 
 -- ---- boundaries
@@ -55,13 +57,13 @@ chosen left right a b = cond (a && b && not (eqb left right)) (ordered left righ
 
 -- a boundary of the table that no lane but one uses
 abbrev pub lonely : List ℕ → List ℕ → ℕ → ℕ → Bool
-lonely lanes boundaries lane b = has b (keys 5 (word 0 boundaries) (drop 1 boundaries)) && not (usedBesides lanes b lane)
+lonely lanes boundaries lane b = has b (keys boundaryWords (word rowCount boundaries) (drop 1 boundaries)) && not (usedBesides lanes b lane)
 
 -- those of the lane in row i
 unfoldable pub goneWith : List ℕ → ℕ → List ℕ → List ℕ
 goneWith lanes i boundaries =
     let w = laneAt lanes i in
-    keep (λ b. (eqb (word 2 w) b || eqb (word 4 w) b) && not (usedBesides lanes b (word 0 w))) (keys 5 (word 0 boundaries) (drop 1 boundaries))
+    keep (λ b. (eqb (word laneLeft w) b || eqb (word laneRight w) b) && not (usedBesides lanes b (word rowId w))) (keys boundaryWords (word rowCount boundaries) (drop 1 boundaries))
 
 -- ---- lists
 
@@ -95,11 +97,11 @@ tables lanes boundaries roads junctions rules = record { lanes = lanes; boundari
 abbrev pub leftTables : ℕ → List ℕ → Left → Left
 leftTables a gone t =
     tables
-    (onRows 52 (forgets Lanes a) (keptRows 52 (stays a a) (t .lanes)))
-    (keptRows 5 (λ i. not (has i gone)) (t .boundaries))
-    (onRows 68 (forgets Roads a) (t .roads))
-    (onRows 69 (forgets Junctions a) (t .junctions))
-    (onRows 330 (forgets Rules a) (t .rules))
+    (onRows laneWords (forgets Lanes a) (keptRows laneWords (stays a a) (t .lanes)))
+    (keptRows boundaryWords (λ i. not (has i gone)) (t .boundaries))
+    (onRows roadWords (forgets Roads a) (t .roads))
+    (onRows junctionWords (forgets Junctions a) (t .junctions))
+    (onRows ruleWords (forgets Rules a) (t .rules))
 
 -- with the lists, and the answer
 pub record Removed : Type 0 where

@@ -12,12 +12,13 @@ use Rattle.entities.specs.Records.{Map}
 use Rattle.rules.specs.Map.{lateral-group}
 use Rattle.tables.specs.View.{word, rows, laneOf}
 use Rattle.map.specs.Returned.{laneAt}
+use Rattle.tables.specs.Columns.{laneWords, rowCount, rowId}
 
 -- The map of a table's lanes alone. Of a lane the group needs its id and its slots: not its line, so no coordinates are read.
 unfoldable pub laneMap : List ℕ → Map
 laneMap t =
     record {
-      lanes = rows 52 (laneOf []) t;
+      lanes = rows laneWords (laneOf []) t;
       boundaries = [];
       roads = [];
       junctions = [];
@@ -28,11 +29,11 @@ laneMap t =
 
 -- the ids of the rows
 abbrev pub idsOf : List ℕ → List ℕ
-idsOf t = keys 52 (word 0 t) (drop 1 t)
+idsOf t = keys laneWords (word rowCount t) (drop 1 t)
 
 -- "everything reached through neighbour slots, ascending": the group of the lane in row i
 unfoldable pub groupAt : List ℕ → ℕ → List ℕ
-groupAt t i = lateral-group (laneMap t) (word 0 (laneAt t i))
+groupAt t i = lateral-group (laneMap t) (word rowId (laneAt t i))
 
 -- ---- one slot
 

@@ -10,6 +10,7 @@ use lib.ListN.{length}
 use Rattle.lists.specs.Every.{all}
 use Rattle.polyline.specs.Polyline.{flat}
 use Rattle.entities.specs.Records.{Line, Lane, Boundary, Road, Junction, Rule, StopLine, Crosswalk, Map}
+use Rattle.rules.specs.Limits.{maxLanes, maxBoundaries, maxStopLines, maxCrosswalks, maxLinks}
 use Rattle.rules.specs.Sound.{optionalLine, pointCount}
 use Rattle.tables.specs.View.{Tables, part, laneWords, boundaryWords, roadWords, junctionWords, ruleWords, stopLineWords, crosswalkWords}
 use Rattle.store.specs.Store.{roadOnto, junctionOnto, ruleOnto, storeRows}
@@ -62,13 +63,13 @@ pub record Lies (work : List Float) (s : Starts) (m : Map) : Type 0 where
 -- the tables keep their counts, and have room for the map's records and points, which keep the limits
 pub record Room (t : Tables) (m : Map) : Type 0 where
   pub counts : countedLines t ≡ true
-  pub lanes : length (m .lanes) ≤ 1024
-  pub boundaries : length (m .boundaries) ≤ 4096
-  pub stop-lines : length (m .stop-lines) ≤ 512
-  pub crosswalks : length (m .crosswalks) ≤ 128
+  pub lanes : length (m .lanes) ≤ maxLanes
+  pub boundaries : length (m .boundaries) ≤ maxBoundaries
+  pub stop-lines : length (m .stop-lines) ≤ maxStopLines
+  pub crosswalks : length (m .crosswalks) ≤ maxCrosswalks
   pub lane-rows : 1 + length (m .lanes) * laneWords ≤ length (t .lanes)
   pub boundary-rows : 1 + length (m .boundaries) * boundaryWords ≤ length (t .boundaries)
   pub stop-rows : 1 + length (m .stop-lines) * stopLineWords ≤ length (t .stop-lines)
   pub crosswalk-rows : 1 + length (m .crosswalks) * crosswalkWords ≤ length (t .crosswalks)
-  pub links : all (λ l. leb (length (l .predecessors)) 16 && leb (length (l .successors)) 16) (m .lanes) ≡ true
+  pub links : all (λ l. leb (length (l .predecessors)) maxLinks && leb (length (l .successors)) maxLinks) (m .lanes) ≡ true
   pub points : pointCount m * 3 ≤ length (t .coordinates)

@@ -13,6 +13,8 @@ use Rattle.lists.specs.Select.{each}
 use Rattle.tables.specs.View.{Tables, word, mark, part, rows, laneWords, boundaryWords, stopLineWords, crosswalkWords}
 use Rattle.tables.specs.Formed.{Span, spanAt, spans, counted, stored, allClear}
 use Rattle.apart.specs.Marks.{within}
+use Rattle.tables.specs.Columns.{boundaryStart, crosswalkLeftStart, crosswalkRightStart, laneCenterline, laneCenterlineStart, rowCount, stopLineStart}
+use Rattle.rules.specs.Limits.{maxBoundaries, maxCrosswalks, maxLanes, maxStopLines}
 
 -- ---- lines one after another
 
@@ -38,20 +40,20 @@ abbrev pub plain : ℕ → ℕ → Column
 plain words start = record { words = words; has = λ w. true; start = start }
 
 abbrev pub boundaryLines : Column
-boundaryLines = plain boundaryWords 2
+boundaryLines = plain boundaryWords boundaryStart
 
 -- explicit centrelines, where the mark says that there is one
 abbrev pub centerlines : Column
-centerlines = record { words = laneWords; has = mark 6; start = 7 }
+centerlines = record { words = laneWords; has = mark laneCenterline; start = laneCenterlineStart }
 
 abbrev pub stopLines : Column
-stopLines = plain stopLineWords 1
+stopLines = plain stopLineWords stopLineStart
 
 abbrev pub leftEdges : Column
-leftEdges = plain crosswalkWords 1
+leftEdges = plain crosswalkWords crosswalkLeftStart
 
 abbrev pub rightEdges : Column
-rightEdges = plain crosswalkWords 3
+rightEdges = plain crosswalkWords crosswalkRightStart
 
 -- a row's line, if it has one
 abbrev pub lineOf : Column → List ℕ → List Span
@@ -72,7 +74,7 @@ moves k (suc n) at w = let r = take (k .words) w in moved k at r ++ moves k n (a
 
 -- a table whose lines follow one another from `at` on
 unfoldable pub laidFrom : ℕ → Column → List ℕ → List ℕ
-laidFrom at k t = take 1 t ++ moves k (word 0 t) at (drop 1 t)
+laidFrom at k t = take 1 t ++ moves k (word rowCount t) at (drop 1 t)
 
 -- ---- all lines
 
@@ -122,7 +124,7 @@ lineTables lanes boundaries stops crosswalks coordinates =
 
 -- the tables with lines keep their counts
 unfoldable pub countedLines : Tables → Bool
-countedLines t = counted 1024 laneWords (t .lanes) && counted 4096 boundaryWords (t .boundaries) && counted 512 stopLineWords (t .stop-lines) && counted 128 crosswalkWords (t .crosswalks)
+countedLines t = counted maxLanes laneWords (t .lanes) && counted maxBoundaries boundaryWords (t .boundaries) && counted maxStopLines stopLineWords (t .stop-lines) && counted maxCrosswalks crosswalkWords (t .crosswalks)
 
 -- counts are kept, every line lies in `work`, and the coordinates have room for all
 pub record Gatherable (work : List Float) (t : Tables) : Type 0 where

@@ -23,12 +23,14 @@ use Rattle.rules.specs.Names.{Side, Left, Right, Point2}
 use Rattle.rules.specs.Map.{oriented-boundary, centerline}
 use Rattle.tables.specs.View.{word, mark, rows, laneOf, boundaryOf, stopLineOf, crosswalkOf}
 use Rattle.tables.specs.Formed.{counted, spanAt, stored}
+use Rattle.tables.specs.Columns.{boundaryStart, boundaryWords, crosswalkLeftStart, crosswalkRightStart, crosswalkWords, laneCenterline, laneCenterlineSize, laneCenterlineStart, laneLeft, laneRight, laneWords, rowCount, rowId, stopLineStart, stopLineWords}
+use Rattle.rules.specs.Limits.{maxBoundaries, maxCrosswalks, maxLanes, maxLinePoints, maxStopLines}
 
 -- ---- tables in id order
 
 -- a table of rows of s words, its ids ascending
 unfoldable pub sortedTable : ℕ → ℕ → List ℕ → Bool
-sortedTable limit s t = counted limit s t && ascending (keys s (word 0 t) (drop 1 t))
+sortedTable limit s t = counted limit s t && ascending (keys s (word rowCount t) (drop 1 t))
 
 -- row j
 abbrev pub rowAt : ℕ → List ℕ → ℕ → List ℕ
@@ -36,7 +38,7 @@ rowAt s t j = take s (drop (1 + j * s) t)
 
 -- the row with an id
 unfoldable pub placeOf : ℕ → List ℕ → ℕ → Found
-placeOf s t id = rowWith id (keys s (word 0 t) (drop 1 t))
+placeOf s t id = rowWith id (keys s (word rowCount t) (drop 1 t))
 
 -- ---- lines
 
@@ -46,7 +48,7 @@ allStored s k c t = all (λ b. b) (rows s (λ w. stored c (spanAt k w)) t)
 
 -- it has at most 256 points
 unfoldable pub allShort : ℕ → ℕ → List ℕ → Bool
-allShort s k t = all (λ b. b) (rows s (λ w. leb (word (suc k) w) 256) t)
+allShort s k t = all (λ b. b) (rows s (λ w. leb (word (suc k) w) maxLinePoints) t)
 
 -- how many points a line has, where there is one, and its points
 abbrev pub countOf : Option Line → OptionCount
@@ -59,18 +61,18 @@ pointsOf (some l) = l
 
 -- a map of boundaries alone: what lines along a lane are made of
 abbrev pub drawn : List Float → List ℕ → Map
-drawn c b = record { lanes = []; boundaries = rows 5 (boundaryOf c) b; roads = []; junctions = []; rules = []; stop-lines = []; crosswalks = [] }
+drawn c b = record { lanes = []; boundaries = rows boundaryWords (boundaryOf c) b; roads = []; junctions = []; rules = []; stop-lines = []; crosswalks = [] }
 
 -- an explicit centreline, where a lane has one, lies among the points stored and has at most 256
 unfoldable pub centersStored : List Float → List ℕ → Bool
-centersStored c t = all (λ b. b) (rows 52 (λ w. not (mark 6 w) || (stored c (spanAt 7 w) && leb (word 8 w) 256)) t)
+centersStored c t = all (λ b. b) (rows laneWords (λ w. not (mark laneCenterline w) || (stored c (spanAt laneCenterlineStart w) && leb (word laneCenterlineSize w) maxLinePoints)) t)
 
 -- what the centreline of a lane asks of the tables
 pub record Drawable (lanes boundaries : List ℕ) (c : List Float) : Type 0 where
-  pub lanes-sorted : sortedTable 1024 52 lanes ≡ true
-  pub boundaries-sorted : sortedTable 4096 5 boundaries ≡ true
-  pub boundaries-stored : allStored 5 2 c boundaries ≡ true
-  pub boundaries-short : allShort 5 2 boundaries ≡ true
+  pub lanes-sorted : sortedTable maxLanes laneWords lanes ≡ true
+  pub boundaries-sorted : sortedTable maxBoundaries boundaryWords boundaries ≡ true
+  pub boundaries-stored : allStored boundaryWords boundaryStart c boundaries ≡ true
+  pub boundaries-short : allShort boundaryWords boundaryStart boundaries ≡ true
   pub centers-stored : centersStored c lanes ≡ true
 
 -- the length of a line, where there is one
@@ -80,10 +82,10 @@ lengthOf (some l) = ALength (lineLength l)
 
 -- a boundary's line along the lane in row i, and the lane's centreline
 abbrev pub sideLine : List Float → List ℕ → List ℕ → ℕ → Side → Option Line
-sideLine c lanes boundaries i side = oriented-boundary (drawn c boundaries) side (laneOf c (rowAt 52 lanes i))
+sideLine c lanes boundaries i side = oriented-boundary (drawn c boundaries) side (laneOf c (rowAt laneWords lanes i))
 
 abbrev pub centerLine : List Float → List ℕ → List ℕ → ℕ → Option Line
-centerLine c lanes boundaries i = centerline (drawn c boundaries) (laneOf c (rowAt 52 lanes i))
+centerLine c lanes boundaries i = centerline (drawn c boundaries) (laneOf c (rowAt laneWords lanes i))
 
 -- the word of a lane's row that names its boundary on a side; the mark behind it says whether the boundary is reversed
 abbrev pub sideWord : Side → ℕ
@@ -94,11 +96,11 @@ sideWord Right = 4
 
 -- a lane's row names boundary b on either side
 abbrev pub rowUses : ℕ → List ℕ → Bool
-rowUses b w = eqb (word 2 w) b || eqb (word 4 w) b
+rowUses b w = eqb (word laneLeft w) b || eqb (word laneRight w) b
 
 -- and is not the row of lane l
 abbrev pub usesBesides : ℕ → ℕ → List ℕ → Bool
-usesBesides b l w = not (eqb (word 0 w) l) && rowUses b w
+usesBesides b l w = not (eqb (word rowId w) l) && rowUses b w
 
 -- a row of the table passes a test
 unfoldable pub anyRow : ℕ → (List ℕ → Bool) → List ℕ → Bool
@@ -106,21 +108,21 @@ anyRow s test t = any (λ b. b) (rows s test t)
 
 -- a lane of the table uses boundary b; one that is not lane l does
 abbrev pub used : List ℕ → ℕ → Bool
-used t b = anyRow 52 (rowUses b) t
+used t b = anyRow laneWords (rowUses b) t
 
 abbrev pub usedBesides : List ℕ → ℕ → ℕ → Bool
-usedBesides t b l = anyRow 52 (usesBesides b l) t
+usedBesides t b l = anyRow laneWords (usesBesides b l) t
 
 -- one that is neither of two lanes does
 abbrev pub usesOutside : ℕ → ℕ → ℕ → List ℕ → Bool
-usesOutside b one other w = not (eqb (word 0 w) one) && not (eqb (word 0 w) other) && rowUses b w
+usesOutside b one other w = not (eqb (word rowId w) one) && not (eqb (word rowId w) other) && rowUses b w
 
 abbrev pub usedOutside : List ℕ → ℕ → ℕ → ℕ → Bool
-usedOutside t b one other = anyRow 52 (usesOutside b one other) t
+usedOutside t b one other = anyRow laneWords (usesOutside b one other) t
 
 -- how many lanes of the table use boundary b
 unfoldable pub users : List ℕ → ℕ → ℕ
-users t b = length (keep (rowUses b) (rows 52 (λ w. w) t))
+users t b = length (keep (rowUses b) (rows laneWords (λ w. w) t))
 
 -- ---- anchors of rules
 
@@ -133,17 +135,17 @@ crossed c s x =
       roads = [];
       junctions = [];
       rules = [];
-      stop-lines = rows 4 (stopLineOf c) s;
-      crosswalks = rows 7 (crosswalkOf c) x;
+      stop-lines = rows stopLineWords (stopLineOf c) s;
+      crosswalks = rows crosswalkWords (crosswalkOf c) x;
     }
 
 -- what an anchor asks of the tables
 pub record Crossable (stops crosswalks : List ℕ) (c : List Float) : Type 0 where
-  pub stops-sorted : sortedTable 512 4 stops ≡ true
-  pub stops-stored : allStored 4 1 c stops ≡ true
-  pub crosswalks-sorted : sortedTable 128 7 crosswalks ≡ true
-  pub lefts-stored : allStored 7 1 c crosswalks ≡ true
-  pub rights-stored : allStored 7 3 c crosswalks ≡ true
+  pub stops-sorted : sortedTable maxStopLines stopLineWords stops ≡ true
+  pub stops-stored : allStored stopLineWords stopLineStart c stops ≡ true
+  pub crosswalks-sorted : sortedTable maxCrosswalks crosswalkWords crosswalks ≡ true
+  pub lefts-stored : allStored crosswalkWords crosswalkLeftStart c crosswalks ≡ true
+  pub rights-stored : allStored crosswalkWords crosswalkRightStart c crosswalks ≡ true
 
 -- a point that may be missing, as it goes by value
 abbrev pub pointOf : Option Point2 → OptionPoint2

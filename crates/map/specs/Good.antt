@@ -13,6 +13,8 @@ use Rattle.polyline.specs.Polyline.{points}
 use Rattle.rules.specs.Sound.{lastCounter, hasContent, stopLinesFit}
 use Rattle.tables.specs.View.{word, mark, idsAt, part, rows}
 use Rattle.tables.specs.Formed.{Span, spanAt, stored, laneFormed, ruleFormed}
+use Rattle.tables.specs.Columns.{boundaryAttributes, boundaryKind, boundaryStart, crosswalkAttributes, crosswalkLeftStart, crosswalkOutline, crosswalkRightStart, junctionAttributes, junctionLanesAt, junctionName, junctionOutline, laneAttributes, laneCenterline, laneCenterlineStart, laneKind, laneLeft, laneRight, laneTurn, leftSlot, predecessorsAt, rightSlot, roadAttributes, roadLanesAt, roadName, rowId, ruleAttributes, ruleContent, ruleControlledAt, ruleCrosswalk, ruleKind, ruleLanesAt, rulePriorityAt, ruleStopLinesAt, ruleYieldingAt, stopLineAttributes, stopLineStart, successorsAt}
+use Rattle.rules.specs.Limits.{crosswalkRule, handleWidth, lastBoundaryKind, lastLaneKind, lastRuleKind, lastTurn, maxIds, maxLinePoints, otherRule, rightOfWay}
 
 -- the largest id that the counter allows in a map
 abbrev pub largestId : ℕ → ℕ
@@ -20,7 +22,7 @@ largestId counter = cond (eqb counter lastCounter) lastCounter (max counter 1 - 
 
 -- a line in the store, of at most 256 points, each within reach
 unfoldable pub lineGood : List Float → Span → Bool
-lineGood c s = stored c s && leb (s .size) 256 && all inReach (points (part c (s .start) (s .size)))
+lineGood c s = stored c s && leb (s .size) maxLinePoints && all inReach (points (part c (s .start) (s .size)))
 
 abbrev pub idsGood : ℕ → List ℕ → Bool
 idsGood most ids = all (λ i. leb i most) ids
@@ -29,62 +31,62 @@ abbrev pub slotGood : ℕ → ℕ → List ℕ → Bool
 slotGood most k w = eqb (word k w) 0 || leb (word (suc k) w) most
 
 abbrev pub handleGood : ℕ → Bool
-handleGood h = ltb h 65536
+handleGood h = ltb h handleWidth
 
 unfoldable pub laneNumbers : ℕ → List ℕ → Bool
 laneNumbers most w =
-    leb (word 1 w) 7
-    && leb (word 12 w) 3
-    && handleGood (word 13 w)
-    && leb (word 0 w) most
-    && leb (word 2 w) most
-    && leb (word 4 w) most
-    && slotGood most 14 w
-    && slotGood most 16 w
+    leb (word laneKind w) lastLaneKind
+    && leb (word laneTurn w) lastTurn
+    && handleGood (word laneAttributes w)
+    && leb (word rowId w) most
+    && leb (word laneLeft w) most
+    && leb (word laneRight w) most
+    && slotGood most leftSlot w
+    && slotGood most rightSlot w
 
 unfoldable pub linksGood : ℕ → List ℕ → Bool
 linksGood most ids = ascending ids && idsGood most ids
 
 unfoldable pub laneGood : ℕ → List Float → List ℕ → Bool
 laneGood most c w =
-    laneFormed w && laneNumbers most w && linksGood most (idsAt 18 w) && linksGood most (idsAt 35 w) && (not (mark 6 w) || lineGood c (spanAt 7 w))
+    laneFormed w && laneNumbers most w && linksGood most (idsAt predecessorsAt w) && linksGood most (idsAt successorsAt w) && (not (mark laneCenterline w) || lineGood c (spanAt laneCenterlineStart w))
 
 unfoldable pub boundaryGood : ℕ → List Float → List ℕ → Bool
-boundaryGood most c w = leb (word 0 w) most && leb (word 1 w) 13 && handleGood (word 4 w) && lineGood c (spanAt 2 w)
+boundaryGood most c w = leb (word rowId w) most && leb (word boundaryKind w) lastBoundaryKind && handleGood (word boundaryAttributes w) && lineGood c (spanAt boundaryStart w)
 
 unfoldable pub roadGood : ℕ → List ℕ → Bool
-roadGood most w = leb (word 0 w) most && handleGood (word 1 w) && handleGood (word 2 w) && leb (word 3 w) 64 && idsGood most (idsAt 3 w)
+roadGood most w = leb (word rowId w) most && handleGood (word roadName w) && handleGood (word roadAttributes w) && leb (word roadLanesAt w) maxIds && idsGood most (idsAt roadLanesAt w)
 
 unfoldable pub junctionGood : ℕ → List ℕ → Bool
 junctionGood most w =
-    leb (word 0 w) most && handleGood (word 1 w) && handleGood (word 2 w) && handleGood (word 3 w) && leb (word 4 w) 64 && idsGood most (idsAt 4 w)
+    leb (word rowId w) most && handleGood (word junctionName w) && handleGood (word junctionOutline w) && handleGood (word junctionAttributes w) && leb (word junctionLanesAt w) maxIds && idsGood most (idsAt junctionLanesAt w)
 
 -- a rule's numbers; its crosswalk is named by kind 4 alone, its stop lines are counted by its kind
 unfoldable pub ruleNumbers : ℕ → List ℕ → Bool
 ruleNumbers most w =
-    leb (word 0 w) most
-    && leb (word 1 w) 5
-    && (not (hasContent (word 1 w)) || handleGood (word 2 w))
-    && handleGood (word 3 w)
-    && (not (eqb (word 1 w) 4) || leb (word 4 w) most)
-    && (eqb (word 1 w) 5 || stopLinesFit (word 1 w) (word 135 w))
+    leb (word rowId w) most
+    && leb (word ruleKind w) lastRuleKind
+    && (not (hasContent (word ruleKind w)) || handleGood (word ruleContent w))
+    && handleGood (word ruleAttributes w)
+    && (not (eqb (word ruleKind w) crosswalkRule) || leb (word ruleCrosswalk w) most)
+    && (eqb (word ruleKind w) otherRule || stopLinesFit (word ruleKind w) (word ruleStopLinesAt w))
 
 unfoldable pub ruleLists : ℕ → List ℕ → Bool
 ruleLists most w =
-    idsGood most (idsAt 5 w)
-    && idsGood most (idsAt 70 w)
-    && (eqb (word 1 w) 5 || idsGood most (idsAt 135 w))
-    && (not (eqb (word 1 w) 3) || (idsGood most (idsAt 200 w) && idsGood most (idsAt 265 w)))
+    idsGood most (idsAt ruleLanesAt w)
+    && idsGood most (idsAt ruleControlledAt w)
+    && (eqb (word ruleKind w) otherRule || idsGood most (idsAt ruleStopLinesAt w))
+    && (not (eqb (word ruleKind w) rightOfWay) || (idsGood most (idsAt rulePriorityAt w) && idsGood most (idsAt ruleYieldingAt w)))
 
 unfoldable pub ruleGood : ℕ → List ℕ → Bool
 ruleGood most w = ruleFormed w && ruleNumbers most w && ruleLists most w
 
 unfoldable pub stopLineGood : ℕ → List Float → List ℕ → Bool
-stopLineGood most c w = leb (word 0 w) most && handleGood (word 3 w) && lineGood c (spanAt 1 w)
+stopLineGood most c w = leb (word rowId w) most && handleGood (word stopLineAttributes w) && lineGood c (spanAt stopLineStart w)
 
 unfoldable pub crosswalkGood : ℕ → List Float → List ℕ → Bool
 crosswalkGood most c w =
-    leb (word 0 w) most && handleGood (word 5 w) && handleGood (word 6 w) && lineGood c (spanAt 1 w) && lineGood c (spanAt 3 w)
+    leb (word rowId w) most && handleGood (word crosswalkOutline w) && handleGood (word crosswalkAttributes w) && lineGood c (spanAt crosswalkLeftStart w) && lineGood c (spanAt crosswalkRightStart w)
 
 -- every row of a table passes
 unfoldable pub allRows : ℕ → (List ℕ → Bool) → List ℕ → Bool

@@ -11,14 +11,16 @@ use Rattle.lists.specs.declared.Found.{Found}
 use Rattle.lists.specs.declared.Found.the-variants.{At, Nothing}
 use Rattle.tables.specs.View.{word, idsAt, rows}
 use Rattle.tables.specs.Formed.{counted, laneFormed}
+use Rattle.tables.specs.Columns.{laneWords, leftSlot, predecessorsAt, rightSlot, rowCount, rowId, successorsAt}
+use Rattle.rules.specs.Limits.{maxLanes}
 
 -- a lane table whose rows can be read and searched
 unfoldable pub searchable : List ℕ → Bool
-searchable t = counted 1024 52 t && ascending (keys 52 (word 0 t) (drop 1 t)) && all (λ b. b) (rows 52 laneFormed t)
+searchable t = counted maxLanes laneWords t && ascending (keys laneWords (word rowCount t) (drop 1 t)) && all (λ b. b) (rows laneWords laneFormed t)
 
 -- row j of the table
 abbrev pub laneAt : List ℕ → ℕ → List ℕ
-laneAt t j = take 52 (drop (1 + j * 52) t)
+laneAt t j = take laneWords (drop (1 + j * laneWords) t)
 
 abbrev pub onRow : (List ℕ → Bool) → List ℕ → Found → Bool
 onRow q t Nothing = false
@@ -26,7 +28,7 @@ onRow q t (At j) = q (laneAt t j)
 
 -- a test of the row with an id; false where there is none
 unfoldable pub rowTest : (List ℕ → Bool) → List ℕ → ℕ → Bool
-rowTest q t i = onRow q t (rowWith i (keys 52 (word 0 t) (drop 1 t)))
+rowTest q t i = onRow q t (rowWith i (keys laneWords (word rowCount t) (drop 1 t)))
 
 -- lane b is there, and its list at k has id
 abbrev pub namesBack : List ℕ → ℕ → ℕ → ℕ → Bool
@@ -34,16 +36,16 @@ namesBack t k i b = rowTest (λ w. has i (idsAt k w)) t b
 
 -- every successor has the lane among its predecessors, every predecessor among its successors
 unfoldable pub laneReturned : List ℕ → List ℕ → Bool
-laneReturned t w = all (namesBack t 18 (word 0 w)) (idsAt 35 w) && all (namesBack t 35 (word 0 w)) (idsAt 18 w)
+laneReturned t w = all (namesBack t predecessorsAt (word rowId w)) (idsAt successorsAt w) && all (namesBack t successorsAt (word rowId w)) (idsAt predecessorsAt w)
 
--- the slot that answers a slot at place k: 14 is the left one, 16 the right one; mark 1 is the same direction
+-- the slot that answers a slot at place k; mark 1 is the same direction
 abbrev pub answerPlace : ℕ → ℕ → ℕ
-answerPlace k mark = cond (eqb mark 1) (cond (eqb k 14) 16 14) k
+answerPlace k mark = cond (eqb mark 1) (cond (eqb k leftSlot) rightSlot leftSlot) k
 
 unfoldable pub slotReturned : List ℕ → ℕ → List ℕ → Bool
 slotReturned t k w =
     eqb (word k w) 0
-    || rowTest (λ v. eqb (word (answerPlace k (word k w)) v) (word k w) && eqb (word (suc (answerPlace k (word k w))) v) (word 0 w)) t (word (suc k) w)
+    || rowTest (λ v. eqb (word (answerPlace k (word k w)) v) (word k w) && eqb (word (suc (answerPlace k (word k w))) v) (word rowId w)) t (word (suc k) w)
 
 unfoldable pub slotsReturned : List ℕ → List ℕ → Bool
-slotsReturned t w = slotReturned t 14 w && slotReturned t 16 w
+slotsReturned t w = slotReturned t leftSlot w && slotReturned t rightSlot w

@@ -27,13 +27,15 @@ use Rattle.merge_plan.specs.declared.SidePlanned.{SidePlanned}
 use Rattle.merge_plan.specs.declared.SidePlanned.the-variants.{Refused, Joins}
 use Rattle.merge_plan.specs.declared.Planned.{Planned}
 use Rattle.merge_plan.specs.declared.Planned.the-variants as N
+use Rattle.tables.specs.Columns.{boundaryWords, laneWords, rowCount, rowId}
+use Rattle.rules.specs.Limits.{maxLanes}
 
 -- the map of the lanes and boundaries that are read
 abbrev pub drawnLanes : List Float → List ℕ → List ℕ → Map
 drawnLanes c lanes boundaries =
     record {
-      lanes = rows 52 (laneOf c) lanes;
-      boundaries = rows 5 (boundaryOf c) boundaries;
+      lanes = rows laneWords (laneOf c) lanes;
+      boundaries = rows boundaryWords (boundaryOf c) boundaries;
       roads = [];
       junctions = [];
       rules = [];
@@ -43,7 +45,7 @@ drawnLanes c lanes boundaries =
 
 -- the lane in row i
 abbrev pub laneIn : List Float → List ℕ → ℕ → Lane
-laneIn c lanes i = laneOf c (rowAt 52 lanes i)
+laneIn c lanes i = laneOf c (rowAt laneWords lanes i)
 
 -- tolerances of which a plan looks at the joining distance alone
 abbrev pub joining : Float → Tolerance
@@ -94,15 +96,15 @@ follows a b = not (eqb (a .id) (b .id)) && (sameNumbers (a .successors) (b .id �
 -- rows i and j of a lane table whose link lists are read
 abbrev pub Linked : List ℕ → ℕ → ℕ → Type 0
 Linked lanes i j =
-    (sortedTable 1024 52 lanes ≡ true) × ((allRows 52 laneFormed lanes ≡ true) × ((i < word 0 lanes) × (j < word 0 lanes)))
+    (sortedTable maxLanes laneWords lanes ≡ true) × ((allRows laneWords laneFormed lanes ≡ true) × ((i < word rowCount lanes) × (j < word rowCount lanes)))
 
 -- rows i and j of lanes, and the rows x and y of their boundaries on a side
 pub record SideRows (lanes : List ℕ) (i j : ℕ) (side : Side) (boundaries : List ℕ) (x y : ℕ) (c : List Float) : Type 0 where
   pub drawable : Drawable lanes boundaries c
-  pub first : i < word 0 lanes
-  pub second : j < word 0 lanes
-  pub first-boundary : placeOf 5 boundaries (refAt (sideWord side) (rowAt 52 lanes i) .boundary) ≡ At x
-  pub second-boundary : placeOf 5 boundaries (refAt (sideWord side) (rowAt 52 lanes j) .boundary) ≡ At y
+  pub first : i < word rowCount lanes
+  pub second : j < word rowCount lanes
+  pub first-boundary : placeOf boundaryWords boundaries (refAt (sideWord side) (rowAt laneWords lanes i) .boundary) ≡ At x
+  pub second-boundary : placeOf boundaryWords boundaries (refAt (sideWord side) (rowAt laneWords lanes j) .boundary) ≡ At y
 
 -- how many points two lines have when they are joined
 abbrev pub joinedLength : Float → Option Line → Option Line → ℕ
@@ -110,7 +112,7 @@ joinedLength join one two = length (concat join (pointsOf one) (pointsOf two))
 
 -- no lane but that in row i uses boundary one, none but that in row j boundary two
 abbrev pub bothAlone : List ℕ → ℕ → ℕ → ℕ → ℕ → Bool
-bothAlone lanes i one j two = not (usedBesides lanes one (word 0 (rowAt 52 lanes i))) && not (usedBesides lanes two (word 0 (rowAt 52 lanes j)))
+bothAlone lanes i one j two = not (usedBesides lanes one (word rowId (rowAt laneWords lanes i))) && not (usedBesides lanes two (word rowId (rowAt laneWords lanes j)))
 
 -- a speed limit's mark and bits
 abbrev pub speedOf : ℕ → ℕ → Option ℕ

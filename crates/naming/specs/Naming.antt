@@ -13,22 +13,24 @@ use Rattle.map.specs.Good.{allRows}
 use Rattle.store.specs.Rows.{setSlot, setList}
 use Rattle.naming.specs.declared.Rows.{Rows}
 use Rattle.naming.specs.declared.Rows.the-variants.{Lanes, Roads, Junctions, Rules, Orphans}
+use Rattle.tables.specs.Columns.{junctionLanesAt, junctionWords, laneWords, leftSlot, predecessorsAt, rightSlot, roadLanesAt, roadWords, rowId, ruleKind, ruleLanesAt, rulePriorityAt, ruleWords, ruleYieldingAt, successorsAt}
+use Rattle.rules.specs.Limits.{maxIds, maxJunctions, maxLanes, maxRoads, maxRules, rightOfWay}
 
 -- ---- tables
 
 abbrev pub rowWords : Rows → ℕ
-rowWords Lanes = 52
-rowWords Roads = 68
-rowWords Junctions = 69
-rowWords Rules = 330
-rowWords Orphans = 330
+rowWords Lanes = laneWords
+rowWords Roads = roadWords
+rowWords Junctions = junctionWords
+rowWords Rules = ruleWords
+rowWords Orphans = ruleWords
 
 abbrev pub rowLimit : Rows → ℕ
-rowLimit Lanes = 1024
-rowLimit Roads = 256
-rowLimit Junctions = 256
-rowLimit Rules = 512
-rowLimit Orphans = 512
+rowLimit Lanes = maxLanes
+rowLimit Roads = maxRoads
+rowLimit Junctions = maxJunctions
+rowLimit Rules = maxRules
+rowLimit Orphans = maxRules
 
 abbrev pub rowKind : Rows → EntityKind
 rowKind Lanes = LaneKind
@@ -39,8 +41,8 @@ rowKind Orphans = RuleKind
 
 abbrev pub rowFormed : Rows → List ℕ → Bool
 rowFormed Lanes w = laneFormed w
-rowFormed Roads w = leb (word 3 w) 64
-rowFormed Junctions w = leb (word 4 w) 64
+rowFormed Roads w = leb (word roadLanesAt w) maxIds
+rowFormed Junctions w = leb (word junctionLanesAt w) maxIds
 rowFormed Rules w = ruleFormed w
 rowFormed Orphans w = ruleFormed w
 
@@ -55,21 +57,21 @@ slotNames a k w = mark k w && eqb (word (suc k) w) a
 
 -- of another lane
 abbrev pub laneNames : ℕ → List ℕ → Bool
-laneNames a w = not (eqb (word 0 w) a) && ((has a (idsAt 18 w) || has a (idsAt 35 w)) || (slotNames a 14 w || slotNames a 16 w))
+laneNames a w = not (eqb (word rowId w) a) && ((has a (idsAt predecessorsAt w) || has a (idsAt successorsAt w)) || (slotNames a leftSlot w || slotNames a rightSlot w))
 
 abbrev pub ruleNames : ℕ → List ℕ → Bool
-ruleNames a w = has a (idsAt 5 w) || (eqb (word 1 w) 3 && (has a (idsAt 200 w) || has a (idsAt 265 w)))
+ruleNames a w = has a (idsAt ruleLanesAt w) || (eqb (word ruleKind w) rightOfWay && (has a (idsAt rulePriorityAt w) || has a (idsAt ruleYieldingAt w)))
 
 unfoldable pub namesLane : Rows → ℕ → List ℕ → Bool
 namesLane Lanes a w = laneNames a w
-namesLane Roads a w = has a (idsAt 3 w)
-namesLane Junctions a w = has a (idsAt 4 w)
+namesLane Roads a w = has a (idsAt roadLanesAt w)
+namesLane Junctions a w = has a (idsAt junctionLanesAt w)
 namesLane Rules a w = ruleNames a w
-namesLane Orphans a w = ruleNames a w && eqb (length (without a (idsAt 5 w))) 0
+namesLane Orphans a w = ruleNames a w && eqb (length (without a (idsAt ruleLanesAt w))) 0
 
 -- the ids of such rows
 unfoldable pub naming : Rows → ℕ → List ℕ → List ℕ
-naming k a t = map (word 0) (keep (namesLane k a) (rows (rowWords k) (λ w. w) t))
+naming k a t = map (word rowId) (keep (namesLane k a) (rows (rowWords k) (λ w. w) t))
 
 -- ---- a row without lane a
 
@@ -80,14 +82,14 @@ abbrev pub freeAt : ℕ → ℕ → List ℕ → List ℕ
 freeAt a k w = cond (slotNames a k w) (setSlot k none w) w
 
 abbrev pub laneForgets : ℕ → List ℕ → List ℕ
-laneForgets a w = freeAt a 14 (freeAt a 16 (forgetAt a 18 (forgetAt a 35 w)))
+laneForgets a w = freeAt a leftSlot (freeAt a rightSlot (forgetAt a predecessorsAt (forgetAt a successorsAt w)))
 
 abbrev pub ruleForgets : ℕ → List ℕ → List ℕ
-ruleForgets a w = cond (eqb (word 1 w) 3) (forgetAt a 265 (forgetAt a 200 (forgetAt a 5 w))) (forgetAt a 5 w)
+ruleForgets a w = cond (eqb (word ruleKind w) rightOfWay) (forgetAt a ruleYieldingAt (forgetAt a rulePriorityAt (forgetAt a ruleLanesAt w))) (forgetAt a ruleLanesAt w)
 
 unfoldable pub forgets : Rows → ℕ → List ℕ → List ℕ
 forgets Lanes a w = laneForgets a w
-forgets Roads a w = forgetAt a 3 w
-forgets Junctions a w = forgetAt a 4 w
+forgets Roads a w = forgetAt a roadLanesAt w
+forgets Junctions a w = forgetAt a junctionLanesAt w
 forgets Rules a w = ruleForgets a w
 forgets Orphans a w = ruleForgets a w

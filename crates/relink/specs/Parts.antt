@@ -18,6 +18,8 @@ use Rattle.topology.specs.Topology.{idAt, linksAt, lanesChanged, slotHeld, besi
 use Rattle.report.specs.Report.{listed, warned, fits}
 use Rattle.report.specs.declared.Answer.{Answer}
 use Rattle.report.specs.declared.Answer.the-variants.{Changed, Refused}
+use Rattle.tables.specs.Columns.{predecessorsAt, rowCount, successorsAt}
+use Rattle.rules.specs.Limits.{maxLinks}
 
 -- what such an edit writes, and its answer
 pub record Relinked : Type 0 where
@@ -43,16 +45,16 @@ pairOf a b = place b (place a [])
 
 -- both lists of a new link have room
 abbrev pub linkRoom : List ℕ → ℕ → ℕ → Bool
-linkRoom t i j = ltb (length (linksAt t i 35)) 16 && ltb (length (linksAt t j 18)) 16
+linkRoom t i j = ltb (length (linksAt t i successorsAt)) maxLinks && ltb (length (linksAt t j predecessorsAt)) maxLinks
 
 -- rows i and j can be linked or unlinked, and `linked` says whether they are
 abbrev pub Linkable : List ℕ → ℕ → ℕ → Bool → Type 0
 Linkable t i j linked =
     (searchable t ≡ true)
-    × ((i < word 0 t)
-    × ((j < word 0 t)
-    × ((linked ≡ has (idAt t j) (linksAt t i 35))
-    × ((linked ≡ has (idAt t i) (linksAt t j 18)) × ((ascending (linksAt t i 35) ≡ true) × (ascending (linksAt t j 18) ≡ true))))))
+    × ((i < word rowCount t)
+    × ((j < word rowCount t)
+    × ((linked ≡ has (idAt t j) (linksAt t i successorsAt))
+    × ((linked ≡ has (idAt t i) (linksAt t j predecessorsAt)) × ((ascending (linksAt t i successorsAt) ≡ true) × (ascending (linksAt t j predecessorsAt) ≡ true))))))
 
 -- connect of rows i and j: a gap is warned of even if the link is there
 abbrev pub linking : List ℕ → ℕ → ℕ → Bool → Bool → List ℕ → List ℕ → Relinked

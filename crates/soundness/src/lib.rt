@@ -3,6 +3,7 @@ ghost use mathlib.Core.Path.{_≡_};
 ghost use mathlib.Core.Bool.{true};
 ghost use Prim.Native.Nat.{_≤_, _<_};
 ghost use Rattle.tables.specs.Formed.{counted, soundTables};
+ghost use Rattle.tables.specs.View.{tablesOf};
 ghost use Rattle.soundness.specs.Parts as P;
 use lists::both;
 use tables::BOUNDARIES;
@@ -31,7 +32,7 @@ fn all_counted(
     crosswalks: &[u64],
     coordinates: &[f64],
 ) -> bool
-    ensures { λ r. ⌜ r ≡ P.allCounted (P.lent (now (lanes .entry)) (now (boundaries .entry)) (now (roads .entry)) (now (junctions .entry)) (now (rules .entry)) (now («stop_lines» .entry)) (now (crosswalks .entry)) (now (coordinates .entry))) ⌝ }
+    ensures { λ r. ⌜ r ≡ P.allCounted (tablesOf (now (lanes .entry)) (now (boundaries .entry)) (now (roads .entry)) (now (junctions .entry)) (now (rules .entry)) (now («stop_lines» .entry)) (now (crosswalks .entry)) (now (coordinates .entry))) ⌝ }
 {
     let a = both(
         map::sound::counted(lanes, LANES, LANE),
@@ -60,8 +61,8 @@ fn all_good(
     crosswalks: &[u64],
     coordinates: &[f64],
 ) -> bool
-    requires { ⌜ P.allCounted (P.lent (now lanes) (now boundaries) (now roads) (now junctions) (now rules) (now «stop_lines») (now crosswalks) (now coordinates)) ≡ true ⌝ }
-    ensures { λ r. ⌜ r ≡ P.allGood most (P.lent (now (lanes .entry)) (now (boundaries .entry)) (now (roads .entry)) (now (junctions .entry)) (now (rules .entry)) (now («stop_lines» .entry)) (now (crosswalks .entry)) (now (coordinates .entry))) ⌝ }
+    requires { ⌜ P.allCounted (tablesOf (now lanes) (now boundaries) (now roads) (now junctions) (now rules) (now «stop_lines») (now crosswalks) (now coordinates)) ≡ true ⌝ }
+    ensures { λ r. ⌜ r ≡ P.allGood most (tablesOf (now (lanes .entry)) (now (boundaries .entry)) (now (roads .entry)) (now (junctions .entry)) (now (rules .entry)) (now («stop_lines» .entry)) (now (crosswalks .entry)) (now (coordinates .entry))) ⌝ }
 {
     let a = both(
         map::sound::lanes_good(lanes, most, coordinates),
@@ -100,8 +101,8 @@ fn all_ascend(
     crosswalks: &[u64],
     coordinates: &[f64],
 ) -> bool
-    requires { ⌜ P.allCounted (P.lent (now lanes) (now boundaries) (now roads) (now junctions) (now rules) (now «stop_lines») (now crosswalks) (now coordinates)) ≡ true ⌝ }
-    ensures { λ r. ⌜ r ≡ P.allAscend (P.lent (now (lanes .entry)) (now (boundaries .entry)) (now (roads .entry)) (now (junctions .entry)) (now (rules .entry)) (now («stop_lines» .entry)) (now (crosswalks .entry)) (now (coordinates .entry))) ⌝ }
+    requires { ⌜ P.allCounted (tablesOf (now lanes) (now boundaries) (now roads) (now junctions) (now rules) (now «stop_lines») (now crosswalks) (now coordinates)) ≡ true ⌝ }
+    ensures { λ r. ⌜ r ≡ P.allAscend (tablesOf (now (lanes .entry)) (now (boundaries .entry)) (now (roads .entry)) (now (junctions .entry)) (now (rules .entry)) (now («stop_lines» .entry)) (now (crosswalks .entry)) (now (coordinates .entry))) ⌝ }
 {
     let a = both(
         ascends(lanes, LANES, LANE),
@@ -130,8 +131,8 @@ fn rows_sound(
     crosswalks: &[u64],
     coordinates: &[f64],
 ) -> bool
-    requires { ⌜ P.allCounted (P.lent (now lanes) (now boundaries) (now roads) (now junctions) (now rules) (now «stop_lines») (now crosswalks) (now coordinates)) ≡ true ⌝ }
-    ensures { λ r. ⌜ r ≡ P.rowsSound counter (P.lent (now (lanes .entry)) (now (boundaries .entry)) (now (roads .entry)) (now (junctions .entry)) (now (rules .entry)) (now («stop_lines» .entry)) (now (crosswalks .entry)) (now (coordinates .entry))) ⌝ }
+    requires { ⌜ P.allCounted (tablesOf (now lanes) (now boundaries) (now roads) (now junctions) (now rules) (now «stop_lines») (now crosswalks) (now coordinates)) ≡ true ⌝ }
+    ensures { λ r. ⌜ r ≡ P.rowsSound counter (tablesOf (now (lanes .entry)) (now (boundaries .entry)) (now (roads .entry)) (now (junctions .entry)) (now (rules .entry)) (now («stop_lines» .entry)) (now (crosswalks .entry)) (now (coordinates .entry))) ⌝ }
 {
     let most = map::sound::largest_id(counter);
     let good = all_good(
@@ -172,7 +173,7 @@ pub fn sound(
     crosswalks: &[u64],
     coordinates: &[f64],
 ) -> bool
-    ensures { λ r. ⌜ r ≡ soundTables counter (P.lent (now (lanes .entry)) (now (boundaries .entry)) (now (roads .entry)) (now (junctions .entry)) (now (rules .entry)) (now («stop_lines» .entry)) (now (crosswalks .entry)) (now (coordinates .entry))) ⌝ }
+    ensures { λ r. ⌜ r ≡ soundTables counter (tablesOf (now (lanes .entry)) (now (boundaries .entry)) (now (roads .entry)) (now (junctions .entry)) (now (rules .entry)) (now («stop_lines» .entry)) (now (crosswalks .entry)) (now (coordinates .entry))) ⌝ }
 {
     if all_counted(
         lanes,

@@ -9,6 +9,7 @@ use Rattle.entities.specs.Records.{Map, ChangeSet}
 use Rattle.rules.specs.Names.{Tolerance, Refusal, Unsound}
 use Rattle.rules.specs.Sound.{Lists}
 use Rattle.rules.specs.Ops as O
+pub use Rattle.tables.specs.View.{tablesOf}
 use Rattle.tables.specs.View.{Tables, view}
 use Rattle.tables.specs.Formed.{soundTables}
 use Rattle.store.specs.Store.{store, roomOf}
@@ -87,10 +88,6 @@ step tol c l =
     cond (soundTables (l .counter) (l .tables)) (closing c l (o .state) (o .answer)) (refusing l Unsound)
 
 -- ---- slices as what is lent
-
-abbrev pub tablesOf : List ℕ → List ℕ → List ℕ → List ℕ → List ℕ → List ℕ → List ℕ → List Float → Tables
-tablesOf lanes boundaries roads junctions rules stops crosswalks coordinates =
-    record { lanes = lanes; boundaries = boundaries; roads = roads; junctions = junctions; rules = rules; stop-lines = stops; crosswalks = crosswalks; coordinates = coordinates }
 
 abbrev pub lentOf : ℕ → List ℕ → List ℕ → List ℕ → List ℕ → List ℕ → List ℕ → List ℕ → List Float → List ℕ → List ℕ → List ℕ → List ℕ → Lent
 lentOf counter lanes boundaries roads junctions rules stops crosswalks coordinates created modified deleted warnings =

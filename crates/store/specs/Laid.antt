@@ -13,6 +13,7 @@ use Rattle.entities.specs.Records.{Line, Lane, Boundary, StopLine, Crosswalk, M
 use Rattle.rules.specs.Sound.{optionalLine, lines, total}
 use Rattle.tables.specs.View.{Tables, laneWords, boundaryWords, roadWords, junctionWords, ruleWords, stopLineWords, crosswalkWords}
 use Rattle.store.specs.Store.{laneOnto, boundaryOnto, roadOnto, junctionOnto, ruleOnto, storeRows}
+use Rattle.tables.specs.Columns.{laneCenterlineStart}
 
 -- ---- where lines start
 
@@ -34,7 +35,7 @@ lineWords at c = at ∷ length c ∷ []
 -- a centreline's words, where there is one
 abbrev pub centerOnto : List ℕ → ℕ → Option Line → List ℕ
 centerOnto w at none = w
-centerOnto w at (some c) = over w 7 (lineWords at c)
+centerOnto w at (some c) = over w laneCenterlineStart (lineWords at c)
 
 unfoldable pub laneLaid : List ℕ → ℕ × Lane → List ℕ
 laneLaid w r = centerOnto (laneOnto w (r .1)) (r .0) (r .1 .centerline)

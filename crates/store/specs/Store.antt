@@ -14,6 +14,8 @@ use Rattle.entities.specs.declared.NeighborDirection.the-variants.{Same, Opposi
 use Rattle.entities.specs.Records.{Line, Lane, Boundary, Road, Junction, Rule, Map}
 use Rattle.rules.specs.Sound.{hasContent, Room}
 use Rattle.tables.specs.View.{Tables, word, rows, laneWords, boundaryWords, roadWords, junctionWords, ruleWords}
+use Rattle.tables.specs.Columns.{boundarySize, boundaryStart, firstPredecessor, firstSuccessor, junctionFirstLane, laneCenterlineSize, laneCenterlineStart, laneSpeedBits, leftSlotLane, rightSlotLane, roadFirstLane, rowCount, rowId, ruleContent, ruleCrosswalk, ruleFirstControlled, ruleFirstLane, rulePriorityAt, ruleStopLinesAt, ruleYieldingAt}
+use Rattle.rules.specs.Limits.{otherRule, rightOfWay}
 
 -- rows of the two tables that grow, and points: what the lent lengths hold
 abbrev pub roomOf : Tables → Room
@@ -68,39 +70,39 @@ laneOnto w l =
     ∷ l .right .boundary
     ∷ flag (l .right .reversed)
     ∷ present (l .centerline)
-    ∷ word 7 w
-    ∷ word 8 w
+    ∷ word laneCenterlineStart w
+    ∷ word laneCenterlineSize w
     ∷ present (l .speed-limit)
-    ∷ numberOr (word 10 w) (l .speed-limit)
+    ∷ numberOr (word laneSpeedBits w) (l .speed-limit)
     ∷ flag (l .one-way)
     ∷ l .turn-direction
     ∷ l .attributes
     ∷ slotMark (l .left-neighbor)
-    ∷ slotLane (word 15 w) (l .left-neighbor)
+    ∷ slotLane (word leftSlotLane w) (l .left-neighbor)
     ∷ slotMark (l .right-neighbor)
-    ∷ slotLane (word 17 w) (l .right-neighbor)
-    ∷ idsOnto (take 16 (drop 19 w)) (l .predecessors) ++ idsOnto (take 16 (drop 36 w)) (l .successors)
+    ∷ slotLane (word rightSlotLane w) (l .right-neighbor)
+    ∷ idsOnto (take 16 (drop firstPredecessor w)) (l .predecessors) ++ idsOnto (take 16 (drop firstSuccessor w)) (l .successors)
 
 unfoldable pub boundaryOnto : List ℕ → Boundary → List ℕ
-boundaryOnto w b = b .id ∷ b .kind ∷ word 2 w ∷ word 3 w ∷ b .attributes ∷ []
+boundaryOnto w b = b .id ∷ b .kind ∷ word boundaryStart w ∷ word boundarySize w ∷ b .attributes ∷ []
 
 unfoldable pub roadOnto : List ℕ → Road → List ℕ
-roadOnto w r = r .id ∷ r .name ∷ r .attributes ∷ idsOnto (take 64 (drop 4 w)) (r .lanes)
+roadOnto w r = r .id ∷ r .name ∷ r .attributes ∷ idsOnto (take 64 (drop roadFirstLane w)) (r .lanes)
 
 unfoldable pub junctionOnto : List ℕ → Junction → List ℕ
-junctionOnto w j = j .id ∷ j .name ∷ j .outline ∷ j .attributes ∷ idsOnto (take 64 (drop 5 w)) (j .lanes)
+junctionOnto w j = j .id ∷ j .name ∷ j .outline ∷ j .attributes ∷ idsOnto (take 64 (drop junctionFirstLane w)) (j .lanes)
 
 unfoldable pub ruleOnto : List ℕ → Rule → List ℕ
 ruleOnto w r =
     r .id
     ∷ r .kind
-    ∷ cond (hasContent (r .kind)) (r .content) (word 2 w)
+    ∷ cond (hasContent (r .kind)) (r .content) (word ruleContent w)
     ∷ r .attributes
-    ∷ numberOr (word 4 w) (r .crosswalk)
-    ∷ idsOnto (take 64 (drop 6 w)) (r .lanes)
-    ++ (idsOnto (take 64 (drop 71 w)) (r .controlled-crosswalks)
-    ++ (idsOr (not (eqb (r .kind) 5)) (drop 135 w) (r .stop-lines)
-    ++ (idsOr (eqb (r .kind) 3) (drop 200 w) (r .priority) ++ idsOr (eqb (r .kind) 3) (drop 265 w) (r .yielding))))
+    ∷ numberOr (word ruleCrosswalk w) (r .crosswalk)
+    ∷ idsOnto (take 64 (drop ruleFirstLane w)) (r .lanes)
+    ++ (idsOnto (take 64 (drop ruleFirstControlled w)) (r .controlled-crosswalks)
+    ++ (idsOr (not (eqb (r .kind) otherRule)) (drop ruleStopLinesAt w) (r .stop-lines)
+    ++ (idsOr (eqb (r .kind) rightOfWay) (drop rulePriorityAt w) (r .priority) ++ idsOr (eqb (r .kind) rightOfWay) (drop ruleYieldingAt w) (r .yielding))))
 
 -- ---- tables
 
@@ -111,11 +113,11 @@ writes s onto w (r ∷ rs) = onto (take s w) r ++ writes s onto (drop s w) rs
 
 -- the rows whose ids stay, with all their words, at the front of the n rows of w; what lies behind them stays
 unfoldable pub packed : ℕ → List ℕ → ℕ → List ℕ → List ℕ
-packed s ids n w = over w 0 (each (λ r. r) (keep (λ r. has (word 0 r) ids) (reads s (λ r. r) n w)))
+packed s ids n w = over w 0 (each (λ r. r) (keep (λ r. has (word rowId r) ids) (reads s (λ r. r) n w)))
 
 -- a table with these records, of which `key` is the id
 unfoldable pub storeRows : {R : Type 0} → ℕ → (List ℕ → R → List ℕ) → (R → ℕ) → List ℕ → List R → List ℕ
-storeRows s onto key t rs = length rs ∷ writes s onto (packed s (map key rs) (word 0 t) (drop 1 t)) rs
+storeRows s onto key t rs = length rs ∷ writes s onto (packed s (map key rs) (word rowCount t) (drop 1 t)) rs
 
 -- a map written back, every line where it is; stop lines and crosswalks are not edited
 unfoldable pub store : Tables → Map → Tables

@@ -14,6 +14,9 @@ use Rattle.entities.specs.declared.Neighbor.{Neighbor}
 use Rattle.entities.specs.Types.{same, opposing}
 use Rattle.rules.specs.Sound.{hasContent}
 use Rattle.entities.specs.Records.{Line, Lane, Boundary, Road, Junction, Rule, StopLine, Crosswalk, Map}
+use Rattle.tables.specs.Columns.{boundaryAttributes, boundaryKind, boundaryStart, crosswalkAttributes, crosswalkLeftStart, crosswalkOutline, crosswalkRightStart, junctionAttributes, junctionLanesAt, junctionName, junctionOutline, laneAttributes, laneCenterline, laneKind, laneLeft, laneOneWay, laneRight, laneSpeed, laneTurn, leftSlot, predecessorsAt, rightSlot, roadAttributes, roadLanesAt, roadName, rowCount, rowId, ruleAttributes, ruleContent, ruleControlledAt, ruleCrosswalk, ruleKind, ruleLanesAt, rulePriorityAt, ruleStopLinesAt, ruleYieldingAt, stopLineAttributes, stopLineStart, successorsAt}
+use Rattle.rules.specs.Limits.{crosswalkRule, otherRule, rightOfWay}
+pub use Rattle.tables.specs.Columns.{laneWords, boundaryWords, roadWords, junctionWords, ruleWords, stopLineWords, crosswalkWords}
 
 -- "Lent slices hold the tables."
 pub record Tables : Type 0 where
@@ -64,47 +67,32 @@ optionLineAt c k w = cond (mark k w) (some (lineAt c (suc k) w)) none
 
 -- ---- rows, column by column
 
-abbrev pub laneWords : ℕ
-laneWords = 52
-
 unfoldable pub laneOf : List Float → List ℕ → Lane
 laneOf c w =
     record {
-      id = word 0 w;
-      kind = word 1 w;
-      left = refAt 2 w;
-      right = refAt 4 w;
-      centerline = optionLineAt c 6 w;
-      speed-limit = optionAt 9 w;
-      one-way = mark 11 w;
-      turn-direction = word 12 w;
-      attributes = word 13 w;
-      left-neighbor = slotAt 14 w;
-      right-neighbor = slotAt 16 w;
-      predecessors = idsAt 18 w;
-      successors = idsAt 35 w;
+      id = word rowId w;
+      kind = word laneKind w;
+      left = refAt laneLeft w;
+      right = refAt laneRight w;
+      centerline = optionLineAt c laneCenterline w;
+      speed-limit = optionAt laneSpeed w;
+      one-way = mark laneOneWay w;
+      turn-direction = word laneTurn w;
+      attributes = word laneAttributes w;
+      left-neighbor = slotAt leftSlot w;
+      right-neighbor = slotAt rightSlot w;
+      predecessors = idsAt predecessorsAt w;
+      successors = idsAt successorsAt w;
     }
 
-abbrev pub boundaryWords : ℕ
-boundaryWords = 5
-
 unfoldable pub boundaryOf : List Float → List ℕ → Boundary
-boundaryOf c w = record { id = word 0 w; kind = word 1 w; geometry = lineAt c 2 w; attributes = word 4 w }
-
-abbrev pub roadWords : ℕ
-roadWords = 68
+boundaryOf c w = record { id = word rowId w; kind = word boundaryKind w; geometry = lineAt c boundaryStart w; attributes = word boundaryAttributes w }
 
 unfoldable pub roadOf : List ℕ → Road
-roadOf w = record { id = word 0 w; name = word 1 w; attributes = word 2 w; lanes = idsAt 3 w }
-
-abbrev pub junctionWords : ℕ
-junctionWords = 69
+roadOf w = record { id = word rowId w; name = word roadName w; attributes = word roadAttributes w; lanes = idsAt roadLanesAt w }
 
 unfoldable pub junctionOf : List ℕ → Junction
-junctionOf w = record { id = word 0 w; name = word 1 w; outline = word 2 w; attributes = word 3 w; lanes = idsAt 4 w }
-
-abbrev pub ruleWords : ℕ
-ruleWords = 330
+junctionOf w = record { id = word rowId w; name = word junctionName w; outline = word junctionOutline w; attributes = word junctionAttributes w; lanes = idsAt junctionLanesAt w }
 
 -- the list at k where the rule's kind has it
 abbrev pub idsWhere : Bool → ℕ → List ℕ → List ℕ
@@ -113,35 +101,29 @@ idsWhere b k w = cond b (idsAt k w) []
 unfoldable pub ruleOf : List ℕ → Rule
 ruleOf w =
     record {
-      id = word 0 w;
-      kind = word 1 w;
-      content = cond (hasContent (word 1 w)) (word 2 w) 0;
-      attributes = word 3 w;
-      crosswalk = cond (eqb (word 1 w) 4) (some (word 4 w)) none;
-      lanes = idsAt 5 w;
-      controlled-crosswalks = idsAt 70 w;
-      stop-lines = idsWhere (not (eqb (word 1 w) 5)) 135 w;
-      priority = idsWhere (eqb (word 1 w) 3) 200 w;
-      yielding = idsWhere (eqb (word 1 w) 3) 265 w;
+      id = word rowId w;
+      kind = word ruleKind w;
+      content = cond (hasContent (word ruleKind w)) (word ruleContent w) 0;
+      attributes = word ruleAttributes w;
+      crosswalk = cond (eqb (word ruleKind w) crosswalkRule) (some (word ruleCrosswalk w)) none;
+      lanes = idsAt ruleLanesAt w;
+      controlled-crosswalks = idsAt ruleControlledAt w;
+      stop-lines = idsWhere (not (eqb (word ruleKind w) otherRule)) ruleStopLinesAt w;
+      priority = idsWhere (eqb (word ruleKind w) rightOfWay) rulePriorityAt w;
+      yielding = idsWhere (eqb (word ruleKind w) rightOfWay) ruleYieldingAt w;
     }
 
-abbrev pub stopLineWords : ℕ
-stopLineWords = 4
-
 unfoldable pub stopLineOf : List Float → List ℕ → StopLine
-stopLineOf c w = record { id = word 0 w; geometry = lineAt c 1 w; attributes = word 3 w }
-
-abbrev pub crosswalkWords : ℕ
-crosswalkWords = 7
+stopLineOf c w = record { id = word rowId w; geometry = lineAt c stopLineStart w; attributes = word stopLineAttributes w }
 
 unfoldable pub crosswalkOf : List Float → List ℕ → Crosswalk
-crosswalkOf c w = record { id = word 0 w; left-edge = lineAt c 1 w; right-edge = lineAt c 3 w; outline = word 5 w; attributes = word 6 w }
+crosswalkOf c w = record { id = word rowId w; left-edge = lineAt c crosswalkLeftStart w; right-edge = lineAt c crosswalkRightStart w; outline = word crosswalkOutline w; attributes = word crosswalkAttributes w }
 
 -- ---- tables
 
 -- the rows of a table, each read by `dec`
 unfoldable pub rows : {B : Type 0} → ℕ → (List ℕ → B) → List ℕ → List B
-rows s dec t = reads s dec (word 0 t) (drop 1 t)
+rows s dec t = reads s dec (word rowCount t) (drop 1 t)
 
 unfoldable pub view : Tables → Map
 view t =
@@ -154,3 +136,8 @@ view t =
       stop-lines = rows stopLineWords (stopLineOf (t .coordinates)) (t .stop-lines);
       crosswalks = rows crosswalkWords (crosswalkOf (t .coordinates)) (t .crosswalks);
     }
+
+-- slices as the tables that are lent
+abbrev pub tablesOf : List ℕ → List ℕ → List ℕ → List ℕ → List ℕ → List ℕ → List ℕ → List Float → Tables
+tablesOf lanes boundaries roads junctions rules stops crosswalks coordinates =
+    record { lanes = lanes; boundaries = boundaries; roads = roads; junctions = junctions; rules = rules; stop-lines = stops; crosswalks = crosswalks; coordinates = coordinates }

@@ -18,14 +18,15 @@ use Rattle.tables.specs.View.{word, idsAt, rows, laneOf}
 use Rattle.map.specs.Returned.{laneAt}
 use Rattle.store.specs.Store.{laneOnto, storeRows}
 use Rattle.store.specs.Rows.{keyed, setSlot}
+use Rattle.tables.specs.Columns.{laneWords, rowId}
 
 -- The lane table with each lane changed by f. Coordinates have no part in it: f changes links and neighbours alone.
 unfoldable pub lanesChanged : (Lane → Lane) → List ℕ → List ℕ
-lanesChanged f t = storeRows 52 laneOnto (λ l. l .id) t (map f (rows 52 (laneOf []) t))
+lanesChanged f t = storeRows laneWords laneOnto (λ l. l .id) t (map f (rows laneWords (laneOf []) t))
 
 -- the id of row i
 abbrev pub idAt : List ℕ → ℕ → ℕ
-idAt t i = word 0 (laneAt t i)
+idAt t i = word rowId (laneAt t i)
 
 -- a count and its ids
 abbrev pub linkWords : List ℕ → List ℕ

@@ -3,7 +3,7 @@ use borrow.Author.Needs.{needs}
 use Rattle.soundness.proofs.rows_sound.Statement.{statement}
 use Rattle.soundness.proofs.rows_sound.Tie as tie
 use mathlib.Core.Path.{sym}
-use Rattle.soundness.specs.Parts.{lent}
+use Rattle.tables.specs.View.{tablesOf}
 use Rattle.soundness.proofs.Ends.{both-found}
 
 largest-id-requires : tie.Need-largest-id-requires
@@ -19,7 +19,7 @@ both-requires : tie.Need-both-requires
 both-requires c κs = search needs
 
 returns : tie.Need-returns
-returns c = sym (both-found (c .before .before .before .before .before .before .before .before .before .before .before .before .args .counter) _ (lent (c .before .before .before .before .before .before .before .before .before .before .before .before .args .lanes .now) (c .before .before .before .before .before .before .before .before .before .before .before .before .args .boundaries .now) (c .before .before .before .before .before .before .before .before .before .before .before .before .args .roads .now) (c .before .before .before .before .before .before .before .before .before .before .before .before .args .junctions .now) (c .before .before .before .before .before .before .before .before .before .before .before .before .args .rules .now) (c .before .before .before .before .before .before .before .before .before .before .before .before .args .stop-lines .now) (c .before .before .before .before .before .before .before .before .before .before .before .before .args .crosswalks .now) (c .before .before .before .before .before .before .before .before .before .before .before .before .args .coordinates .now)) _ _ _ (c .before .before .before .largest-id .ensures) (c .before .before .all-good .ensures) (c .before .all-ascend .ensures) (c .both .ensures))
+returns c = sym (both-found (c .before .before .before .before .before .before .before .before .before .before .before .before .args .counter) _ (tablesOf (c .before .before .before .before .before .before .before .before .before .before .before .before .args .lanes .now) (c .before .before .before .before .before .before .before .before .before .before .before .before .args .boundaries .now) (c .before .before .before .before .before .before .before .before .before .before .before .before .args .roads .now) (c .before .before .before .before .before .before .before .before .before .before .before .before .args .junctions .now) (c .before .before .before .before .before .before .before .before .before .before .before .before .args .rules .now) (c .before .before .before .before .before .before .before .before .before .before .before .before .args .stop-lines .now) (c .before .before .before .before .before .before .before .before .before .before .before .before .args .crosswalks .now) (c .before .before .before .before .before .before .before .before .before .before .before .before .args .coordinates .now)) _ _ _ (c .before .before .before .largest-id .ensures) (c .before .before .all-good .ensures) (c .before .all-ascend .ensures) (c .both .ensures))
 
 pub rows-sound-spec : {M : Type 1} → statement M
 rows-sound-spec =

@@ -10,7 +10,8 @@ use Rattle.lists.proofs.Booleans.{and-fst}
 use Rattle.map.specs.Good.{largestId}
 use Rattle.apart.proofs.Stored.{spans-lines}
 use Rattle.tables.specs.Formed.{allClear}
-use Rattle.soundness.specs.Parts.{lent, allGood, allAscend}
+use Rattle.tables.specs.View.{tablesOf}
+use Rattle.soundness.specs.Parts.{allGood, allAscend}
 use Rattle.soundness.proofs.Ends.{words-of, joined, may-take, may-search, end-tied, end-touching, end-bad, end-uncounted}
 
 all-counted-requires : tie.Need-all-counted-requires
@@ -21,7 +22,7 @@ rows-sound-requires c κs = sym (c .before .all-counted .ensures) ∙ c .if1 .ta
 
 lines-apart-requires : tie.Need-lines-apart-requires
 lines-apart-requires c κs =
-    let t = lent (c .before .before .before .before .before .before .before .before .before .before .before .before .args .lanes .now) (c .before .before .before .before .before .before .before .before .before .before .before .before .args .boundaries .now) (c .before .before .before .before .before .before .before .before .before .before .before .before .args .roads .now) (c .before .before .before .before .before .before .before .before .before .before .before .before .args .junctions .now) (c .before .before .before .before .before .before .before .before .before .before .before .before .args .rules .now) (c .before .before .before .before .before .before .before .before .before .before .before .before .args .stop-lines .now) (c .before .before .before .before .before .before .before .before .before .before .before .before .args .crosswalks .now) (c .before .before .before .before .before .before .before .before .before .before .before .before .args .coordinates .now) in
+    let t = tablesOf (c .before .before .before .before .before .before .before .before .before .before .before .before .args .lanes .now) (c .before .before .before .before .before .before .before .before .before .before .before .before .args .boundaries .now) (c .before .before .before .before .before .before .before .before .before .before .before .before .args .roads .now) (c .before .before .before .before .before .before .before .before .before .before .before .before .args .junctions .now) (c .before .before .before .before .before .before .before .before .before .before .before .before .args .rules .now) (c .before .before .before .before .before .before .before .before .before .before .before .before .args .stop-lines .now) (c .before .before .before .before .before .before .before .before .before .before .before .before .args .crosswalks .now) (c .before .before .before .before .before .before .before .before .before .before .before .before .args .coordinates .now) in
     let k = c .before .before .before .before .before .before .before .before .before .before .before .before .args .counter in
     let small : k ≤ lastCounter = omega (arith, c .before .before .before .before .before .before .before .before .before .before .before .before .good .0 .1) in
     let w = words-of t (c .before .before .before .before .before .before .before .before .before .before .before .shared-slice-known .given) (c .before .before .before .before .before .before .before .before .before .before .shared-slice-known2 .given) (c .before .before .before .before .before .before .before .before .before .shared-slice-known3 .given) (c .before .before .before .before .before .before .before .before .shared-slice-known4 .given) (c .before .before .before .before .before .before .before .shared-slice-known5 .given) (c .before .before .before .before .before .before .shared-slice-known6 .given) (c .before .before .before .before .before .shared-slice-known7 .given) in
@@ -29,7 +30,7 @@ lines-apart-requires c κs =
 
 links-returned-requires : tie.Need-links-returned-requires
 links-returned-requires c κs =
-    let t = lent (c .before .before .before .before .before .before .before .before .before .before .before .before .before .before .args .lanes .now) (c .before .before .before .before .before .before .before .before .before .before .before .before .before .before .args .boundaries .now) (c .before .before .before .before .before .before .before .before .before .before .before .before .before .before .args .roads .now) (c .before .before .before .before .before .before .before .before .before .before .before .before .before .before .args .junctions .now) (c .before .before .before .before .before .before .before .before .before .before .before .before .before .before .args .rules .now) (c .before .before .before .before .before .before .before .before .before .before .before .before .before .before .args .stop-lines .now) (c .before .before .before .before .before .before .before .before .before .before .before .before .before .before .args .crosswalks .now) (c .before .before .before .before .before .before .before .before .before .before .before .before .before .before .args .coordinates .now) in
+    let t = tablesOf (c .before .before .before .before .before .before .before .before .before .before .before .before .before .before .args .lanes .now) (c .before .before .before .before .before .before .before .before .before .before .before .before .before .before .args .boundaries .now) (c .before .before .before .before .before .before .before .before .before .before .before .before .before .before .args .roads .now) (c .before .before .before .before .before .before .before .before .before .before .before .before .before .before .args .junctions .now) (c .before .before .before .before .before .before .before .before .before .before .before .before .before .before .args .rules .now) (c .before .before .before .before .before .before .before .before .before .before .before .before .before .before .args .stop-lines .now) (c .before .before .before .before .before .before .before .before .before .before .before .before .before .before .args .crosswalks .now) (c .before .before .before .before .before .before .before .before .before .before .before .before .before .before .args .coordinates .now) in
     let k = c .before .before .before .before .before .before .before .before .before .before .before .before .before .before .args .counter in
     let small : k ≤ lastCounter = omega (arith, c .before .before .before .before .before .before .before .before .before .before .before .before .before .before .good .0 .1) in
     let w = words-of t (c .before .before .before .before .before .before .before .before .before .before .before .before .before .shared-slice-known .given) (c .before .before .before .before .before .before .before .before .before .before .before .before .shared-slice-known2 .given) (c .before .before .before .before .before .before .before .before .before .before .before .shared-slice-known3 .given) (c .before .before .before .before .before .before .before .before .before .before .shared-slice-known4 .given) (c .before .before .before .before .before .before .before .before .before .shared-slice-known5 .given) (c .before .before .before .before .before .before .before .before .shared-slice-known6 .given) (c .before .before .before .before .before .before .before .shared-slice-known7 .given) in
@@ -37,7 +38,7 @@ links-returned-requires c κs =
 
 neighbors-returned-requires : tie.Need-neighbors-returned-requires
 neighbors-returned-requires c κs =
-    let t = lent (c .before .before .before .before .before .before .before .before .before .before .before .before .before .before .before .args .lanes .now) (c .before .before .before .before .before .before .before .before .before .before .before .before .before .before .before .args .boundaries .now) (c .before .before .before .before .before .before .before .before .before .before .before .before .before .before .before .args .roads .now) (c .before .before .before .before .before .before .before .before .before .before .before .before .before .before .before .args .junctions .now) (c .before .before .before .before .before .before .before .before .before .before .before .before .before .before .before .args .rules .now) (c .before .before .before .before .before .before .before .before .before .before .before .before .before .before .before .args .stop-lines .now) (c .before .before .before .before .before .before .before .before .before .before .before .before .before .before .before .args .crosswalks .now) (c .before .before .before .before .before .before .before .before .before .before .before .before .before .before .before .args .coordinates .now) in
+    let t = tablesOf (c .before .before .before .before .before .before .before .before .before .before .before .before .before .before .before .args .lanes .now) (c .before .before .before .before .before .before .before .before .before .before .before .before .before .before .before .args .boundaries .now) (c .before .before .before .before .before .before .before .before .before .before .before .before .before .before .before .args .roads .now) (c .before .before .before .before .before .before .before .before .before .before .before .before .before .before .before .args .junctions .now) (c .before .before .before .before .before .before .before .before .before .before .before .before .before .before .before .args .rules .now) (c .before .before .before .before .before .before .before .before .before .before .before .before .before .before .before .args .stop-lines .now) (c .before .before .before .before .before .before .before .before .before .before .before .before .before .before .before .args .crosswalks .now) (c .before .before .before .before .before .before .before .before .before .before .before .before .before .before .before .args .coordinates .now) in
     let k = c .before .before .before .before .before .before .before .before .before .before .before .before .before .before .before .args .counter in
     let small : k ≤ lastCounter = omega (arith, c .before .before .before .before .before .before .before .before .before .before .before .before .before .before .before .good .0 .1) in
     let w = words-of t (c .before .before .before .before .before .before .before .before .before .before .before .before .before .before .shared-slice-known .given) (c .before .before .before .before .before .before .before .before .before .before .before .before .before .shared-slice-known2 .given) (c .before .before .before .before .before .before .before .before .before .before .before .before .shared-slice-known3 .given) (c .before .before .before .before .before .before .before .before .before .before .before .shared-slice-known4 .given) (c .before .before .before .before .before .before .before .before .before .before .shared-slice-known5 .given) (c .before .before .before .before .before .before .before .before .before .shared-slice-known6 .given) (c .before .before .before .before .before .before .before .before .shared-slice-known7 .given) in
@@ -48,7 +49,7 @@ both-requires c κs = search needs
 
 returns : tie.Need-returns
 returns c =
-    let t = lent (c .before .before .before .before .before .before .before .before .before .before .before .before .before .before .before .before .before .args .lanes .now) (c .before .before .before .before .before .before .before .before .before .before .before .before .before .before .before .before .before .args .boundaries .now) (c .before .before .before .before .before .before .before .before .before .before .before .before .before .before .before .before .before .args .roads .now) (c .before .before .before .before .before .before .before .before .before .before .before .before .before .before .before .before .before .args .junctions .now) (c .before .before .before .before .before .before .before .before .before .before .before .before .before .before .before .before .before .args .rules .now) (c .before .before .before .before .before .before .before .before .before .before .before .before .before .before .before .before .before .args .stop-lines .now) (c .before .before .before .before .before .before .before .before .before .before .before .before .before .before .before .before .before .args .crosswalks .now) (c .before .before .before .before .before .before .before .before .before .before .before .before .before .before .before .before .before .args .coordinates .now) in
+    let t = tablesOf (c .before .before .before .before .before .before .before .before .before .before .before .before .before .before .before .before .before .args .lanes .now) (c .before .before .before .before .before .before .before .before .before .before .before .before .before .before .before .before .before .args .boundaries .now) (c .before .before .before .before .before .before .before .before .before .before .before .before .before .before .before .before .before .args .roads .now) (c .before .before .before .before .before .before .before .before .before .before .before .before .before .before .before .before .before .args .junctions .now) (c .before .before .before .before .before .before .before .before .before .before .before .before .before .before .before .before .before .args .rules .now) (c .before .before .before .before .before .before .before .before .before .before .before .before .before .before .before .before .before .args .stop-lines .now) (c .before .before .before .before .before .before .before .before .before .before .before .before .before .before .before .before .before .args .crosswalks .now) (c .before .before .before .before .before .before .before .before .before .before .before .before .before .before .before .before .before .args .coordinates .now) in
     let k = c .before .before .before .before .before .before .before .before .before .before .before .before .before .before .before .before .before .args .counter in
     let small : k ≤ lastCounter = omega (arith, c .before .before .before .before .before .before .before .before .before .before .before .before .before .before .before .before .before .good .0 .1) in
     let w = words-of t (c .before .before .before .before .before .before .before .before .before .before .before .before .before .before .before .before .shared-slice-known .given) (c .before .before .before .before .before .before .before .before .before .before .before .before .before .before .before .shared-slice-known2 .given) (c .before .before .before .before .before .before .before .before .before .before .before .before .before .before .shared-slice-known3 .given) (c .before .before .before .before .before .before .before .before .before .before .before .before .before .shared-slice-known4 .given) (c .before .before .before .before .before .before .before .before .before .before .before .before .shared-slice-known5 .given) (c .before .before .before .before .before .before .before .before .before .before .before .shared-slice-known6 .given) (c .before .before .before .before .before .before .before .before .before .before .shared-slice-known7 .given) in
@@ -56,7 +57,7 @@ returns c =
 
 returns-2 : tie.Need-returns-2
 returns-2 c =
-    let t = lent (c .before .before .before .before .before .before .before .before .before .before .before .before .before .before .args .lanes .now) (c .before .before .before .before .before .before .before .before .before .before .before .before .before .before .args .boundaries .now) (c .before .before .before .before .before .before .before .before .before .before .before .before .before .before .args .roads .now) (c .before .before .before .before .before .before .before .before .before .before .before .before .before .before .args .junctions .now) (c .before .before .before .before .before .before .before .before .before .before .before .before .before .before .args .rules .now) (c .before .before .before .before .before .before .before .before .before .before .before .before .before .before .args .stop-lines .now) (c .before .before .before .before .before .before .before .before .before .before .before .before .before .before .args .crosswalks .now) (c .before .before .before .before .before .before .before .before .before .before .before .before .before .before .args .coordinates .now) in
+    let t = tablesOf (c .before .before .before .before .before .before .before .before .before .before .before .before .before .before .args .lanes .now) (c .before .before .before .before .before .before .before .before .before .before .before .before .before .before .args .boundaries .now) (c .before .before .before .before .before .before .before .before .before .before .before .before .before .before .args .roads .now) (c .before .before .before .before .before .before .before .before .before .before .before .before .before .before .args .junctions .now) (c .before .before .before .before .before .before .before .before .before .before .before .before .before .before .args .rules .now) (c .before .before .before .before .before .before .before .before .before .before .before .before .before .before .args .stop-lines .now) (c .before .before .before .before .before .before .before .before .before .before .before .before .before .before .args .crosswalks .now) (c .before .before .before .before .before .before .before .before .before .before .before .before .before .before .args .coordinates .now) in
     let k = c .before .before .before .before .before .before .before .before .before .before .before .before .before .before .args .counter in
     let small : k ≤ lastCounter = omega (arith, c .before .before .before .before .before .before .before .before .before .before .before .before .before .before .good .0 .1) in
     let w = words-of t (c .before .before .before .before .before .before .before .before .before .before .before .before .before .shared-slice-known .given) (c .before .before .before .before .before .before .before .before .before .before .before .before .shared-slice-known2 .given) (c .before .before .before .before .before .before .before .before .before .before .before .shared-slice-known3 .given) (c .before .before .before .before .before .before .before .before .before .before .shared-slice-known4 .given) (c .before .before .before .before .before .before .before .before .before .shared-slice-known5 .given) (c .before .before .before .before .before .before .before .before .shared-slice-known6 .given) (c .before .before .before .before .before .before .before .shared-slice-known7 .given) in
@@ -64,7 +65,7 @@ returns-2 c =
 
 returns-3 : tie.Need-returns-3
 returns-3 c =
-    let t = lent (c .before .before .before .before .before .before .before .before .before .before .before .before .args .lanes .now) (c .before .before .before .before .before .before .before .before .before .before .before .before .args .boundaries .now) (c .before .before .before .before .before .before .before .before .before .before .before .before .args .roads .now) (c .before .before .before .before .before .before .before .before .before .before .before .before .args .junctions .now) (c .before .before .before .before .before .before .before .before .before .before .before .before .args .rules .now) (c .before .before .before .before .before .before .before .before .before .before .before .before .args .stop-lines .now) (c .before .before .before .before .before .before .before .before .before .before .before .before .args .crosswalks .now) (c .before .before .before .before .before .before .before .before .before .before .before .before .args .coordinates .now) in
+    let t = tablesOf (c .before .before .before .before .before .before .before .before .before .before .before .before .args .lanes .now) (c .before .before .before .before .before .before .before .before .before .before .before .before .args .boundaries .now) (c .before .before .before .before .before .before .before .before .before .before .before .before .args .roads .now) (c .before .before .before .before .before .before .before .before .before .before .before .before .args .junctions .now) (c .before .before .before .before .before .before .before .before .before .before .before .before .args .rules .now) (c .before .before .before .before .before .before .before .before .before .before .before .before .args .stop-lines .now) (c .before .before .before .before .before .before .before .before .before .before .before .before .args .crosswalks .now) (c .before .before .before .before .before .before .before .before .before .before .before .before .args .coordinates .now) in
     let k = c .before .before .before .before .before .before .before .before .before .before .before .before .args .counter in
     let small : k ≤ lastCounter = omega (arith, c .before .before .before .before .before .before .before .before .before .before .before .before .good .0 .1) in
     let w = words-of t (c .before .before .before .before .before .before .before .before .before .before .before .shared-slice-known .given) (c .before .before .before .before .before .before .before .before .before .before .shared-slice-known2 .given) (c .before .before .before .before .before .before .before .before .before .shared-slice-known3 .given) (c .before .before .before .before .before .before .before .before .shared-slice-known4 .given) (c .before .before .before .before .before .before .before .shared-slice-known5 .given) (c .before .before .before .before .before .before .shared-slice-known6 .given) (c .before .before .before .before .before .shared-slice-known7 .given) in
@@ -72,7 +73,7 @@ returns-3 c =
 
 returns-4 : tie.Need-returns-4
 returns-4 c =
-    let t = lent (c .before .before .before .before .before .before .before .before .before .before .args .lanes .now) (c .before .before .before .before .before .before .before .before .before .before .args .boundaries .now) (c .before .before .before .before .before .before .before .before .before .before .args .roads .now) (c .before .before .before .before .before .before .before .before .before .before .args .junctions .now) (c .before .before .before .before .before .before .before .before .before .before .args .rules .now) (c .before .before .before .before .before .before .before .before .before .before .args .stop-lines .now) (c .before .before .before .before .before .before .before .before .before .before .args .crosswalks .now) (c .before .before .before .before .before .before .before .before .before .before .args .coordinates .now) in
+    let t = tablesOf (c .before .before .before .before .before .before .before .before .before .before .args .lanes .now) (c .before .before .before .before .before .before .before .before .before .before .args .boundaries .now) (c .before .before .before .before .before .before .before .before .before .before .args .roads .now) (c .before .before .before .before .before .before .before .before .before .before .args .junctions .now) (c .before .before .before .before .before .before .before .before .before .before .args .rules .now) (c .before .before .before .before .before .before .before .before .before .before .args .stop-lines .now) (c .before .before .before .before .before .before .before .before .before .before .args .crosswalks .now) (c .before .before .before .before .before .before .before .before .before .before .args .coordinates .now) in
     let k = c .before .before .before .before .before .before .before .before .before .before .args .counter in
     let small : k ≤ lastCounter = omega (arith, c .before .before .before .before .before .before .before .before .before .before .good .0 .1) in
     let w = words-of t (c .before .before .before .before .before .before .before .before .before .shared-slice-known .given) (c .before .before .before .before .before .before .before .before .shared-slice-known2 .given) (c .before .before .before .before .before .before .before .shared-slice-known3 .given) (c .before .before .before .before .before .before .shared-slice-known4 .given) (c .before .before .before .before .before .shared-slice-known5 .given) (c .before .before .before .before .shared-slice-known6 .given) (c .before .before .before .shared-slice-known7 .given) in
