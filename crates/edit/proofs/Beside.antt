@@ -28,15 +28,15 @@ use Rattle.laws.proofs.Connect.{found-all}
 use Rattle.tables.specs.View.{Tables, word, refAt, laneOf, view}
 use Rattle.tables.specs.Formed.{soundTables}
 use Rattle.store.specs.Store.{store, roomOf}
-use Rattle.map.specs.Returned.{laneAt}
+use Rattle.row_tests.specs.Returned.{laneAt}
 use Rattle.lookup.specs.Lookup.{placeOf, sideWord}
 use Rattle.lookup.proofs.Laws.{place-id, side-ref}
-use Rattle.topology.specs.Topology.{lanesChanged, idAt, slotHeld, beside}
-use Rattle.facts.proofs.Stored.{withLaneTable}
-use Rattle.facts.proofs.Found.{sound-map, lane-there, lane-missing, lanes-up}
+use Rattle.topology.specs.Topology.{lanesChanged, idAt, slotHeld, besideRow}
+use Rattle.sound_facts.proofs.Stored.{withLaneTable}
+use Rattle.sound_facts.proofs.Found.{sound-map, lane-there, lane-missing, lanes-up}
 use Rattle.step.specs.Step.{Lent, step, stateOf, refusing}
 use Rattle.step.proofs.Steps.{step-refused}
-use Rattle.relink.specs.Parts.{relinking, placeSlot, slotIds, unshared, reslotting, freeing, setting}
+use Rattle.relink.specs.Parts.{writingLinks, placeSlot, slotIds, unsharedIssues, reslotting, freeing, setting}
 use Rattle.edit.proofs.Steps.{step-relinking, spread}
 use Rattle.edit.proofs.Named.{lanes-named}
 use Rattle.edit.proofs.Connects.{found-id}
@@ -241,7 +241,7 @@ module _ (tol : Tolerance) (l : Lent) (h : soundTables (l .counter) (l .tables) 
       other = slotHeld (t .lanes) j answer
 
       abbrev warned : List Issue
-      warned = E.when (unshared (t .lanes) i side j answer) (E.warning BoundaryUnshared (laneEntity (idAt (t .lanes) i)) (laneEntity (idAt (t .lanes) j) ∷ []))
+      warned = E.when (unsharedIssues (t .lanes) i side j answer) (E.warning BoundaryUnshared (laneEntity (idAt (t .lanes) i)) (laneEntity (idAt (t .lanes) j) ∷ []))
 
       boundary-any : (s : Side) (r : ℕ) → boundaryOn s (laneOf (t .coordinates) (laneAt (t .lanes) r)) .boundary ≡ refAt (sideWord s) (laneAt (t .lanes) r) .boundary
       boundary-any s r = ap (λ z. z .boundary) (side-ref (t .coordinates) (laneAt (t .lanes) r) s)

@@ -23,17 +23,17 @@ use Rattle.laws.proofs.Exact.{has-key}
 use Rattle.tables.specs.View.{Tables, word, laneOf, view}
 use Rattle.tables.specs.Formed.{soundTables}
 use Rattle.store.specs.Store.{store, roomOf}
-use Rattle.map.specs.Returned.{laneAt}
+use Rattle.row_tests.specs.Returned.{laneAt}
 use Rattle.lookup.specs.Lookup.{placeOf, drawn}
 use Rattle.lookup.proofs.Laws.{place-id}
 use Rattle.topology.specs.Topology.{lanesChanged, idAt, linksAt}
-use Rattle.facts.proofs.Stored.{withLaneTable}
+use Rattle.sound_facts.proofs.Stored.{withLaneTable}
 use Rattle.step.specs.Step.{Lent, Ended, step, stateOf, refusing}
-use Rattle.relink.specs.Parts.{relinking, pairOf, linkRoom, linking, unlinking}
+use Rattle.relink.specs.Parts.{writingLinks, pairOf, linkRoom, linking, unlinking}
 use Rattle.step.proofs.Steps.{step-refused}
 use Rattle.edit.proofs.Steps.{step-relinking, spread}
 use Rattle.edit.proofs.Named.{lanes-named}
-use Rattle.facts.proofs.Found.{sound-map, lane-there, lane-missing, gapped-drawn, lanes-up, leads-by-row}
+use Rattle.sound_facts.proofs.Found.{sound-map, lane-there, lane-missing, gapped-drawn, lanes-up, leads-by-row}
 
 -- ---- two lanes in id order
 

@@ -16,15 +16,15 @@ use Rattle.rules.specs.Edit as E
 use Rattle.rules.specs.Ops as O
 use Rattle.tables.specs.View.{Tables, word, laneOf}
 use Rattle.tables.specs.Formed.{soundTables}
-use Rattle.map.specs.Returned.{searchable, laneAt}
+use Rattle.row_tests.specs.Returned.{searchable, laneAt}
 use Rattle.lookup.specs.Lookup.{placeOf, sortedTable, allStored, drawn}
 use Rattle.lookup.proofs.Laws.{place-within, place-id, searchable-sorted}
 use Rattle.topology.specs.Topology.{idAt, linksAt}
-use Rattle.facts.proofs.Facts.{facts}
-use Rattle.facts.proofs.Found.{lanes-search, lanes-sorted}
+use Rattle.sound_facts.proofs.Facts.{facts}
+use Rattle.sound_facts.proofs.Found.{lanes-search, lanes-sorted}
 use Rattle.report.specs.declared.Answer.{Answer}
 use Rattle.step.specs.Step.{Lent, refusing, step}
-use Rattle.relink.specs.Parts.{relinked, linking, unlinking, freeing, setting, Linkable}
+use Rattle.relink.specs.Parts.{linksWritten, linking, unlinking, freeing, setting, Linkable}
 use Rattle.edit.proofs.Steps.{spread}
 use Rattle.edit.proofs.Beside.{set-other-absent, set-itself}
 use Rattle.edit.proofs.Ready.{linkable, connect-ends, disconnect-ends, free-ends, set-ends}
@@ -45,26 +45,26 @@ module _ (tol : Tolerance) (l : Lent) (h : soundTables (l .counter) (l .tables) 
   module _ (b j : ℕ) (eb : placeOf 52 L b ≡ At j) (lanes modified warnings : List ℕ) (r : Answer) (linked : Bool) (f : linked ≡ has b (linksAt L i 35)) where
     pub connected : (a ≡ b → ⊥) → (gap : Bool)
         → gap ≡ E.gapped (tol .gap) (drawn (l .tables .coordinates) (l .tables .boundaries)) (laneOf (l .tables .coordinates) (laneAt L i)) (laneOf (l .tables .coordinates) (laneAt L j))
-        → relinked lanes modified warnings r ≡ linking L i j linked gap (l .modified) (l .warnings)
-        → spread l (relinked lanes modified warnings r) ≡ step tol (O.ConnectLanes a b) l
+        → linksWritten lanes modified warnings r ≡ linking L i j linked gap (l .modified) (l .warnings)
+        → spread l (linksWritten lanes modified warnings r) ≡ step tol (O.ConnectLanes a b) l
     connected ne gap g e =
         ap (spread l) e ∙ (rw (f, g) (sym (connect-ends tol l h k a b i j ea eb (ne-eqb a b ne))))
 
-    pub disconnected : relinked lanes modified warnings r ≡ unlinking L i j linked (l .modified) (l .warnings)
-        → spread l (relinked lanes modified warnings r) ≡ step tol (O.DisconnectLanes a b) l
+    pub disconnected : linksWritten lanes modified warnings r ≡ unlinking L i j linked (l .modified) (l .warnings)
+        → spread l (linksWritten lanes modified warnings r) ≡ step tol (O.DisconnectLanes a b) l
     disconnected e = ap (spread l) e ∙ (rw f (sym (disconnect-ends tol l h k a b i j ea eb)))
 
   -- ---- neighbours
 
   module _ (side : Side) (new : OptionNeighbor) where
     module _ (lanes modified warnings : List ℕ) (r : Answer) where
-      pub freed : new ≡ None → relinked lanes modified warnings r ≡ freeing L i side (l .modified) (l .warnings)
-          → spread l (relinked lanes modified warnings r) ≡ step tol (O.SetNeighbor a side new) l
+      pub freed : new ≡ None → linksWritten lanes modified warnings r ≡ freeing L i side (l .modified) (l .warnings)
+          → spread l (linksWritten lanes modified warnings r) ≡ step tol (O.SetNeighbor a side new) l
       freed n e = ap (spread l) e ∙ (rw n (sym (free-ends tol l h k a side i ea)))
 
       pub besides : (n : Neighbor) (j : ℕ) → new ≡ Some n → placeOf 52 L (n .lane) ≡ At j → (n .lane ≡ a → ⊥)
-          → relinked lanes modified warnings r ≡ setting L i side j (n .direction) (l .modified) (l .warnings)
-          → spread l (relinked lanes modified warnings r) ≡ step tol (O.SetNeighbor a side new) l
+          → linksWritten lanes modified warnings r ≡ setting L i side j (n .direction) (l .modified) (l .warnings)
+          → spread l (linksWritten lanes modified warnings r) ≡ step tol (O.SetNeighbor a side new) l
       besides n j f en ne e = ap (spread l) e ∙ (rw f (sym (set-ends tol l h k a side i ea n j en (ne-eqb (n .lane) a ne))))
 
     -- the neighbour's lane is absent, or the lane itself

@@ -20,7 +20,7 @@ use Rattle.lists.proofs.Select.{length-keep}
 use Rattle.entities.specs.Records.{Lane}
 use Rattle.rules.specs.Edit as E
 use Rattle.tables.specs.View.{word, idsAt, laneOf, rows}
-use Rattle.map.specs.Returned.{searchable, laneAt}
+use Rattle.row_tests.specs.Returned.{searchable, laneAt}
 use Rattle.topology.specs.Topology.{idAt, linksAt}
 use Rattle.topology.proofs.Table.{unique}
 use Rattle.topology.proofs.Links.{list-count}

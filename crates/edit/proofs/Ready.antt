@@ -20,21 +20,21 @@ use Rattle.rules.specs.Ops as O
 use Rattle.tables.specs.View.{Tables, word, idsAt, slotAt, laneOf, rows, view}
 use Rattle.tables.specs.Formed.{soundTables}
 use Rattle.store.specs.Store.{store, laneOnto, roomOf}
-use Rattle.map.specs.Returned.{laneAt}
+use Rattle.row_tests.specs.Returned.{laneAt}
 use Rattle.lookup.specs.Lookup.{placeOf, drawn}
 use Rattle.lookup.proofs.Laws.{place-within, place-id}
 use Rattle.topology.specs.Topology.{lanesChanged, idAt, linksAt, slotHeld}
 use Rattle.topology.proofs.Table.{row-words, lanes-changed, lanes-stay}
-use Rattle.map.proofs.Lanes.{lane-room, row-formed}
+use Rattle.row_tests.proofs.Lanes.{lane-room, row-formed}
 use Rattle.store.proofs.OtherRows.{lane-same}
 use Rattle.entities.specs.Types.{reciprocal-side}
-use Rattle.facts.proofs.Stored.{withLaneTable, store-relinked, onto-any}
-use Rattle.facts.proofs.Room.{room-relinked}
-use Rattle.facts.proofs.Facts.{Facts, facts}
+use Rattle.sound_facts.proofs.Stored.{withLaneTable, store-relinked, onto-any}
+use Rattle.sound_facts.proofs.Room.{room-relinked}
+use Rattle.sound_facts.proofs.Facts.{Facts, facts}
 use Rattle.step.specs.Step.{Lent, step}
 use Rattle.relink.specs.Parts.{Linkable, linkRoom, linking, unlinking, freeing, setting}
 use Rattle.edit.proofs.Steps.{spread}
-use Rattle.facts.proofs.Found.{sound-formed, links-by-rows}
+use Rattle.sound_facts.proofs.Found.{sound-formed, links-by-rows}
 use Rattle.edit.proofs.Fitting.{within, connect-room, disconnect-room, own-room}
 use Rattle.edit.proofs.Beside.{free-done, set-slot-done}
 use Rattle.edit.proofs.Connects.{connect-done, disconnect-done}

@@ -19,13 +19,13 @@ use Rattle.rules.specs.Ops as O
 use Rattle.tables.specs.View.{Tables, view}
 use Rattle.tables.specs.Formed.{formed, soundTables}
 use Rattle.store.specs.Store.{roomOf}
-use Rattle.facts.proofs.Stored.{withLaneTable}
-use Rattle.report.specs.Report.{listed, warned, counts, fits}
+use Rattle.sound_facts.proofs.Stored.{withLaneTable}
+use Rattle.report.specs.Report.{listed, warned, counts, reportFits}
 use Rattle.report.proofs.Laws.{listed-nil}
 use Rattle.report.specs.declared.Answer.the-variants.{Changed, Refused}
 use Rattle.step.specs.Step.{Lent, Ended, ended, step, stateOf, listsOf, refusing, writing, changing}
 use Rattle.step.proofs.Steps.{step-decided}
-use Rattle.relink.specs.Parts.{Relinked, relinked, relinking}
+use Rattle.relink.specs.Parts.{Relinked, linksWritten, writingLinks}
 
 -- what is lent, with what an edit of links and neighbours has written
 abbrev pub spread : Lent → Relinked → Ended
@@ -61,7 +61,7 @@ module _ (tol : Tolerance) (c : O.Command) (l : Lent) (h : soundTables (l .count
   decided = step-decided tol c l h (E.relinking m modified ws) e (le-leb (l .counter) lastCounter k)
 
   -- the lists of lanes and warnings alone take places
-  places : (n : ℕ) → length modified ≡ n → O.fitsLists (listsOf l) cs ≡ fits n (length ws) (l .modified) (l .warnings)
+  places : (n : ℕ) → length modified ≡ n → O.fitsLists (listsOf l) cs ≡ reportFits n (length ws) (l .modified) (l .warnings)
   places n q =
       rw (q, le-leb 0 (length (l .created) / 2) (omega arith), le-leb 0 (length (l .deleted) / 2) (omega arith)) (three (leb n (length (l .modified) / 2)))
     where
@@ -72,18 +72,18 @@ module _ (tol : Tolerance) (c : O.Command) (l : Lent) (h : soundTables (l .count
   -- what is written back, by the lane table as it becomes
   pub step-relinking : (ids : List ℕ) (after : List ℕ) (fit : Bool) → modified ≡ E.refs LaneKind ids → fitsRoom (roomOf (l .tables)) m ≡ fit
       → (fit ≡ true → writing c (l .tables) m ≡ withLaneTable after (l .tables))
-      → step tol c l ≡ spread l (relinking fit after ids ws (l .tables .lanes) (l .modified) (l .warnings))
-  unfolding relinking
+      → step tol c l ≡ spread l (writingLinks fit after ids ws (l .tables .lanes) (l .modified) (l .warnings))
+  unfolding writingLinks
   step-relinking ids after fit q f st =
       let n : length modified ≡ length ids = ap length q ∙ length-map ids (λ i. record { kind = LaneKind; id = i }) in
       decided ∙ (rw (f, places (length ids) n) (sides n))
     where
-      sides : length modified ≡ length ids → cond (fit && fits (length ids) (length ws) (l .modified) (l .warnings)) (changing c l (record { map = m; counter = l .counter }) cs none) (refusing l NoRoom)
-          ≡ spread l (cond (fit && fits (length ids) (length ws) (l .modified) (l .warnings)) (relinked after (listed (l .modified) (E.refs LaneKind ids)) (warned (l .warnings) ws) (Changed (record { created = 0; modified = length ids; deleted = 0; warnings = length ws }))) (relinked (l .tables .lanes) (l .modified) (l .warnings) (Refused NoRoom)))
-      sides n = by fit refl (fits (length ids) (length ws) (l .modified) (l .warnings))
+      sides : length modified ≡ length ids → cond (fit && reportFits (length ids) (length ws) (l .modified) (l .warnings)) (changing c l (record { map = m; counter = l .counter }) cs none) (refusing l NoRoom)
+          ≡ spread l (cond (fit && reportFits (length ids) (length ws) (l .modified) (l .warnings)) (linksWritten after (listed (l .modified) (E.refs LaneKind ids)) (warned (l .warnings) ws) (Changed (record { created = 0; modified = length ids; deleted = 0; warnings = length ws }))) (linksWritten (l .tables .lanes) (l .modified) (l .warnings) (Refused NoRoom)))
+      sides n = by fit refl (reportFits (length ids) (length ws) (l .modified) (l .warnings))
         where
           abbreviated : Bool → Relinked
-          abbreviated b = cond b (relinked after (listed (l .modified) (E.refs LaneKind ids)) (warned (l .warnings) ws) (Changed (record { created = 0; modified = length ids; deleted = 0; warnings = length ws }))) (relinked (l .tables .lanes) (l .modified) (l .warnings) (Refused NoRoom))
+          abbreviated b = cond b (linksWritten after (listed (l .modified) (E.refs LaneKind ids)) (warned (l .warnings) ws) (Changed (record { created = 0; modified = length ids; deleted = 0; warnings = length ws }))) (linksWritten (l .tables .lanes) (l .modified) (l .warnings) (Refused NoRoom))
 
           by : (x : Bool) → fit ≡ x → (b : Bool) → cond (x && b) (changing c l (record { map = m; counter = l .counter }) cs none) (refusing l NoRoom) ≡ spread l (abbreviated (x && b))
           by false x b = refl

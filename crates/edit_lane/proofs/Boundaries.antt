@@ -16,11 +16,11 @@ use Rattle.lists.proofs.Select.{has-keep, ascending-keep}
 use Rattle.laws.proofs.Links.{eqb-swap}
 use Rattle.tables.specs.View.{word}
 use Rattle.tables.specs.Formed.{counted}
-use Rattle.map.specs.Returned.{laneAt}
-use Rattle.map.proofs.Lanes.{word-at, id-at}
+use Rattle.row_tests.specs.Returned.{laneAt}
+use Rattle.row_tests.proofs.Lanes.{word-at, id-at}
 use Rattle.lookup.specs.Lookup.{sortedTable, placeOf, usedBesides}
 use Rattle.lists.proofs.Same.{ascending-same}
-use Rattle.edit_lane.specs.Parts.{Holds, lonely, ordered, chosen, goneWith}
+use Rattle.edit_lane.specs.Parts.{Holds, lonely, ordered, ownAlone, goneWith}
 use Rattle.edit_lane.specs.declared.Gone.{Gone}
 
 -- ---- a boundary of the table
@@ -105,12 +105,12 @@ module _ (l r : ℕ) where
   choice-has x false false true = single-has x r
   choice-has x false false false = refl
 
-  chosen-has : (f : ℕ → Bool) (x : ℕ) → has x (chosen l r (f l) (f r)) ≡ ((eqb l x || eqb r x) && f x)
+  chosen-has : (f : ℕ → Bool) (x : ℕ) → has x (ownAlone l r (f l) (f r)) ≡ ((eqb l x || eqb r x) && f x)
   chosen-has f x =
       choice-has x (f l && f r && not (eqb l r)) (f l) (f r)
       ∙ chosen-table (eqb l x) (eqb r x) (f l) (f r) (eqb l r) (f x) (λ e. ap f (sym (eqb-true l x e))) (λ e. ap f (sym (eqb-true r x e))) (λ e. ap (λ z. eqb z x) (eqb-true l r e))
 
-  chosen-up : (a b : Bool) → ascending (chosen l r a b) ≡ true
+  chosen-up : (a b : Bool) → ascending (ownAlone l r a b) ≡ true
   unfolding ascending above
   chosen-up a b = go (a && b) (eqb l r) refl (ltb l r) refl
     where
@@ -129,14 +129,14 @@ module _ (l r : ℕ) where
           less n g = omega arith
 
 pub gone-chosen : (lanes : List ℕ) (i : ℕ) (boundaries : List ℕ) → sortedTable 4096 5 boundaries ≡ true
-    → let w = laneAt lanes i in chosen (word 2 w) (word 4 w) (lonely lanes boundaries (word 0 w) (word 2 w)) (lonely lanes boundaries (word 0 w) (word 4 w)) ≡ goneWith lanes i boundaries
+    → let w = laneAt lanes i in ownAlone (word 2 w) (word 4 w) (lonely lanes boundaries (word 0 w) (word 2 w)) (lonely lanes boundaries (word 0 w) (word 4 w)) ≡ goneWith lanes i boundaries
 unfolding goneWith sortedTable
 gone-chosen lanes i boundaries s =
     let w = laneAt lanes i in
     let ks = keys 5 (word 0 boundaries) (drop 1 boundaries) in
     let f = lonely lanes boundaries (word 0 w) in
     let own : ℕ → Bool = λ b. (eqb (word 2 w) b || eqb (word 4 w) b) && not (usedBesides lanes b (word 0 w)) in
-    ascending-same (chosen (word 2 w) (word 4 w) (f (word 2 w)) (f (word 4 w))) (keep own ks) (chosen-up (word 2 w) (word 4 w) (f (word 2 w)) (f (word 4 w)))
+    ascending-same (ownAlone (word 2 w) (word 4 w) (f (word 2 w)) (f (word 4 w))) (keep own ks) (chosen-up (word 2 w) (word 4 w) (f (word 2 w)) (f (word 4 w)))
     (ascending-keep own ks (and-snd (counted 4096 5 boundaries) (ascending ks) s))
     (λ x. chosen-has (word 2 w) (word 4 w) f x ∙ (swap (eqb (word 2 w) x || eqb (word 4 w) x) (has x ks) (not (usedBesides lanes x (word 0 w))) ∙ sym (has-keep x own ks)))
   where
@@ -151,32 +151,32 @@ module _ (l r : ℕ) (a b x y : Bool) (f : x ≡ (a && b)) (g : y ≡ (x && not 
   both-chosen : (a && b && not (eqb l r)) ≡ y
   both-chosen = sym (g ∙ ap (λ z. z && not (eqb l r)) f)
 
-  pub two-chosen : (g : Gone) → y ≡ true → Holds g (ordered l r) → Holds g (chosen l r a b)
+  pub two-chosen : (g : Gone) → y ≡ true → Holds g (ordered l r) → Holds g (ownAlone l r a b)
   two-chosen g t e = rw (both-chosen ∙ t) e
 
-  pub left-chosen : (s : ℕ) → y ≡ false → a ≡ true → Holds (record { count = 1; first = l; second = s }) (chosen l r a b)
+  pub left-chosen : (s : ℕ) → y ≡ false → a ≡ true → Holds (record { count = 1; first = l; second = s }) (ownAlone l r a b)
   left-chosen s t e = rw (both-chosen ∙ t, e) (refl, refl)
 
-  pub right-chosen : (s : ℕ) → y ≡ false → a ≡ false → b ≡ true → Holds (record { count = 1; first = r; second = s }) (chosen l r a b)
+  pub right-chosen : (s : ℕ) → y ≡ false → a ≡ false → b ≡ true → Holds (record { count = 1; first = r; second = s }) (ownAlone l r a b)
   right-chosen s t e h = rw (both-chosen ∙ t, e, h) (refl, refl)
 
-  pub none-chosen : (p q : ℕ) → y ≡ false → a ≡ false → b ≡ false → Holds (record { count = 0; first = p; second = q }) (chosen l r a b)
+  pub none-chosen : (p q : ℕ) → y ≡ false → a ≡ false → b ≡ false → Holds (record { count = 0; first = p; second = q }) (ownAlone l r a b)
   none-chosen p q t e h = rw (both-chosen ∙ t, e, h) (refl, refl)
 
 -- the same, as the row's words are read
 pub own-gone : (lanes : List ℕ) (i : ℕ) (boundaries : List ℕ) (n : Gone) (a b : Bool) → sortedTable 4096 5 boundaries ≡ true
     → a ≡ lonely lanes boundaries (getD lanes (1 + i * 52) 0) (getD lanes (1 + i * 52 + 2) 0)
     → b ≡ lonely lanes boundaries (getD lanes (1 + i * 52) 0) (getD lanes (1 + i * 52 + 4) 0)
-    → Holds n (chosen (getD lanes (1 + i * 52 + 2) 0) (getD lanes (1 + i * 52 + 4) 0) a b) → Holds n (goneWith lanes i boundaries)
+    → Holds n (ownAlone (getD lanes (1 + i * 52 + 2) 0) (getD lanes (1 + i * 52 + 4) 0) a b) → Holds n (goneWith lanes i boundaries)
 own-gone lanes i boundaries n a b s e f g =
     let l = word-at lanes i 2 (omega arith) in
     let r = word-at lanes i 4 (omega arith) in
     let o = id-at lanes i in
     let x : a ≡ lonely lanes boundaries (word 0 (laneAt lanes i)) (word 2 (laneAt lanes i)) = e ∙ (ap (λ z. lonely lanes boundaries z (getD lanes (1 + i * 52 + 2) 0)) o ∙ ap (lonely lanes boundaries (word 0 (laneAt lanes i))) l) in
     let y : b ≡ lonely lanes boundaries (word 0 (laneAt lanes i)) (word 4 (laneAt lanes i)) = f ∙ (ap (λ z. lonely lanes boundaries z (getD lanes (1 + i * 52 + 4) 0)) o ∙ ap (lonely lanes boundaries (word 0 (laneAt lanes i))) r) in
-    let same : chosen (getD lanes (1 + i * 52 + 2) 0) (getD lanes (1 + i * 52 + 4) 0) a b ≡ goneWith lanes i boundaries =
-    ap (λ z. chosen z (getD lanes (1 + i * 52 + 4) 0) a b) l
-    ∙ (ap (λ z. chosen (word 2 (laneAt lanes i)) z a b) r
-    ∙ (ap (λ z. chosen (word 2 (laneAt lanes i)) (word 4 (laneAt lanes i)) z b) x
-    ∙ (ap (chosen (word 2 (laneAt lanes i)) (word 4 (laneAt lanes i)) (lonely lanes boundaries (word 0 (laneAt lanes i)) (word 2 (laneAt lanes i)))) y ∙ gone-chosen lanes i boundaries s))) in
+    let same : ownAlone (getD lanes (1 + i * 52 + 2) 0) (getD lanes (1 + i * 52 + 4) 0) a b ≡ goneWith lanes i boundaries =
+    ap (λ z. ownAlone z (getD lanes (1 + i * 52 + 4) 0) a b) l
+    ∙ (ap (λ z. ownAlone (word 2 (laneAt lanes i)) z a b) r
+    ∙ (ap (λ z. ownAlone (word 2 (laneAt lanes i)) (word 4 (laneAt lanes i)) z b) x
+    ∙ (ap (ownAlone (word 2 (laneAt lanes i)) (word 4 (laneAt lanes i)) (lonely lanes boundaries (word 0 (laneAt lanes i)) (word 2 (laneAt lanes i)))) y ∙ gone-chosen lanes i boundaries s))) in
     (g .0 ∙ same, g .1 ∙ ap length same)

@@ -12,17 +12,17 @@ use Rattle.rules.specs.Sound.{lastCounter}
 use Rattle.rules.specs.Ops as O
 use Rattle.tables.specs.View.{Tables, word, view, laneOf}
 use Rattle.tables.specs.Formed.{soundTables, counted, laneFormed, ruleFormed}
-use Rattle.map.specs.Good.{allRows}
-use Rattle.map.specs.Returned.{laneAt}
+use Rattle.row_tests.specs.Good.{allRows}
+use Rattle.row_tests.specs.Returned.{laneAt}
 use Rattle.soundness.proofs.Back.{formed-parts}
 use Rattle.lookup.specs.Lookup.{placeOf}
 use Rattle.laws.proofs.Links.{lane-id}
-use Rattle.facts.proofs.Stored.{formed-counts, lane-key}
-use Rattle.facts.proofs.Facts.{facts}
+use Rattle.sound_facts.proofs.Stored.{formed-counts, lane-key}
+use Rattle.sound_facts.proofs.Facts.{facts}
 use Rattle.step.specs.Step.{Lent, Ended, ended, step, refusing}
-use Rattle.facts.proofs.Found.{sound-formed, lane-there, lane-missing, lanes-sorted, leads-may}
-use Rattle.naming.specs.declared.Rows.the-variants.{Lanes, Roads, Junctions, Rules}
-use Rattle.naming.specs.Naming.{tableFormed}
+use Rattle.sound_facts.proofs.Found.{sound-formed, lane-there, lane-missing, lanes-sorted, leads-may}
+use Rattle.mentions.specs.declared.Rows.the-variants.{Lanes, Roads, Junctions, Rules}
+use Rattle.mentions.specs.Naming.{tableFormed}
 use Rattle.edit_lane.specs.Parts.{Formed, Removable, Removed, goneWith, without-lane}
 use Rattle.edit_lane.proofs.Steps.{lane-absent, step-removed, spread, given}
 

@@ -11,15 +11,15 @@ use Rattle.lists.proofs.Booleans.{and-fst, and-snd}
 use Rattle.rules.specs.Names.{EntityRef, LaneKind, BoundaryKind, NoRoom}
 use Rattle.rules.specs.Edit.{refs}
 use Rattle.tables.specs.View.{word}
-use Rattle.map.specs.Returned.{laneAt}
-use Rattle.map.proofs.Lanes.{id-at}
+use Rattle.row_tests.specs.Returned.{laneAt}
+use Rattle.row_tests.proofs.Lanes.{id-at}
 use Rattle.report.specs.Report.{listed, warned, orphanRule}
 use Rattle.report.specs.declared.Answer.the-variants.{Changed, Refused}
 use Rattle.report.proofs.Warnings.{room}
-use Rattle.naming.specs.declared.Rows.the-variants.{Rules, Orphans}
-use Rattle.naming.specs.Naming.{tableFormed, naming}
+use Rattle.mentions.specs.declared.Rows.the-variants.{Rules, Orphans}
+use Rattle.mentions.specs.Naming.{tableFormed, naming}
 use Rattle.edit_lane.specs.declared.Gone.{Gone}
-use Rattle.edit_lane.specs.Parts.{Holds, goneIds, goneWith, touched, leaving, fits, Left, leftTables, Removed, removed, without-lane}
+use Rattle.edit_lane.specs.Parts.{Holds, goneIds, goneWith, touched, leaving, listsFit, Left, leftTables, Removed, removed, without-lane}
 
 pub orphans-formed : (t : List ℕ) → tableFormed Rules t ≡ true → tableFormed Orphans t ≡ true
 unfolding tableFormed
@@ -48,7 +48,7 @@ module _ (a : ℕ) (t : Left) (m d w : List ℕ) (g : Gone) (ids : List ℕ) (h 
   warn-count : orphans ≡ length (map orphanRule (naming Orphans a (t .rules)))
   warn-count = warned-of ∙ sym (length-map (naming Orphans a (t .rules)) orphanRule)
 
-  module _ (fit : fits named (g .count + 1) orphans m d w ≡ true) where
+  module _ (fit : listsFit named (g .count + 1) orphans m d w ≡ true) where
     abbrev p : Bool
     p = leb named (length m / 2)
 
@@ -66,17 +66,17 @@ module _ (a : ℕ) (t : Left) (m d w : List ℕ) (g : Gone) (ids : List ℕ) (h 
     pub warn-room : length (naming Orphans a (t .rules)) * 10 ≤ length w
     warn-room = let r = room orphans (length w) 10 (and-snd (p && q) (leb orphans (length w / 10)) fit) in omega (arith, r, warned-of)
 
-  same-fits : fits (length (touched a (t .lanes) (t .roads) (t .junctions) (t .rules))) (length (leaving a ids)) (length (map orphanRule (naming Orphans a (t .rules)))) m d w ≡ fits named (g .count + 1) orphans m d w
+  same-fits : listsFit (length (touched a (t .lanes) (t .roads) (t .junctions) (t .rules))) (length (leaving a ids)) (length (map orphanRule (naming Orphans a (t .rules)))) m d w ≡ listsFit named (g .count + 1) orphans m d w
   same-fits = three counted gone-count warn-count
     where
-      three : {x y z u v k : ℕ} → x ≡ u → y ≡ v → z ≡ k → fits u v k m d w ≡ fits x y z m d w
+      three : {x y z u v k : ℕ} → x ≡ u → y ≡ v → z ≡ k → listsFit u v k m d w ≡ listsFit x y z m d w
       three e f i = rw (e, f, i)
 
-  pub refused-removal : fits named (g .count + 1) orphans m d w ≡ false → removed t m d w (Refused NoRoom) ≡ without-lane a ids t m d w
+  pub refused-removal : listsFit named (g .count + 1) orphans m d w ≡ false → removed t m d w (Refused NoRoom) ≡ without-lane a ids t m d w
   unfolding without-lane
   refused-removal fit = rw (same-fits ∙ fit)
 
-  pub done-removal : fits named (g .count + 1) orphans m d w ≡ true → (u : Left) (m' d' w' : List ℕ) → u ≡ leftTables a (goneIds g) t
+  pub done-removal : listsFit named (g .count + 1) orphans m d w ≡ true → (u : Left) (m' d' w' : List ℕ) → u ≡ leftTables a (goneIds g) t
       → m' ≡ listed m (touched a (t .lanes) (t .roads) (t .junctions) (t .rules)) → d' ≡ listed d (leaving a (goneIds g)) → w' ≡ warned w (map orphanRule (naming Orphans a (t .rules)))
       → removed u m' d' w' (Changed (record { created = 0; modified = named; deleted = g .count + 1; warnings = orphans })) ≡ without-lane a ids t m d w
   unfolding without-lane

@@ -18,10 +18,10 @@ use Rattle.rules.specs.Edit.{refs, when}
 use Rattle.tables.specs.View.{word}
 use Rattle.report.specs.Report.{entityWords, listed}
 use Rattle.report.proofs.Laws.{listed-nil}
-use Rattle.naming.specs.declared.Rows.{Rows}
-use Rattle.naming.specs.declared.Rows.the-variants.{Lanes, Roads, Junctions, Rules}
-use Rattle.naming.specs.Naming.{tableFormed, naming}
-use Rattle.naming.proofs.Turns.{formed-few, named-few, named-all}
+use Rattle.mentions.specs.declared.Rows.{Rows}
+use Rattle.mentions.specs.declared.Rows.the-variants.{Lanes, Roads, Junctions, Rules}
+use Rattle.mentions.specs.Naming.{tableFormed, naming}
+use Rattle.mentions.proofs.Turns.{formed-few, named-few, named-all}
 use Rattle.edit_lane.specs.Parts.{Formed, leaving, touched}
 
 -- ---- general

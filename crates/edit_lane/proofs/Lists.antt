@@ -18,15 +18,15 @@ use Rattle.rules.specs.Map.{names, uses}
 use Rattle.rules.specs.Edit.{refs}
 use Rattle.rules.specs.Lane.{mentions, ruleNamesLane, unused, orphan, orphaned}
 use Rattle.tables.specs.View.{Tables, word, idsAt, idsWhere, slotAt, rows, view, laneOf, boundaryOf, roadOf, junctionOf, ruleOf}
-use Rattle.map.specs.Returned.{laneAt}
+use Rattle.row_tests.specs.Returned.{laneAt}
 use Rattle.lookup.specs.Lookup.{usedBesides}
 use Rattle.lookup.proofs.Laws.{besides-lanes}
 use Rattle.store.proofs.Packing.{rows-mapped}
 use Rattle.report.specs.Report.{orphanRule}
 use Rattle.laws.proofs.RemoveExact.{removal}
-use Rattle.naming.specs.declared.Rows.{Rows}
-use Rattle.naming.specs.declared.Rows.the-variants.{Lanes, Roads, Junctions, Rules, Orphans}
-use Rattle.naming.specs.Naming.{slotNames, laneNames, ruleNames, namesLane, naming, rowWords}
+use Rattle.mentions.specs.declared.Rows.{Rows}
+use Rattle.mentions.specs.declared.Rows.the-variants.{Lanes, Roads, Junctions, Rules, Orphans}
+use Rattle.mentions.specs.Naming.{slotNames, laneRowNames, ruleRowNames, namesLane, naming, rowWords}
 use Rattle.edit_lane.specs.Parts.{goneWith, touched, leaving}
 
 -- ---- general
@@ -53,7 +53,7 @@ lane-named : (a : ℕ) (c : List Float) (w : List ℕ) → (not (eqb (laneOf c w
 unfolding laneOf namesLane
 lane-named a c w = ap (λ b. not (eqb (word 0 w) a) && b) (rw (slot-named a 14 w, slot-named a 16 w))
 
-rule-named : (a : ℕ) (w : List ℕ) → ruleNamesLane a (ruleOf w) ≡ ruleNames a w
+rule-named : (a : ℕ) (w : List ℕ) → ruleNamesLane a (ruleOf w) ≡ ruleRowNames a w
 unfolding ruleOf has any
 rule-named a w = go (eqb (word 1 w) 3) (has a (idsAt 5 w))
   where

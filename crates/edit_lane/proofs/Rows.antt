@@ -27,7 +27,7 @@ use Rattle.store.proofs.Marks.{LaneMarks, lane-marks}
 use Rattle.store.proofs.LaneRow.{LaneRow, lane-row, list-written}
 use Rattle.store.proofs.OtherRows.{words, words-front, part-front, part-last, ids-same, or-same, RuleCounts, rule-counts}
 use Rattle.store.proofs.Back.{onto-length, lane-formed, lane-length}
-use Rattle.naming.specs.Naming.{slotNames, freeAt, forgetAt, laneForgets, ruleForgets}
+use Rattle.mentions.specs.Naming.{slotNames, freeAt, forgetAt, laneForgets, ruleForgets}
 
 pub few-without : (a m : ℕ) (ids : List ℕ) → length ids ≤ m → length (without a ids) ≤ m
 few-without a m ids h = omega (arith, length-without a ids)

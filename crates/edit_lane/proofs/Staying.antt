@@ -17,15 +17,15 @@ use Rattle.lists.proofs.Rows.{length-reads, over-itself}
 use Rattle.lists.proofs.Select.{keep-all}
 use Rattle.tables.specs.View.{word, rows}
 use Rattle.tables.specs.Formed.{counted, laneFormed}
-use Rattle.map.specs.Good.{allRows}
-use Rattle.map.proofs.Tables.{table-few, table-room}
+use Rattle.row_tests.specs.Good.{allRows}
+use Rattle.row_tests.proofs.Tables.{table-few, table-room}
 use Rattle.lookup.specs.Lookup.{sortedTable}
 use Rattle.lookup.proofs.Laws.{sorted-room}
 use Rattle.store.specs.Rows.{stays, keptRows}
 use Rattle.store.proofs.Whole.{joined-rows}
 use Rattle.store.proofs.Packing.{kept-count, kept-length, kept-passing}
-use Rattle.naming.specs.declared.Rows.the-variants.{Lanes}
-use Rattle.naming.specs.Naming.{tableFormed}
+use Rattle.mentions.specs.declared.Rows.the-variants.{Lanes}
+use Rattle.mentions.specs.Naming.{tableFormed}
 use Rattle.edit_lane.specs.Parts.{tables}
 use Rattle.edit_lane.proofs.Tables.{kept-alike}
 

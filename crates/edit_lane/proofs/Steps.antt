@@ -19,12 +19,12 @@ use Rattle.rules.specs.Ops as O
 use Rattle.rules.proofs.Facts.{sound-facts}
 use Rattle.tables.specs.View.{Tables, word, view, laneOf, boundaryOf}
 use Rattle.tables.specs.Formed.{soundTables}
-use Rattle.map.specs.Returned.{laneAt}
-use Rattle.map.proofs.Tables.{table-room}
+use Rattle.row_tests.specs.Returned.{laneAt}
+use Rattle.row_tests.proofs.Tables.{table-room}
 use Rattle.soundness.proofs.Whole.{rows-count}
 use Rattle.store.specs.Store.{store, roomOf}
-use Rattle.facts.proofs.Stored.{formed-counts}
-use Rattle.facts.proofs.Room.{points-room}
+use Rattle.sound_facts.proofs.Stored.{formed-counts}
+use Rattle.sound_facts.proofs.Room.{points-room}
 use Rattle.laws.proofs.Remove.{removed, remove-limits, remove-fewer}
 use Rattle.laws.proofs.RemoveExact.{removal}
 use Rattle.laws.proofs.RemoveLawful.{removing, remove-yields}
@@ -34,9 +34,9 @@ use Rattle.report.specs.declared.Answer.the-variants.{Changed, Refused}
 use Rattle.step.specs.Step.{Lent, Ended, ended, step, stateOf, listsOf, refusing, changing}
 use Rattle.step.proofs.Steps.{step-refused, step-decided}
 use Rattle.report.proofs.Laws.{listed-nil}
-use Rattle.facts.proofs.Found.{sound-map, sound-formed}
-use Rattle.naming.specs.declared.Rows.the-variants.{Orphans}
-use Rattle.naming.specs.Naming.{naming}
+use Rattle.sound_facts.proofs.Found.{sound-map, sound-formed}
+use Rattle.mentions.specs.declared.Rows.the-variants.{Orphans}
+use Rattle.mentions.specs.Naming.{naming}
 use Rattle.edit_lane.specs.Parts as P
 use Rattle.edit_lane.proofs.Lists.{modified-read, deleted-read, warnings-read}
 use Rattle.edit_lane.proofs.Tables.{tables-left}
@@ -136,7 +136,7 @@ module _ (tol : Tolerance) (l : Lent) (h : soundTables (l .counter) (l .tables) 
     abbrev w : List Issue
     w = map orphanRule (naming Orphans a (l .tables .rules))
 
-    places : O.fitsLists (listsOf l) cs ≡ P.fits (length m) (length d) (length w) (l .modified) (l .deleted) (l .warnings)
+    places : O.fitsLists (listsOf l) cs ≡ P.listsFit (length m) (length d) (length w) (l .modified) (l .deleted) (l .warnings)
     places =
         ap (λ z. z && leb (length (cs .modified)) (length (l .modified) / 2) && leb (length (cs .deleted)) (length (l .deleted) / 2) && leb (length (cs .warnings)) (length (l .warnings) / 10))
         (le-leb 0 (length (l .created) / 2) (omega arith))
@@ -149,7 +149,7 @@ module _ (tol : Tolerance) (l : Lent) (h : soundTables (l .counter) (l .tables) 
 
     pub step-removed : spread l (P.without-lane a boundaries (given (l .tables)) (l .modified) (l .deleted) (l .warnings)) ≡ step tol (O.RemoveLane a) l
     unfolding P.without-lane
-    step-removed = sym (decided ∙ (ap (λ b. cond b (changing (O.RemoveLane a) l after cs none) (refusing l NoRoom)) places ∙ sides (P.fits (length m) (length d) (length w) (l .modified) (l .deleted) (l .warnings))))
+    step-removed = sym (decided ∙ (ap (λ b. cond b (changing (O.RemoveLane a) l after cs none) (refusing l NoRoom)) places ∙ sides (P.listsFit (length m) (length d) (length w) (l .modified) (l .deleted) (l .warnings))))
       where
         end : Bool → P.Removed
         end b =

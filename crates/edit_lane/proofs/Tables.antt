@@ -18,8 +18,8 @@ use Rattle.entities.specs.Records.{Lane, Map}
 use Rattle.rules.specs.Lane.{forgetting, roadLanes, junctionLanes, ruleLanes}
 use Rattle.tables.specs.View.{Tables, word, rows, view, laneOf, roadOf, junctionOf, ruleOf}
 use Rattle.tables.specs.Formed.{formed, laneFormed, ruleFormed}
-use Rattle.map.specs.Good.{allRows}
-use Rattle.map.specs.Returned.{laneAt}
+use Rattle.row_tests.specs.Good.{allRows}
+use Rattle.row_tests.specs.Returned.{laneAt}
 use Rattle.soundness.proofs.Back.{formed-parts}
 use Rattle.lookup.specs.Lookup.{usedBesides}
 use Rattle.store.specs.Store.{laneOnto, roadOnto, junctionOnto, ruleOnto, store}
@@ -27,12 +27,12 @@ use Rattle.store.specs.Rows.{mapRows, onRows, stays, keptRows}
 use Rattle.store.proofs.Rows.{passing}
 use Rattle.store.proofs.Whole.{all-keyed}
 use Rattle.store.proofs.Packing.{kept-passing, kept-room}
-use Rattle.facts.proofs.Stored.{formed-counts, rows-room, five-same}
-use Rattle.facts.proofs.Thinned.{thinned, thinnedTables, Keeping, store-thinned}
+use Rattle.sound_facts.proofs.Stored.{formed-counts, rows-room, five-same}
+use Rattle.sound_facts.proofs.Thinned.{thinned, thinnedTables, Keeping, store-thinned}
 use Rattle.laws.proofs.KeptRows.{keep-on}
 use Rattle.laws.proofs.Remove.{removed}
-use Rattle.naming.specs.declared.Rows.the-variants.{Lanes, Roads, Junctions, Rules}
-use Rattle.naming.specs.Naming.{forgets}
+use Rattle.mentions.specs.declared.Rows.the-variants.{Lanes, Roads, Junctions, Rules}
+use Rattle.mentions.specs.Naming.{forgets}
 use Rattle.edit_lane.specs.Parts.{goneWith}
 use Rattle.edit_lane.proofs.Rows.{lane-forgets, road-forgets, junction-forgets, rule-forgets}
 use Rattle.edit_lane.proofs.Lists.{goes, goes-alone}

@@ -13,12 +13,12 @@ use Rattle.entities.specs.Records.{Issue}
 use Rattle.rules.specs.Edit.{when}
 use Rattle.store.specs.Store.{writes}
 use Rattle.tables.specs.View.{word}
-use Rattle.map.proofs.Tables.{rowOf}
+use Rattle.row_tests.proofs.Tables.{rowOf}
 use Rattle.report.specs.Report.{issueOnto, warned, warnedAt, orphanRule}
 use Rattle.report.proofs.Warnings.{none-put}
-use Rattle.naming.specs.declared.Rows.the-variants.{Orphans}
-use Rattle.naming.specs.Naming.{namesLane, naming}
-use Rattle.naming.proofs.Turns.{namedOf, named-none, named-all, named-more, named-count, named-within}
+use Rattle.mentions.specs.declared.Rows.the-variants.{Orphans}
+use Rattle.mentions.specs.Naming.{namesLane, naming}
+use Rattle.mentions.proofs.Turns.{namedOf, named-none, named-all, named-more, named-count, named-within}
 
 -- ---- one warning, or none
 

@@ -10,15 +10,15 @@ use Rattle.lists.specs.Select.{keep, has}
 use Rattle.rules.specs.Names.{EntityRef, LaneKind, BoundaryKind, RoadKind, JunctionKind, RuleKind, NoRoom}
 use Rattle.rules.specs.Edit.{refs}
 use Rattle.tables.specs.View.{word}
-use Rattle.map.specs.Returned.{laneAt}
+use Rattle.row_tests.specs.Returned.{laneAt}
 use Rattle.lookup.specs.Lookup.{sortedTable, usedBesides}
 use Rattle.store.specs.Rows.{stays, keptRows, onRows}
 use Rattle.report.specs.Report.{listed, warned, orphanRule}
 use Rattle.report.specs.declared.Answer.{Answer}
 use Rattle.report.specs.declared.Answer.the-variants.{Changed, Refused}
 use Rattle.edit_lane.specs.declared.Gone.{Gone}
-use Rattle.naming.specs.declared.Rows.the-variants.{Lanes, Roads, Junctions, Rules, Orphans}
-use Rattle.naming.specs.Naming.{tableFormed, naming, forgets}
+use Rattle.mentions.specs.declared.Rows.the-variants.{Lanes, Roads, Junctions, Rules, Orphans}
+use Rattle.mentions.specs.Naming.{tableFormed, naming, forgets}
 use Rattle.tables.specs.Columns.{boundaryWords, junctionWords, laneLeft, laneRight, laneWords, roadWords, rowCount, rowId, ruleWords}
 use Rattle.rules.specs.Limits.{maxBoundaries, maxLanes}
 
@@ -52,8 +52,8 @@ abbrev pub ordered : ℕ → ℕ → List ℕ
 ordered a b = cond (ltb a b) (a ∷ b ∷ []) (b ∷ a ∷ [])
 
 -- of a left and a right boundary those that are the lane's own alone, once each
-abbrev pub chosen : ℕ → ℕ → Bool → Bool → List ℕ
-chosen left right a b = cond (a && b && not (eqb left right)) (ordered left right) (cond a (left ∷ []) (cond b (right ∷ []) []))
+abbrev pub ownAlone : ℕ → ℕ → Bool → Bool → List ℕ
+ownAlone left right a b = cond (a && b && not (eqb left right)) (ordered left right) (cond a (left ∷ []) (cond b (right ∷ []) []))
 
 -- a boundary of the table that no lane but one uses
 abbrev pub lonely : List ℕ → List ℕ → ℕ → ℕ → Bool
@@ -77,8 +77,8 @@ abbrev pub leaving : ℕ → List ℕ → List EntityRef
 leaving a gone = refs LaneKind (a ∷ []) ++ refs BoundaryKind gone
 
 -- the lists have places for so many modified, deleted and warnings
-abbrev pub fits : ℕ → ℕ → ℕ → List ℕ → List ℕ → List ℕ → Bool
-fits m d w modified deleted warnings = leb m (length modified / 2) && leb d (length deleted / 2) && leb w (length warnings / 10)
+abbrev pub listsFit : ℕ → ℕ → ℕ → List ℕ → List ℕ → List ℕ → Bool
+listsFit m d w modified deleted warnings = leb m (length modified / 2) && leb d (length deleted / 2) && leb w (length warnings / 10)
 
 -- ---- the whole
 
@@ -120,6 +120,6 @@ without-lane a gone t modified deleted warnings =
     let m = touched a (t .lanes) (t .roads) (t .junctions) (t .rules) in
     let d = leaving a gone in
     let w = map orphanRule (naming Orphans a (t .rules)) in
-    cond (fits (length m) (length d) (length w) modified deleted warnings)
+    cond (listsFit (length m) (length d) (length w) modified deleted warnings)
     (removed (leftTables a gone t) (listed modified m) (listed deleted d) (warned warnings w) (Changed (record { created = 0; modified = length m; deleted = length d; warnings = length w })))
     (removed t modified deleted warnings (Refused NoRoom))

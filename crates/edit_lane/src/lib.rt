@@ -9,20 +9,20 @@ ghost use Rattle.rules.specs.Edit.{when};
 ghost use Rattle.rules.specs.Ops as O;
 ghost use Rattle.tables.specs.View.{word};
 ghost use Rattle.tables.specs.Formed.{soundTables};
-ghost use Rattle.map.specs.Returned.{laneAt};
+ghost use Rattle.row_tests.specs.Returned.{laneAt};
 ghost use Rattle.lookup.specs.Lookup.{sortedTable};
 ghost use Rattle.store.specs.Rows.{stays, keptRows, onRows};
 ghost use Rattle.report.specs.Report.{listed, warned, warnedAt, orphanRule};
 ghost use Rattle.step.specs.Step as S;
-ghost use Rattle.naming.specs.declared.Rows.the-variants.{Lanes, Roads, Junctions, Rules, Orphans};
-ghost use Rattle.naming.specs.Naming as N;
+ghost use Rattle.mentions.specs.declared.Rows.the-variants.{Lanes, Roads, Junctions, Rules, Orphans};
+ghost use Rattle.mentions.specs.Naming as N;
 ghost use Rattle.edit_lane.specs.Parts as P;
 use entities::EntityKind;
 use entities::Refusal;
 use entities::Tolerance;
 use lists::Found;
 use lists::both;
-use naming::Rows;
+use mentions::Rows;
 use report::Answer;
 use report::Counts;
 use report::ENTITY;
@@ -74,7 +74,7 @@ fn pair(a: u64, b: u64) -> Gone
 
 // Which of a lane's two boundaries go with it, where one or the other or both are its own alone.
 fn chosen(left: u64, right: u64, a: bool, b: bool) -> Gone
-    ensures { λ r. ⌜ P.Holds r (P.chosen left right a b) ⌝ }
+    ensures { λ r. ⌜ P.Holds r (P.ownAlone left right a b) ⌝ }
 {
     if both(both(a, b), left != right) {
         return pair(left, right);
@@ -123,9 +123,9 @@ fn list_gone(lane: u64, gone: Gone, deleted: &mut [u64])
 {
     let boundary = EntityKind::Boundary.number();
     let n = gone.count;
-    let one = naming::put_where(true, EntityKind::Lane.number(), lane, deleted, 0);
-    let two = naming::put_where(0 < n, boundary, gone.first, deleted, one);
-    naming::put_where(1 < n, boundary, gone.second, deleted, two);
+    let one = mentions::put_where(true, EntityKind::Lane.number(), lane, deleted, 0);
+    let two = mentions::put_where(0 < n, boundary, gone.first, deleted, one);
+    mentions::put_where(1 < n, boundary, gone.second, deleted, two);
 }
 
 // How many lanes, roads, junctions and rules name a lane.
@@ -133,10 +133,10 @@ fn count_named(lanes: &[u64], roads: &[u64], junctions: &[u64], rules: &[u64], l
     requires { ⌜ P.Formed (now lanes) (now roads) (now junctions) (now rules) ⌝ }
     ensures { λ r. ⌜ r ≡ length (P.touched lane (now (lanes .entry)) (now (roads .entry)) (now (junctions .entry)) (now (rules .entry))) ⌝ }
 {
-    let a = naming::count(lanes, Rows::Lanes, lane);
-    let b = naming::count(roads, Rows::Roads, lane);
-    let c = naming::count(junctions, Rows::Junctions, lane);
-    let d = naming::count(rules, Rows::Rules, lane);
+    let a = mentions::count(lanes, Rows::Lanes, lane);
+    let b = mentions::count(roads, Rows::Roads, lane);
+    let c = mentions::count(junctions, Rows::Junctions, lane);
+    let d = mentions::count(rules, Rows::Rules, lane);
     a + b + c + d
 }
 
@@ -152,10 +152,10 @@ fn list_named(
     requires { ⌜ P.Formed (now lanes) (now roads) (now junctions) (now rules) × (length (P.touched lane (now lanes) (now roads) (now junctions) (now rules)) * 2 ≤ length (now modified)) ⌝ }
     ensures { λ _. ⌜ now (modified .exit) ≡ listed (now (modified .entry)) (P.touched lane (now (lanes .entry)) (now (roads .entry)) (now (junctions .entry)) (now (rules .entry))) ⌝ }
 {
-    let a = naming::list(lanes, Rows::Lanes, lane, modified, 0);
-    let b = naming::list(roads, Rows::Roads, lane, modified, a);
-    let c = naming::list(junctions, Rows::Junctions, lane, modified, b);
-    naming::list(rules, Rows::Rules, lane, modified, c);
+    let a = mentions::list(lanes, Rows::Lanes, lane, modified, 0);
+    let b = mentions::list(roads, Rows::Roads, lane, modified, a);
+    let c = mentions::list(junctions, Rows::Junctions, lane, modified, b);
+    mentions::list(rules, Rows::Rules, lane, modified, c);
 }
 
 // The warning of a rule in row `at`, or none; the row behind.
@@ -181,7 +181,7 @@ fn warn(rules: &[u64], lane: u64, warnings: &mut [u64])
     while i < n {
         let row = 1 + i * RULE;
         let end = row + RULE;
-        let on = naming::names_lane(&rules[row..end], Rows::Orphans, lane);
+        let on = mentions::names_lane(&rules[row..end], Rows::Orphans, lane);
         place = warn_where(on, rules[row], warnings, place);
         i += 1;
     }
@@ -211,7 +211,7 @@ fn drop_lane(lanes: &mut [u64], lane: u64)
     ensures { λ _. ⌜ now (lanes .exit) ≡ onRows 52 (N.forgets Lanes lane) (keptRows 52 (stays lane lane) (now (lanes .entry))) ⌝ }
 {
     store::keep_rows(lanes, LANE, lane, lane);
-    naming::forget(lanes, Rows::Lanes, lane);
+    mentions::forget(lanes, Rows::Lanes, lane);
 }
 
 // The five tables without the lane.
@@ -229,9 +229,9 @@ fn write(
 {
     drop_lane(lanes, lane);
     keep_boundaries(boundaries, gone);
-    naming::forget(roads, Rows::Roads, lane);
-    naming::forget(junctions, Rows::Junctions, lane);
-    naming::forget(rules, Rows::Rules, lane);
+    mentions::forget(roads, Rows::Roads, lane);
+    mentions::forget(junctions, Rows::Junctions, lane);
+    mentions::forget(rules, Rows::Rules, lane);
 }
 
 // ---- the edit
@@ -245,7 +245,7 @@ fn fits(
     deleted: &[u64],
     warnings: &[u64],
 ) -> bool
-    ensures { λ r. ⌜ r ≡ P.fits named gone orphans (now (modified .entry)) (now (deleted .entry)) (now (warnings .entry)) ⌝ }
+    ensures { λ r. ⌜ r ≡ P.listsFit named gone orphans (now (modified .entry)) (now (deleted .entry)) (now (warnings .entry)) ⌝ }
 {
     both(
         both(
@@ -275,7 +275,7 @@ fn remove(
     let own = own_boundaries(lanes, i, boundaries);
     let n = own.count + 1;
     let named = count_named(lanes, roads, junctions, rules, lane);
-    let orphans = naming::count(rules, Rows::Orphans, lane);
+    let orphans = mentions::count(rules, Rows::Orphans, lane);
     if fits(named, n, orphans, modified, deleted, warnings) {
         list_named(lanes, roads, junctions, rules, lane, modified);
         list_gone(lane, own, deleted);

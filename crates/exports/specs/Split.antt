@@ -9,5 +9,5 @@ use Rattle.geometry.specs.declared.Point3.{Point3}
 use Rattle.polyline.specs.Polyline.{firstPiece, secondPiece}
 
 -- `n` floats have room for both pieces.
-unfoldable pub room : List Point3 → Float → ℕ → Bool
-room ps station n = leb ((length (firstPiece ps station) + length (secondPiece ps station)) * 3) n
+unfoldable pub piecesFit : List Point3 → Float → ℕ → Bool
+piecesFit ps station n = leb ((length (firstPiece ps station) + length (secondPiece ps station)) * 3) n

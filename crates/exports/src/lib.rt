@@ -6,7 +6,7 @@ ghost use mathlib.Core.Bool.{cond};
 ghost use lib.Dec.{leb};
 ghost use lib.ListN.{length};
 ghost use Rattle.exports.specs.Nearest.{nearest, answered, floats, segmentOf};
-ghost use Rattle.exports.specs.Split.{room};
+ghost use Rattle.exports.specs.Split.{piecesFit};
 ghost use Rattle.lists.specs.Rows.{over};
 ghost use Rattle.polyline.specs.Polyline as L;
 ghost use Rattle.polyline.specs.Polyline.{points, flat};
@@ -62,7 +62,7 @@ pub extern "C" fn voldrekka_nearest_point(line: &[f64], x: f64, y: f64, out: &mu
 // Whether so many floats have room for both pieces of a split. A piece has at most one point more than the line: only where two such might not
 // fit are the points counted, which takes as long as the split.
 fn fits(line: &[f64], station: f64, floats: usize) -> bool
-    ensures { λ r. ⌜ r ≡ room (points (now (line .entry))) station floats ⌝ }
+    ensures { λ r. ⌜ r ≡ piecesFit (points (now (line .entry))) station floats ⌝ }
 {
     let places = floats / 3;
     if polyline::count(line) < places / 2 {
@@ -88,7 +88,7 @@ pub extern "C" fn voldrekka_split_at(
     out: &mut [f64],
     second: &mut usize,
 ) -> usize
-    ensures { λ r. ⌜ (r ≡ cond (room (points (now (line .entry))) station (length (now (out .entry)))) (length (L.firstPiece (points (now (line .entry))) station)) 0) × ((now (second .exit) ≡ cond (room (points (now (line .entry))) station (length (now (out .entry)))) (length (L.secondPiece (points (now (line .entry))) station)) (now (second .entry))) × (now (out .exit) ≡ cond (room (points (now (line .entry))) station (length (now (out .entry)))) (over (now (out .entry)) 0 (flat (L.firstPiece (points (now (line .entry))) station ++ L.secondPiece (points (now (line .entry))) station))) (now (out .entry)))) ⌝ }
+    ensures { λ r. ⌜ (r ≡ cond (piecesFit (points (now (line .entry))) station (length (now (out .entry)))) (length (L.firstPiece (points (now (line .entry))) station)) 0) × ((now (second .exit) ≡ cond (piecesFit (points (now (line .entry))) station (length (now (out .entry)))) (length (L.secondPiece (points (now (line .entry))) station)) (now (second .entry))) × (now (out .exit) ≡ cond (piecesFit (points (now (line .entry))) station (length (now (out .entry)))) (over (now (out .entry)) 0 (flat (L.firstPiece (points (now (line .entry))) station ++ L.secondPiece (points (now (line .entry))) station))) (now (out .entry)))) ⌝ }
 {
     if !fits(line, station, out.len()) {
         return 0;

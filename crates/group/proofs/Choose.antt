@@ -10,8 +10,8 @@ use Rattle.lists.specs.Rows.{over}
 use Rattle.lists.specs.Select.{has}
 use Rattle.lists.proofs.Rows.{length-keys, length-over, store-behind}
 use Rattle.tables.specs.View.{word}
-use Rattle.map.specs.Returned.{searchable}
-use Rattle.map.proofs.Lanes.{id-at, lanes-few}
+use Rattle.row_tests.specs.Returned.{searchable}
+use Rattle.row_tests.proofs.Lanes.{id-at, lanes-few}
 use Rattle.group.specs.Walk.{idsOf, groupAt, chosen}
 use Rattle.group.proofs.Laws.{chosen-more, chosen-told}
 use Rattle.group.proofs.Slots.{id-of, group-in-order}

@@ -22,9 +22,9 @@ use Rattle.entities.specs.Records.{Lane, Map}
 use Rattle.entities.specs.Types.{same, opposing}
 use Rattle.rules.specs.Map.{laneIds, names, beside, lateral-group}
 use Rattle.tables.specs.View.{Tables, word, slotAt, rows, laneOf, view}
-use Rattle.map.specs.Returned.{searchable, laneAt}
-use Rattle.map.proofs.Lanes.{found-within, word-at, id-at, lanes-ascend}
-use Rattle.map.proofs.Relations.{keys-reads}
+use Rattle.row_tests.specs.Returned.{searchable, laneAt}
+use Rattle.row_tests.proofs.Lanes.{found-within, word-at, id-at, lanes-ascend}
+use Rattle.row_tests.proofs.Relations.{keys-reads}
 use Rattle.group.specs.Walk.{laneMap, idsOf, groupAt, slotRow}
 use Rattle.group.proofs.Laws.{or-elim, any-at, any-somewhere, any-reads, has-at, found-key, found-none}
 use Rattle.group.proofs.Closed.{group-least, group-start, group-part, group-next, group-same}

@@ -19,15 +19,15 @@ use Rattle.lists.proofs.Rows.{length-keys, length-over, getD-over-behind}
 use Rattle.lists.proofs.Booleans.{same-test, or-right, or-left}
 use Rattle.lists.proofs.Select.{has-append}
 use Rattle.tables.specs.View.{word}
-use Rattle.map.specs.Returned.{searchable, laneAt}
-use Rattle.map.proofs.Lanes.{lanes-few}
-use Rattle.group.specs.Walk.{idsOf, groupAt, slotRow, within, marks, marked, queued}
+use Rattle.row_tests.specs.Returned.{searchable, laneAt}
+use Rattle.row_tests.proofs.Lanes.{lanes-few}
+use Rattle.group.specs.Walk.{idsOf, groupAt, slotRow, seenWithin, marks, seenMarked, queued}
 use Rattle.group.proofs.Laws.{has-at, has-somewhere, mark-again, marks-more, marks-room, marks-none, marks-few, unmarked, getD-over-front, getD-map-in}
 use Rattle.group.proofs.Slots.{Shut, id-of, slot-leads, group-has-own, group-leads, marks-hold}
 
 -- ---- marks and queue when a row is entered
 
-mark-keeps : (f : Found) (s : List Bool) (x : ℕ) → getD s x false ≡ true → getD (marked f s) x false ≡ true
+mark-keeps : (f : Found) (s : List Bool) (x : ℕ) → getD s x false ≡ true → getD (seenMarked f s) x false ≡ true
 mark-keeps Nothing s x e = e
 mark-keeps (At r) s x e = go (eqb x r) refl
   where
@@ -35,10 +35,10 @@ mark-keeps (At r) s x e = go (eqb x r) refl
     go true q = let z : x ≡ r = eqb-true x r q in rw (mark-again s r (rw z at e)) e
     go false q = getD-set-other s r x true false (eqb-false x r q) ∙ e
 
-mark-sets : (f : Found) (s : List Bool) (x : ℕ) → f ≡ At x → x < length s → getD (marked f s) x false ≡ true
+mark-sets : (f : Found) (s : List Bool) (x : ℕ) → f ≡ At x → x < length s → getD (seenMarked f s) x false ≡ true
 mark-sets f s x e h = rw e (getD-set-same s x true false h)
 
-pub marked-length : (f : Found) (s : List Bool) → length (marked f s) ≡ length s
+pub marked-length : (f : Found) (s : List Bool) → length (seenMarked f s) ≡ length s
 marked-length Nothing s = refl
 marked-length (At r) s = length-set s r true
 
@@ -58,7 +58,7 @@ queue-keeps (At r) s n q p h = go (getD s r false)
     go true = refl
     go false = getD-set-other q n p r 0 (λ e. omega arith)
 
-marks-keep : (f : Found) (s : List Bool) → marks s ≤ marks (marked f s)
+marks-keep : (f : Found) (s : List Bool) → marks s ≤ marks (seenMarked f s)
 marks-keep Nothing s = omega arith
 marks-keep (At r) s = go (getD s r false) refl (ltb r (length s)) refl
   where
@@ -69,7 +69,7 @@ marks-keep (At r) s = go (getD s r false) refl (ltb r (length s)) refl
 
 -- what `enter` answers: nothing was found; the row was marked; the row is new
 abbrev pub Entered : Found → List Bool → List ℕ → ℕ → List Bool → List ℕ → ℕ → Type 0
-Entered f s q end s2 q2 end2 = (end2 ≡ marks (marked f s)) × ((s2 ≡ marked f s) × (q2 ≡ queued f s end q))
+Entered f s q end s2 q2 end2 = (end2 ≡ marks (seenMarked f s)) × ((s2 ≡ seenMarked f s) × (q2 ≡ queued f s end q))
 
 module _ (f : Found) (s : List Bool) (q : List ℕ) (end : ℕ) (e : end ≡ marks s) where
   pub entered-none : f ≡ Nothing → Entered f s q end s q end
@@ -80,17 +80,17 @@ module _ (f : Found) (s : List Bool) (q : List ℕ) (end : ℕ) (e : end ≡ mar
       let x : set s r true ≡ s = mark-again s r m in
       rw (a, m, x) (e, (refl, refl))
 
-  pub entered-new : (r : ℕ) → f ≡ At r → within (length s) f ≡ true → getD s r false ≡ false → Entered f s q end (set s r true) (set q end r) (end + 1)
+  pub entered-new : (r : ℕ) → f ≡ At r → seenWithin (length s) f ≡ true → getD s r false ≡ false → Entered f s q end (set s r true) (set q end r) (end + 1)
   entered-new r a b m =
       let h : r < length s = ltb-true r (length s) (rw a at b) in
       let x : end + 1 ≡ marks (set s r true) = let k = marks-more s r h m in omega arith in
       rw (a, m) (x, (refl, refl))
 
   -- there is room for the row in the marks and, if it is new, in the queue
-  pub enter-room : (r : ℕ) → f ≡ At r → within (length s) f ≡ true → r < length s
+  pub enter-room : (r : ℕ) → f ≡ At r → seenWithin (length s) f ≡ true → r < length s
   enter-room r a b = ltb-true r (length s) (rw a at b)
 
-  pub enter-end : (r : ℕ) → f ≡ At r → within (length s) f ≡ true → getD s r false ≡ false → end < length s
+  pub enter-end : (r : ℕ) → f ≡ At r → seenWithin (length s) f ≡ true → getD s r false ≡ false → end < length s
   enter-end r a b m = rw e (marks-room s r (enter-room r a b) m)
 
 -- ---- the walk of row i's group: `done` rows of the queue have been looked at, and it ends at `end`
@@ -152,7 +152,7 @@ module _ (t : List ℕ) (i : ℕ) where
 
     -- a row that was found and is of the group is entered
     pub enters : (f : Found) → ((r : ℕ) → f ≡ At r → (r < length s) × ((r < word 0 t) × (has (word 0 (laneAt t r)) (groupAt t i) ≡ true)))
-        → Walk t i (marked f s) (queued f s end q) done (marks (marked f s))
+        → Walk t i (seenMarked f s) (queued f s end q) done (marks (seenMarked f s))
     enters Nothing ok = rw (← w .counted) w
     enters (At r) ok = go (getD s r false) refl
       where
@@ -183,66 +183,66 @@ Holds t i s q done end = (length s ≡ 1024) × ((length q ≡ 1024) × ((getD s
 
 -- what `enter` asks
 abbrev May : Found → List Bool → List ℕ → ℕ → Type 0
-May f s q end = (length q ≡ length s) × ((within (length s) f ≡ true) × (end ≡ marks s))
+May f s q end = (length q ≡ length s) × ((seenWithin (length s) f ≡ true) × (end ≡ marks s))
 
 -- ---- a turn of the loop, and its end
 
 module _ (t : List ℕ) (h : searchable t ≡ true) (i : ℕ) (l : i < word 0 t) where
   -- the first row
   pub walk-first : (s : List Bool) (q : List ℕ) → all not s ≡ true → length q ≡ length s → word 0 t ≤ length s
-      → Walk t i (marked (At i) s) (queued (At i) s 0 q) 0 (marks (marked (At i) s))
+      → Walk t i (seenMarked (At i) s) (queued (At i) s 0 q) 0 (marks (seenMarked (At i) s))
   walk-first s q a e b =
       enters t i s q 0 0 (walk-begins t i s q a e) (At i)
       (λ r z. let y : i ≡ r = cc in rw (← y) (omega arith, (l, group-has-own t h i l)))
 
   -- what a slot leads to is a row that has a mark
-  pub slot-in : (n k j : ℕ) → word 0 t ≤ n → within n (slotRow t k j) ≡ true
+  pub slot-in : (n k j : ℕ) → word 0 t ≤ n → seenWithin n (slotRow t k j) ≡ true
   slot-in n k j b = go (slotRow t k j) refl
     where
-      go : (f : Found) → slotRow t k j ≡ f → within n f ≡ true
+      go : (f : Found) → slotRow t k j ≡ f → seenWithin n f ≡ true
       go Nothing e = refl
       go (At x) e = lt-ltb x n (omega (arith, slot-leads t h k j x e .0))
 
   -- a slot of a row that is marked
   slot-turn : (s : List Bool) (q : List ℕ) (done end : ℕ) → Walk t i s q done end → word 0 t ≤ length s → (k j : ℕ) → (k ≡ 14) ⊎ (k ≡ 16) → j < word 0 t → getD s j false ≡ true
-      → (f : Found) → f ≡ slotRow t k j → Walk t i (marked f s) (queued f s end q) done (marks (marked f s))
+      → (f : Found) → f ≡ slotRow t k j → Walk t i (seenMarked f s) (queued f s end q) done (marks (seenMarked f s))
   slot-turn s q done end w b k j c d e f z =
       enters t i s q done end w f
       (λ r y. let g = group-leads t h i l k j r c d (w .reached j e) (sym z ∙ y) in (omega (arith, g .0), g))
 
   module _ (s : List Bool) (q : List ℕ) (done end : ℕ) (w : Walk t i s q done end) (b : word 0 t ≤ length s) (n : done < end) (f g : Found) (ef : f ≡ slotRow t 14 (getD q done 0)) (eg : g ≡ slotRow t 16 (getD q done 0)) where
-    left : Walk t i (marked f s) (queued f s end q) done (marks (marked f s))
+    left : Walk t i (seenMarked f s) (queued f s end q) done (marks (seenMarked f s))
     left = slot-turn s q done end w b 14 (getD q done 0) (inl refl) (w .in-rows done n) (w .in-marks done n) f ef
 
-    right : Walk t i (marked g (marked f s)) (queued g (marked f s) (marks (marked f s)) (queued f s end q)) done (marks (marked g (marked f s)))
+    right : Walk t i (seenMarked g (seenMarked f s)) (queued g (seenMarked f s) (marks (seenMarked f s)) (queued f s end q)) done (marks (seenMarked g (seenMarked f s)))
     right =
-        slot-turn (marked f s) (queued f s end q) done (marks (marked f s)) left (rw (marked-length f s) b) 16 (getD q done 0) (inr refl) (w .in-rows done n)
+        slot-turn (seenMarked f s) (queued f s end q) done (marks (seenMarked f s)) left (rw (marked-length f s) b) 16 (getD q done 0) (inr refl) (w .in-rows done n)
         (mark-keeps f s (getD q done 0) (w .in-marks done n)) g eg
 
     -- the row is still there, and both of its slots lead to marked rows
-    ends : (done < marks (marked f s)) × (done < marks (marked g (marked f s)))
+    ends : (done < marks (seenMarked f s)) × (done < marks (seenMarked g (seenMarked f s)))
     ends =
-        let x : end ≤ marks (marked f s) = rw (w .counted) (marks-keep f s) in
-        let y = marks-keep g (marked f s) in
+        let x : end ≤ marks (seenMarked f s) = rw (w .counted) (marks-keep f s) in
+        let y = marks-keep g (seenMarked f s) in
         (omega arith, omega arith)
 
-    same-row : getD (queued g (marked f s) (marks (marked f s)) (queued f s end q)) done 0 ≡ getD q done 0
-    same-row = queue-keeps g (marked f s) (marks (marked f s)) (queued f s end q) done (ends .0) ∙ queue-keeps f s end q done n
+    same-row : getD (queued g (seenMarked f s) (marks (seenMarked f s)) (queued f s end q)) done 0 ≡ getD q done 0
+    same-row = queue-keeps g (seenMarked f s) (marks (seenMarked f s)) (queued f s end q) done (ends .0) ∙ queue-keeps f s end q done n
 
-    both-shut : Shut t (marked g (marked f s)) (getD q done 0)
+    both-shut : Shut t (seenMarked g (seenMarked f s)) (getD q done 0)
     both-shut k x c e =
         let m : x < length s = omega (arith, slot-leads t h k (getD q done 0) x e .0) in
         ⊎-elim
-        (λ (z : k ≡ 14). mark-keeps g (marked f s) x (mark-sets f s x (ef ∙ rw z at e) m))
-        (λ (z : k ≡ 16). mark-sets g (marked f s) x (eg ∙ rw z at e) (rw (marked-length f s) m))
+        (λ (z : k ≡ 14). mark-keeps g (seenMarked f s) x (mark-sets f s x (ef ∙ rw z at e) m))
+        (λ (z : k ≡ 16). mark-sets g (seenMarked f s) x (eg ∙ rw z at e) (rw (marked-length f s) m))
         c
 
-    both-turns : Walk t i (marked g (marked f s)) (queued g (marked f s) (marks (marked f s)) (queued f s end q)) (done + 1) (marks (marked g (marked f s)))
+    both-turns : Walk t i (seenMarked g (seenMarked f s)) (queued g (seenMarked f s) (marks (seenMarked f s)) (queued f s end q)) (done + 1) (marks (seenMarked g (seenMarked f s)))
     both-turns =
-        walked t i (marked g (marked f s)) (queued g (marked f s) (marks (marked f s)) (queued f s end q)) done (marks (marked g (marked f s))) right (ends .1) (rw same-row both-shut)
+        walked t i (seenMarked g (seenMarked f s)) (queued g (seenMarked f s) (marks (seenMarked f s)) (queued f s end q)) done (marks (seenMarked g (seenMarked f s))) right (ends .1) (rw same-row both-shut)
 
-    pub turn : (s1 s2 : List Bool) (q1 q2 : List ℕ) (e1 e2 : ℕ) → s1 ≡ marked f s → q1 ≡ queued f s end q → e1 ≡ marks (marked f s)
-        → s2 ≡ marked g s1 → q2 ≡ queued g s1 e1 q1 → e2 ≡ marks (marked g s1) → Walk t i s2 q2 (done + 1) e2
+    pub turn : (s1 s2 : List Bool) (q1 q2 : List ℕ) (e1 e2 : ℕ) → s1 ≡ seenMarked f s → q1 ≡ queued f s end q → e1 ≡ marks (seenMarked f s)
+        → s2 ≡ seenMarked g s1 → q2 ≡ queued g s1 e1 q1 → e2 ≡ marks (seenMarked g s1) → Walk t i s2 q2 (done + 1) e2
     turn s1 s2 q1 q2 e1 e2 a1 a2 a3 c1 c2 c3 = rw (c1, c2, c3, a1, a2, a3) both-turns
 
   -- ---- the end: the marks are the group's

@@ -11,7 +11,7 @@ use Rattle.lists.specs.declared.Found.the-variants.{At, Nothing}
 use Rattle.entities.specs.Records.{Map}
 use Rattle.rules.specs.Map.{lateral-group}
 use Rattle.tables.specs.View.{word, rows, laneOf}
-use Rattle.map.specs.Returned.{laneAt}
+use Rattle.row_tests.specs.Returned.{laneAt}
 use Rattle.tables.specs.Columns.{laneWords, rowCount, rowId}
 
 -- The map of a table's lanes alone. Of a lane the group needs its id and its slots: not its line, so no coordinates are read.
@@ -43,18 +43,18 @@ slotRow t k j = cond (eqb (word k (laneAt t j)) 0) Nothing (rowWith (word (suc k
 
 -- ---- marks of rows
 
-abbrev pub within : ℕ → Found → Bool
-within n Nothing = true
-within n (At r) = ltb r n
+abbrev pub seenWithin : ℕ → Found → Bool
+seenWithin n Nothing = true
+seenWithin n (At r) = ltb r n
 
 -- how many are marked
 unfoldable pub marks : List Bool → ℕ
 marks s = length (keep (λ b. b) s)
 
 -- a row that was found is marked
-abbrev pub marked : Found → List Bool → List Bool
-marked Nothing s = s
-marked (At r) s = set s r true
+abbrev pub seenMarked : Found → List Bool → List Bool
+seenMarked Nothing s = s
+seenMarked (At r) s = set s r true
 
 -- a row that was found and is not marked goes into the queue, at its end
 abbrev pub queued : Found → List Bool → ℕ → List ℕ → List ℕ

@@ -9,7 +9,7 @@ ghost use Rattle.lists.specs.Every.{all};
 ghost use Rattle.lists.specs.Select.{has};
 ghost use Rattle.lists.specs.Rows.{over};
 ghost use Rattle.tables.specs.View.{word};
-ghost use Rattle.map.specs.Returned.{searchable};
+ghost use Rattle.row_tests.specs.Returned.{searchable};
 ghost use Rattle.group.specs.Walk as G;
 use lists::Found;
 use tables::LANE;
@@ -34,8 +34,8 @@ fn slot_row(lanes: &[u64], k: usize, j: usize) -> Found
 
 // A row that was found is marked, and goes to the queue's end if it was not marked; where the queue ends then.
 fn enter(found: Found, seen: &mut [bool], queue: &mut [usize], end: usize) -> usize
-    requires { ⌜ (length (now queue) ≡ length (now seen)) × ((G.within (length (now seen)) found ≡ true) × (end ≡ G.marks (now seen))) ⌝ }
-    ensures { λ r. ⌜ (r ≡ G.marks (G.marked found (now (seen .entry)))) × ((now (seen .exit) ≡ G.marked found (now (seen .entry))) × (now (queue .exit) ≡ G.queued found (now (seen .entry)) end (now (queue .entry)))) ⌝ }
+    requires { ⌜ (length (now queue) ≡ length (now seen)) × ((G.seenWithin (length (now seen)) found ≡ true) × (end ≡ G.marks (now seen))) ⌝ }
+    ensures { λ r. ⌜ (r ≡ G.marks (G.seenMarked found (now (seen .entry)))) × ((now (seen .exit) ≡ G.seenMarked found (now (seen .entry))) × (now (queue .exit) ≡ G.queued found (now (seen .entry)) end (now (queue .entry)))) ⌝ }
 {
     let Found::At(row) = found else {
         return end;

@@ -8,7 +8,7 @@ use Rattle.lists.specs.Rows.{reads, over}
 use Rattle.lists.specs.Select.{each}
 use Rattle.tables.specs.View.{part, rows}
 use Rattle.tables.specs.Formed.{spans}
-use Rattle.layout.specs.Layout.{laid, total, lines, moves, laidFrom, gathered, laidOut, lineTables}
+use Rattle.layout.specs.Layout.{lineFloats, pointsIn, columnLines, moves, laidFrom, gathered, laidOut, lineTables}
 
 -- a lane's first nine words: mark 6, start 7, length 8
 abbrev lane : ℕ → ℕ → ℕ → List ℕ
@@ -18,5 +18,5 @@ lane mark start size = 1 ∷ 0 ∷ 7 ∷ 0 ∷ 8 ∷ 0 ∷ mark ∷ start ∷ si
 pub case : (a b c d e : Float)
     → laidOut (lineTables (2 ∷ lane 1 1 1 ++ lane 0 99 99) (2 ∷ 7 ∷ 0 ∷ 2 ∷ 2 ∷ 9 ∷ 8 ∷ 0 ∷ 0 ∷ 1 ∷ 9 ∷ []) (1 ∷ 3 ∷ 77 ∷ 0 ∷ 9 ∷ 4 ∷ []) (0 ∷ []) (a ∷ a ∷ a ∷ b ∷ b ∷ b ∷ c ∷ c ∷ c ∷ d ∷ d ∷ d ∷ e ∷ []))
     ≡ lineTables (2 ∷ lane 1 3 1 ++ lane 0 99 99) (2 ∷ 7 ∷ 0 ∷ 0 ∷ 2 ∷ 9 ∷ 8 ∷ 0 ∷ 2 ∷ 1 ∷ 9 ∷ []) (1 ∷ 3 ∷ 4 ∷ 0 ∷ 9 ∷ 4 ∷ []) (0 ∷ []) (c ∷ c ∷ c ∷ d ∷ d ∷ d ∷ a ∷ a ∷ a ∷ b ∷ b ∷ b ∷ e ∷ [])
-unfolding laidOut gathered laidFrom moves laid total lines spans rows reads each part over
+unfolding laidOut gathered laidFrom moves lineFloats pointsIn columnLines spans rows reads each part over
 case a b c d e = refl

@@ -20,17 +20,17 @@ use Rattle.tables.specs.View.{word, mark, part, rows}
 use Rattle.tables.specs.Formed.{Span, spanAt, counted}
 use Rattle.apart.specs.Marks.{within}
 use Rattle.apart.proofs.Marks.{within-cases, counted-facts}
-use Rattle.layout.specs.Layout.{laid, total, Column, lineOf, lines, moved, moves, laidFrom}
+use Rattle.layout.specs.Layout.{lineFloats, pointsIn, Column, lineOf, columnLines, moved, moves, laidFrom}
 
 -- ---- lines behind lines
 
-pub total-append : (a b : List Span) → total (a ++ b) ≡ total a + total b
-unfolding total
+pub total-append : (a b : List Span) → pointsIn (a ++ b) ≡ pointsIn a + pointsIn b
+unfolding pointsIn
 total-append [] b = omega arith
 total-append (s ∷ a) b = omega (arith, total-append a b)
 
-pub laid-append : (work : List Float) (a b : List Span) → laid work (a ++ b) ≡ laid work a ++ laid work b
-unfolding laid each
+pub laid-append : (work : List Float) (a b : List Span) → lineFloats work (a ++ b) ≡ lineFloats work a ++ lineFloats work b
+unfolding lineFloats each
 laid-append work [] b = refl
 laid-append work (s ∷ a) b = rw (laid-append work a b, append-assoc)
 
@@ -45,8 +45,8 @@ length-part work s h = ⊎-elim none inside (within-cases (length work / 3) s h)
     inside l = length-take-le (s .size * 3) (drop (s .start * 3) work) (rw length-drop (omega arith))
 
 -- lines that lie in `work` take three floats a point
-pub length-laid : (work : List Float) (ss : List Span) → all (within (length work / 3)) ss ≡ true → length (laid work ss) ≡ total ss * 3
-unfolding laid each total
+pub length-laid : (work : List Float) (ss : List Span) → all (within (length work / 3)) ss ≡ true → length (lineFloats work ss) ≡ pointsIn ss * 3
+unfolding lineFloats each pointsIn
 length-laid work [] h = refl
 length-laid work (s ∷ ss) h =
     rw (length-append, length-part work s (all-head (within (length work / 3)) s ss h), length-laid work ss (all-tail (within (length work / 3)) s ss h)) (omega arith)
@@ -64,8 +64,8 @@ length-moved k at r = go (k .has r)
 unfoldable pub linesIn : Column → ℕ → List ℕ → List Span
 linesIn k n w = each (λ s. s) (reads (k .words) (lineOf k) n w)
 
-pub lines-in : (k : Column) (t : List ℕ) → lines k t ≡ linesIn k (word 0 t) (drop 1 t)
-unfolding lines rows linesIn
+pub lines-in : (k : Column) (t : List ℕ) → columnLines k t ≡ linesIn k (word 0 t) (drop 1 t)
+unfolding columnLines rows linesIn
 lines-in k t = refl
 
 pub lines-more : (k : Column) (n : ℕ) (w : List ℕ) → linesIn k (suc n) w ≡ lineOf k (take (k .words) w) ++ linesIn k n (drop (k .words) w)
@@ -76,7 +76,7 @@ pub lines-none : (k : Column) (w : List ℕ) → linesIn k 0 w ≡ []
 unfolding linesIn reads each
 lines-none k w = refl
 
-pub moves-more : (k : Column) (n at : ℕ) (w : List ℕ) → moves k (suc n) at w ≡ moved k at (take (k .words) w) ++ moves k n (at + total (lineOf k (take (k .words) w))) (drop (k .words) w)
+pub moves-more : (k : Column) (n at : ℕ) (w : List ℕ) → moves k (suc n) at w ≡ moved k at (take (k .words) w) ++ moves k n (at + pointsIn (lineOf k (take (k .words) w))) (drop (k .words) w)
 unfolding moves
 moves-more k n at w = refl
 
@@ -99,12 +99,12 @@ Ready work t c at here = (here + 2 ≤ length t) × ((within (length work / 3) (
 -- the row at a lies in the table, its line in `work`, and there is room for it
 abbrev pub RowReady : Column → List Float → List ℕ → List Float → ℕ → ℕ → Type 0
 RowReady k work t c at a =
-    (a + k .words ≤ length t) × ((all (within (length work / 3)) (lineOf k (take (k .words) (drop a t))) ≡ true) × ((at + total (lineOf k (take (k .words) (drop a t)))) * 3 ≤ length c))
+    (a + k .words ≤ length t) × ((all (within (length work / 3)) (lineOf k (take (k .words) (drop a t))) ≡ true) × ((at + pointsIn (lineOf k (take (k .words) (drop a t)))) * 3 ≤ length c))
 
 -- what becomes of the row at a: its line is laid at `at`
 abbrev pub Turned : Column → List Float → List ℕ → List Float → ℕ → ℕ → List ℕ → List Float → ℕ → Type 0
 Turned k work t c at a t₁ c₁ at₁ =
-    (at₁ ≡ at + total (lineOf k (take (k .words) (drop a t)))) × ((t₁ ≡ over t a (moved k at (take (k .words) (drop a t)))) × (c₁ ≡ over c (at * 3) (laid work (lineOf k (take (k .words) (drop a t))))))
+    (at₁ ≡ at + pointsIn (lineOf k (take (k .words) (drop a t)))) × ((t₁ ≡ over t a (moved k at (take (k .words) (drop a t)))) × (c₁ ≡ over c (at * 3) (lineFloats work (lineOf k (take (k .words) (drop a t))))))
 
 -- a row that has a line: what the code does with its words is what the definitions say of the row
 module _ (k : Column) (t : List ℕ) (a at : ℕ) (p : k .start + 2 ≤ k .words) (q : a + k .words ≤ length t) (h : k .has (take (k .words) (drop a t)) ≡ true) where
@@ -120,12 +120,12 @@ module _ (k : Column) (t : List ℕ) (a at : ℕ) (p : k .start + 2 ≤ k .words
       let v : word (suc (k .start)) (take (k .words) (drop a t)) ≡ word (suc (a + k .start)) t = row-word (suc (k .start)) j ∙ ap (λ n. word n t) e in
       rw (h, u, v)
 
-  row-size : total (lineOf k (take (k .words) (drop a t))) ≡ word (suc (a + k .start)) t
-  unfolding total
+  row-size : pointsIn (lineOf k (take (k .words) (drop a t))) ≡ word (suc (a + k .start)) t
+  unfolding pointsIn
   row-size = rw row-line (omega arith)
 
-  row-laid : (work : List Float) → laid work (lineOf k (take (k .words) (drop a t))) ≡ part work (word (a + k .start) t) (word (suc (a + k .start)) t)
-  unfolding laid each
+  row-laid : (work : List Float) → lineFloats work (lineOf k (take (k .words) (drop a t))) ≡ part work (word (a + k .start) t) (word (suc (a + k .start)) t)
+  unfolding lineFloats each
   row-laid work = rw (row-line, append-nil)
 
   row-moved : set t (a + k .start) at ≡ over t a (moved k at (take (k .words) (drop a t)))
@@ -135,7 +135,7 @@ module _ (k : Column) (t : List ℕ) (a at : ℕ) (p : k .start + 2 ≤ k .words
   row-fits n f = all-head (within n) (spanAt (a + k .start) t) [] (rw row-line at f)
 
   pub row-ready : (work c : List Float) → all (within (length work / 3)) (lineOf k (take (k .words) (drop a t))) ≡ true
-      → (at + total (lineOf k (take (k .words) (drop a t)))) * 3 ≤ length c → Ready work t c at (a + k .start)
+      → (at + pointsIn (lineOf k (take (k .words) (drop a t)))) * 3 ≤ length c → Ready work t c at (a + k .start)
   row-ready work c f r = (omega arith, (row-fits (length work / 3) f, omega (arith, row-size)))
 
   pub row-turned : (work c : List Float) (t₁ : List ℕ) (c₁ : List Float) (at₁ : ℕ) → at₁ ≡ at + word (suc (a + k .start)) t → t₁ ≡ set t (a + k .start) at
@@ -145,7 +145,7 @@ module _ (k : Column) (t : List ℕ) (a at : ℕ) (p : k .start + 2 ≤ k .words
 -- a row without a line stays
 pub row-stays : (k : Column) (work : List Float) (t : List ℕ) (c : List Float) (at a : ℕ) → k .has (take (k .words) (drop a t)) ≡ false
     → a + k .words ≤ length t → Turned k work t c at a t c at
-unfolding total laid each over
+unfolding pointsIn lineFloats each over
 row-stays k work t c at a h q =
     let l : length (take (k .words) (drop a t)) ≡ k .words = length-take-le (k .words) (drop a t) (rw length-drop (omega arith)) in
     rw (h, l) (omega arith, (sym (take-append-drop a t) ∙ ap (λ v. take a t ++ v) (sym (take-append-drop (k .words) (drop a t)) ∙ rw drop-drop), sym (rw (add-zero, take-append-drop))))
@@ -169,13 +169,13 @@ pub record Left (k : Column) (work : List Float) (t₀ : List ℕ) (c₀ : List 
   pub floats : length c ≡ length c₀
   pub inside : a + n * k .words ≤ length t
   pub fits : all (within (length work / 3)) (linesIn k n (drop a t)) ≡ true
-  pub room : (at + total (linesIn k n (drop a t))) * 3 ≤ length c
+  pub room : (at + pointsIn (linesIn k n (drop a t))) * 3 ≤ length c
   pub table : laidFrom at₀ k t₀ ≡ take a t ++ moves k n at (drop a t)
-  pub points : over c₀ (at₀ * 3) (laid work (lines k t₀)) ≡ over c (at * 3) (laid work (linesIn k n (drop a t)))
-  pub end : at₀ + total (lines k t₀) ≡ at + total (linesIn k n (drop a t))
+  pub points : over c₀ (at₀ * 3) (lineFloats work (columnLines k t₀)) ≡ over c (at * 3) (lineFloats work (linesIn k n (drop a t)))
+  pub end : at₀ + pointsIn (columnLines k t₀) ≡ at + pointsIn (linesIn k n (drop a t))
 
 pub left-start : (k : Column) (most : ℕ) (work : List Float) (t : List ℕ) (c : List Float) (at : ℕ) → counted most (k .words) t ≡ true
-    → all (within (length work / 3)) (lines k t) ≡ true → (at + total (lines k t)) * 3 ≤ length c
+    → all (within (length work / 3)) (columnLines k t) ≡ true → (at + pointsIn (columnLines k t)) * 3 ≤ length c
     → Left k work t c at (word 0 t - 0) (1 + 0 * k .words) t c at
 unfolding laidFrom
 left-start k most work t c at h f r =
@@ -211,8 +211,8 @@ module _ (k : Column) (work : List Float) (t₀ : List ℕ) (c₀ : List Float) 
         let h : (all f (lineOf k row) && all f rest) ≡ true = sym (all-split f (lineOf k row) rest) ∙ (rw more at (l .fits)) in
         (and-fst (all f (lineOf k row)) (all f rest) h, and-snd (all f (lineOf k row)) (all f rest) h)
 
-    count : total (linesIn k (suc n) (drop a t)) ≡ total (lineOf k row) + total rest
-    count = ap total more ∙ total-append (lineOf k row) rest
+    count : pointsIn (linesIn k (suc n) (drop a t)) ≡ pointsIn (lineOf k row) + pointsIn rest
+    count = ap pointsIn more ∙ total-append (lineOf k row) rest
 
     pub next-in : a + k .words ≤ length t
     next-in = omega (arith, l .inside)
@@ -220,27 +220,27 @@ module _ (k : Column) (work : List Float) (t₀ : List ℕ) (c₀ : List Float) 
     pub next-fits : all (within (length work / 3)) (lineOf k row) ≡ true
     next-fits = all-fit .0
 
-    pub next-room : (at + total (lineOf k row)) * 3 ≤ length c
+    pub next-room : (at + pointsIn (lineOf k row)) * 3 ≤ length c
     next-room = omega (arith, l .room, count)
 
-    pub left-step : (t₁ : List ℕ) (c₁ : List Float) (at₁ : ℕ) → at₁ ≡ at + total (lineOf k row) → t₁ ≡ over t a (moved k at row)
-        → c₁ ≡ over c (at * 3) (laid work (lineOf k row)) → Left k work t₀ c₀ at₀ n (a + k .words) t₁ c₁ at₁
+    pub left-step : (t₁ : List ℕ) (c₁ : List Float) (at₁ : ℕ) → at₁ ≡ at + pointsIn (lineOf k row) → t₁ ≡ over t a (moved k at row)
+        → c₁ ≡ over c (at * 3) (lineFloats work (lineOf k row)) → Left k work t₀ c₀ at₀ n (a + k .words) t₁ c₁ at₁
     left-step t₁ c₁ at₁ p q r =
         let m : length (moved k at row) ≡ k .words = length-moved k at row ∙ length-take-le (k .words) (drop a t) (rw length-drop (omega (arith, next-in))) in
         let i : a + length (moved k at row) ≤ length t = omega (arith, next-in) in
         let d : drop (a + k .words) t₁ ≡ drop (a + k .words) t = rw q (ap (λ j. drop (a + j) (over t a (moved k at row))) (sym m) ∙ drop-over t a (moved k at row) i ∙ ap (λ j. drop (a + j) t) m) in
         let u : take (a + k .words) t₁ ≡ take a t ++ moved k at row = rw q (ap (λ j. take (a + j) (over t a (moved k at row))) (sym m) ∙ take-over t a (moved k at row) i) in
-        let w : length (laid work (lineOf k row)) ≡ total (lineOf k row) * 3 = length-laid work (lineOf k row) next-fits in
-        let x : at * 3 + length (laid work (lineOf k row)) ≡ at₁ * 3 = omega arith in
-        let y : at * 3 + length (laid work (lineOf k row)) ≤ length c = omega (arith, next-room) in
+        let w : length (lineFloats work (lineOf k row)) ≡ pointsIn (lineOf k row) * 3 = length-laid work (lineOf k row) next-fits in
+        let x : at * 3 + length (lineFloats work (lineOf k row)) ≡ at₁ * 3 = omega arith in
+        let y : at * 3 + length (lineFloats work (lineOf k row)) ≤ length c = omega (arith, next-room) in
         record {
           words = ap length q ∙ length-over t a (moved k at row) i ∙ l .words;
-          floats = ap length r ∙ length-over c (at * 3) (laid work (lineOf k row)) y ∙ l .floats;
+          floats = ap length r ∙ length-over c (at * 3) (lineFloats work (lineOf k row)) y ∙ l .floats;
           inside = omega (arith, ap length q, length-over t a (moved k at row) i, l .inside);
           fits = rw d (all-fit .1);
-          room = rw d (omega (arith, l .room, count, ap length r, length-over c (at * 3) (laid work (lineOf k row)) y));
+          room = rw d (omega (arith, l .room, count, ap length r, length-over c (at * 3) (lineFloats work (lineOf k row)) y));
           table = l .table ∙ rw (moves-more k n at (drop a t), drop-drop, u, d, p, append-assoc);
-          points = l .points ∙ rw (more, laid-append, d, r) (sym (over-over c (at * 3) (at₁ * 3) (laid work (lineOf k row)) (laid work rest) x (omega arith)));
+          points = l .points ∙ rw (more, laid-append, d, r) (sym (over-over c (at * 3) (at₁ * 3) (lineFloats work (lineOf k row)) (lineFloats work rest) x (omega arith)));
           end = l .end ∙ rw d (omega (arith, count));
         }
 
@@ -261,14 +261,14 @@ module _ (k : Column) (work : List Float) (t₀ : List ℕ) (c₀ : List Float) 
         let m = n - (i + 1) in
         (next-in m a t c at (left-next h), (next-fits m a t c at (left-next h), next-room m a t c at (left-next h)))
 
-    pub left-done : n ≤ i → (at ≡ at₀ + total (lines k t₀)) × ((t ≡ laidFrom at₀ k t₀) × (c ≡ over c₀ (at₀ * 3) (laid work (lines k t₀))))
-    unfolding moves total laid each
+    pub left-done : n ≤ i → (at ≡ at₀ + pointsIn (columnLines k t₀)) × ((t ≡ laidFrom at₀ k t₀) × (c ≡ over c₀ (at₀ * 3) (lineFloats work (columnLines k t₀))))
+    unfolding moves pointsIn lineFloats each
     left-done h =
         let e : n - i ≡ 0 = omega arith in
         let w = drop (1 + i * k .words) t in
         let z : linesIn k (n - i) w ≡ [] = rw e (lines-none k w) in
         let m : moves k (n - i) at w ≡ w = rw e in
-        let x : total (linesIn k (n - i) w) ≡ 0 = rw z in
+        let x : pointsIn (linesIn k (n - i) w) ≡ 0 = rw z in
         (omega (arith, l .end), (sym (l .table ∙ rw (m, take-append-drop)), sym (l .points ∙ rw (z, over-nil))))
 
   -- a row that has a line, as the code treats it

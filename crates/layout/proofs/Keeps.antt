@@ -12,7 +12,7 @@ use Rattle.lists.specs.Every.{all}
 use Rattle.tables.specs.View.{Tables, word, mark, rows}
 use Rattle.tables.specs.Formed.{spans, counted, stored, allClear, laneFormed, ruleFormed, formed}
 use Rattle.apart.proofs.Marks.{counted-facts}
-use Rattle.layout.specs.Layout.{total, Column, centerlines, moved, laidFrom, gathered, countedLines, Gatherable, boundaryLines, stopLines, leftEdges, rightEdges}
+use Rattle.layout.specs.Layout.{pointsIn, Column, centerlines, moved, laidFrom, gathered, countedLines, Gatherable, boundaryLines, stopLines, leftEdges, rightEdges}
 use Rattle.layout.proofs.Moves.{laid-count, length-laid-table, counted-laid, rows-kept}
 use Rattle.layout.proofs.Stages.{counts}
 use Rattle.layout.proofs.Spans.{gathered-clear, gathered-stored}
@@ -128,6 +128,6 @@ rows-formed w t h =
     go p q r l b s x f = unfold rowsFormed in rw (l, b, s, x, f, p, q, r)
 
 -- THE LAW: tables laid out are formed, if their rows are and no more than 65,536 points are laid out
-pub gathered-formed : (w : List Float) (t : Tables) → Gatherable w t → total (spans t) ≤ 65536 → rowsFormed t ≡ true → formed (gathered w t) ≡ true
+pub gathered-formed : (w : List Float) (t : Tables) → Gatherable w t → pointsIn (spans t) ≤ 65536 → rowsFormed t ≡ true → formed (gathered w t) ≡ true
 gathered-formed w t g h r =
     formed-is (gathered w t) ∙ rw (rows-formed w t (g .counts), r, gathered-stored w t g h, gathered-clear w t g)

@@ -9,3 +9,9 @@ pub mod Room
 pub mod Reach
 pub mod Formed
 pub mod Cases
+pub mod Columns
+pub mod Written
+pub mod Gathers
+pub mod Lines
+pub mod Standing
+pub mod Exact

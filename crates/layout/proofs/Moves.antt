@@ -12,7 +12,7 @@ use Rattle.lists.specs.Select.{each}
 use Rattle.tables.specs.View.{word, rows}
 use Rattle.tables.specs.Formed.{Span, spanAt, counted}
 use Rattle.apart.proofs.Marks.{counted-facts}
-use Rattle.layout.specs.Layout.{total, Column, plain, lineOf, lines, moved, moves, laidFrom, leftEdges, rightEdges}
+use Rattle.layout.specs.Layout.{pointsIn, Column, plain, lineOf, columnLines, moved, moves, laidFrom, leftEdges, rightEdges}
 use Rattle.layout.proofs.Column.{linesIn, lines-in, lines-more, moves-more, length-moved}
 
 -- ---- n rows, and a table
@@ -27,18 +27,18 @@ module _ (k : Column) where
   -- the first row of those moved, and the others
   pub first-moved : (n at : ℕ) (w : List ℕ) → k .words ≤ length w → take (k .words) (moves k (suc n) at w) ≡ moved k at (take (k .words) w)
   first-moved n at w h =
-      rw (moves-more k n at w) (take-at (moved k at (take (k .words) w)) (moves k n (at + total (lineOf k (take (k .words) w))) (drop (k .words) w)) (k .words) (moved-length at w h))
+      rw (moves-more k n at w) (take-at (moved k at (take (k .words) w)) (moves k n (at + pointsIn (lineOf k (take (k .words) w))) (drop (k .words) w)) (k .words) (moved-length at w h))
 
-  pub others-moved : (n at : ℕ) (w : List ℕ) → k .words ≤ length w → drop (k .words) (moves k (suc n) at w) ≡ moves k n (at + total (lineOf k (take (k .words) w))) (drop (k .words) w)
+  pub others-moved : (n at : ℕ) (w : List ℕ) → k .words ≤ length w → drop (k .words) (moves k (suc n) at w) ≡ moves k n (at + pointsIn (lineOf k (take (k .words) w))) (drop (k .words) w)
   others-moved n at w h =
-      rw (moves-more k n at w) (drop-at (moved k at (take (k .words) w)) (moves k n (at + total (lineOf k (take (k .words) w))) (drop (k .words) w)) (k .words) (moved-length at w h))
+      rw (moves-more k n at w) (drop-at (moved k at (take (k .words) w)) (moves k n (at + pointsIn (lineOf k (take (k .words) w))) (drop (k .words) w)) (k .words) (moved-length at w h))
 
   pub length-moves : (n at : ℕ) (w : List ℕ) → n * k .words ≤ length w → length (moves k n at w) ≡ length w
   length-moves zero at w h = unfold moves in refl
   length-moves (suc n) at w h =
       let p : k .words ≤ length w = omega arith in
       let q : n * k .words ≤ length (drop (k .words) w) = rw length-drop (omega arith) in
-      rw (moves-more k n at w, length-append, moved-length at w p, length-moves n (at + total (lineOf k (take (k .words) w))) (drop (k .words) w) q, length-drop) (omega arith)
+      rw (moves-more k n at w, length-append, moved-length at w p, length-moves n (at + pointsIn (lineOf k (take (k .words) w))) (drop (k .words) w) q, length-drop) (omega arith)
 
   module _ (t : List ℕ) (at : ℕ) where
     pub laid-count : 1 ≤ length t → word 0 (laidFrom at k t) ≡ word 0 t
@@ -67,7 +67,7 @@ module _ (k : Column) where
 -- ---- what is read of them
 
 -- of lines that follow one another a fact Q speaks part by part; f reads of a moved row what g reads of the row
-module _ {B : Type 0} (k : Column) (Q : ℕ → List Span → Type 0) (cut : (at : ℕ) (a b : List Span) → Q at (a ++ b) → Q at a × Q (at + total a) b) (f g : List ℕ → B)
+module _ {B : Type 0} (k : Column) (Q : ℕ → List Span → Type 0) (cut : (at : ℕ) (a b : List Span) → Q at (a ++ b) → Q at a × Q (at + pointsIn a) b) (f g : List ℕ → B)
     (same : (at : ℕ) (r : List ℕ) → length r ≡ k .words → Q at (lineOf k r) → f (moved k at r) ≡ g r) where
   reads-moves : (n at : ℕ) (w : List ℕ) → n * k .words ≤ length w → Q at (linesIn k n w) → reads (k .words) f n (moves k n at w) ≡ reads (k .words) g n w
   reads-moves zero at w h q = unfold reads in refl
@@ -78,13 +78,13 @@ module _ {B : Type 0} (k : Column) (Q : ℕ → List Span → Type 0) (cut : (at
       let d = cut at (lineOf k r) (linesIn k n (drop (k .words) w)) (rw (lines-more k n w) at q) in
       let e : f (take (k .words) (moves k (suc n) at w)) ≡ g r = rw (first-moved k n at w p) (same at r (row-length k w p) (d .0)) in
       let s : reads (k .words) f n (drop (k .words) (moves k (suc n) at w)) ≡ reads (k .words) g n (drop (k .words) w) =
-      rw (others-moved k n at w p) (reads-moves n (at + total (lineOf k r)) (drop (k .words) w) l (d .1)) in
+      rw (others-moved k n at w p) (reads-moves n (at + pointsIn (lineOf k r)) (drop (k .words) w) l (d .1)) in
       step f (moves k (suc n) at w) ∙ rw (e, s) (sym (step g w))
     where
       step : (d : List ℕ → B) (v : List ℕ) → reads (k .words) d (suc n) v ≡ d (take (k .words) v) ∷ reads (k .words) d n (drop (k .words) v)
       step d v = unfold reads in refl
 
-  pub rows-laid : (most at : ℕ) (t : List ℕ) → counted most (k .words) t ≡ true → Q at (lines k t) → rows (k .words) f (laidFrom at k t) ≡ rows (k .words) g t
+  pub rows-laid : (most at : ℕ) (t : List ℕ) → counted most (k .words) t ≡ true → Q at (columnLines k t) → rows (k .words) f (laidFrom at k t) ≡ rows (k .words) g t
   unfolding rows
   rows-laid most at t h q =
       let c = counted-facts most (k .words) t h in
@@ -103,7 +103,7 @@ unfolding linesIn reads each
 each-one s j zero w = refl
 each-one s j (suc n) w = rw (each-one s j n (drop s w))
 
-pub plain-lines : (s j : ℕ) (t : List ℕ) → lines (plain s j) t ≡ rows s (spanAt j) t
+pub plain-lines : (s j : ℕ) (t : List ℕ) → columnLines (plain s j) t ≡ rows s (spanAt j) t
 unfolding rows
 plain-lines s j t = lines-in (plain s j) t ∙ each-one s j (word 0 t) (drop 1 t)
 
@@ -113,5 +113,5 @@ edge-kept at [] h = absurd (omega arith)
 edge-kept at (x ∷ []) h = absurd (omega arith)
 edge-kept at (x ∷ y ∷ r) h = refl
 
-pub rights-kept : (most at : ℕ) (t : List ℕ) → counted most 7 t ≡ true → lines rightEdges (laidFrom at leftEdges t) ≡ lines rightEdges t
+pub rights-kept : (most at : ℕ) (t : List ℕ) → counted most 7 t ≡ true → columnLines rightEdges (laidFrom at leftEdges t) ≡ columnLines rightEdges t
 rights-kept most at t h = plain-lines 7 3 (laidFrom at leftEdges t) ∙ rows-kept leftEdges (spanAt 3) edge-kept most at t h ∙ sym (plain-lines 7 3 t)

@@ -23,7 +23,7 @@ use Rattle.tables.specs.Formed.{Span, spans, stored, allClear, formed}
 use Rattle.apart.specs.Marks.{trues, marked, unmarked, apartBy, within}
 use Rattle.apart.proofs.Marks.{within-cases, length-trues, marked-none, length-marked}
 use Rattle.apart.proofs.Clear.{apart-clear}
-use Rattle.layout.specs.Layout.{laid, total, gathered, laidOut, countedLines, linesFormed, Gatherable}
+use Rattle.layout.specs.Layout.{lineFloats, pointsIn, gathered, laidOut, countedLines, linesFormed, Gatherable}
 
 -- ---- as many points as lines have
 
@@ -60,8 +60,8 @@ free-marked m s h u = ⊎-elim none inside (within-cases (length m) s h)
         let y : free (a ++ (trues (s .size) ++ d)) ≡ free a + (free (trues (s .size)) + free d) = free-append a (trues (s .size) ++ d) ∙ ap (λ v. free a + v) (free-append (trues (s .size)) d) in
         omega (arith, ap free p, ap free q, x, y, free-trues (s .size), ap length k)
 
-free-room : (m : List Bool) (ss : List Span) → all (within (length m)) ss ≡ true → apartBy m ss ≡ true → total ss ≤ free m
-unfolding apartBy total
+free-room : (m : List Bool) (ss : List Span) → all (within (length m)) ss ≡ true → apartBy m ss ≡ true → pointsIn ss ≤ free m
+unfolding apartBy pointsIn
 free-room m [] h u = omega arith
 free-room m (s ∷ ss) h u =
     let f = all-head (within (length m)) s ss h in
@@ -71,7 +71,7 @@ free-room m (s ∷ ss) h u =
     omega (arith, free-marked m s f a, free-room (marked m s) ss g b)
 
 -- THE LAW: lines among n points of which no two share one have at most n
-pub clear-room : (n : ℕ) (ss : List Span) → all (within n) ss ≡ true → allClear ss ≡ true → total ss ≤ n
+pub clear-room : (n : ℕ) (ss : List Span) → all (within n) ss ≡ true → allClear ss ≡ true → pointsIn ss ≤ n
 clear-room n ss h c =
     let m = replicate n false in
     let w : all (within (length m)) ss ≡ true = rw (length-replicate n false) h in
@@ -89,7 +89,7 @@ all-within-more m n ss l h = all-weaken (within m) (within n) ss (within-more m 
 pub record Facts (t : Tables) : Type 0 where
   pub counts : countedLines t ≡ true
   pub fits : all (within (min 65536 (length (t .coordinates) / 3))) (spans t) ≡ true
-  pub room : total (spans t) ≤ min 65536 (length (t .coordinates) / 3)
+  pub room : pointsIn (spans t) ≤ min 65536 (length (t .coordinates) / 3)
 
 pub lines-facts : (t : Tables) → linesFormed t ≡ true → Facts t
 unfolding linesFormed
@@ -117,8 +117,8 @@ same-part {A} m a b x y e h = from x ∙ ap (λ v. drop a (take (a + b) v)) e �
         rw (take-take (a + b) m z h, drop-take a (a + b) z, k)
 
 -- lines that lie in p points and in q points, of lists that agree in as many
-same-laid : (m p q : ℕ) (x y : List Float) (ss : List Span) → min (p * 3) (q * 3) ≤ m → take m x ≡ take m y → all (within p) ss ≡ true → all (within q) ss ≡ true → laid x ss ≡ laid y ss
-unfolding laid each
+same-laid : (m p q : ℕ) (x y : List Float) (ss : List Span) → min (p * 3) (q * 3) ≤ m → take m x ≡ take m y → all (within p) ss ≡ true → all (within q) ss ≡ true → lineFloats x ss ≡ lineFloats y ss
+unfolding lineFloats each
 same-laid m p q x y [] n e h g = refl
 same-laid m p q x y (s ∷ ss) n e h g =
     rw (same (within-cases p s (all-head (within p) s ss h)) (within-cases q s (all-head (within q) s ss g)), same-laid m p q x y ss n e (all-tail (within p) s ss h) (all-tail (within q) s ss g))
@@ -139,7 +139,7 @@ begins work c =
     take-at (take m c) (drop (0 + length (take m c)) work) m (length-take-le m c (omega arith))
 
 -- a layout sees of `work` only its lines
-gathered-same : (x y : List Float) (t : Tables) → laid x (spans t) ≡ laid y (spans t) → gathered x t ≡ gathered y t
+gathered-same : (x y : List Float) (t : Tables) → lineFloats x (spans t) ≡ lineFloats y (spans t) → gathered x t ≡ gathered y t
 unfolding gathered
 gathered-same x y t e = rw e
 

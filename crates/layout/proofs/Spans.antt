@@ -19,7 +19,7 @@ use Rattle.tables.specs.View.{Tables, word, mark}
 use Rattle.tables.specs.Formed.{Span, spanAt, spans, counted, stored, clear, allClear}
 use Rattle.apart.specs.Marks.{within}
 use Rattle.apart.proofs.Marks.{counted-facts}
-use Rattle.layout.specs.Layout.{laid, total, Column, plain, centerlines, lineOf, lines, moved, moves, laidFrom, gathered, countedLines, Gatherable, boundaryLines, stopLines, leftEdges, rightEdges}
+use Rattle.layout.specs.Layout.{lineFloats, pointsIn, Column, plain, centerlines, lineOf, columnLines, moved, moves, laidFrom, gathered, countedLines, Gatherable, boundaryLines, stopLines, leftEdges, rightEdges}
 use Rattle.layout.proofs.Column.{linesIn, lines-in, lines-more, lines-none, length-laid}
 use Rattle.layout.proofs.Moves.{first-moved, others-moved, row-length, laid-count, laid-rows, counted-laid, rows-kept, rights-kept, plain-lines}
 use Rattle.layout.proofs.Stages.{spans-columns, counts}
@@ -31,15 +31,15 @@ unfoldable pub settled : ℕ → List Span → List Span
 settled at [] = []
 settled at (s ∷ ss) = record { start = at; size = s .size } ∷ settled (at + s .size) ss
 
-pub settled-append : (at : ℕ) (a b : List Span) → settled at (a ++ b) ≡ settled at a ++ settled (at + total a) b
-unfolding settled total
+pub settled-append : (at : ℕ) (a b : List Span) → settled at (a ++ b) ≡ settled at a ++ settled (at + pointsIn a) b
+unfolding settled pointsIn
 settled-append at [] b = rw add-zero
 settled-append at (s ∷ a) b =
-    let e : at + s .size + total a ≡ at + (s .size + total a) = omega arith in
+    let e : at + s .size + pointsIn a ≡ at + (s .size + pointsIn a) = omega arith in
     rw (settled-append (at + s .size) a b, e)
 
-pub total-settled : (at : ℕ) (ss : List Span) → total (settled at ss) ≡ total ss
-unfolding settled total
+pub total-settled : (at : ℕ) (ss : List Span) → pointsIn (settled at ss) ≡ pointsIn ss
+unfolding settled pointsIn
 total-settled at [] = refl
 total-settled at (s ∷ ss) = rw (total-settled (at + s .size) ss)
 
@@ -61,8 +61,8 @@ settled-clear at (s ∷ ss) =
     (behind (record { start = at; size = s .size }) (at + s .size) ss l) (settled-clear (at + s .size) ss)
 
 -- and among the points stored
-pub settled-stored : (c : List Float) (at : ℕ) (ss : List Span) → at + total ss ≤ min 65536 (length c / 3) → all (stored c) (settled at ss) ≡ true
-unfolding settled total
+pub settled-stored : (c : List Float) (at : ℕ) (ss : List Span) → at + pointsIn ss ≤ min 65536 (length c / 3) → all (stored c) (settled at ss) ≡ true
+unfolding settled pointsIn
 settled-stored c at [] h = all-nil (stored c)
 settled-stored c at (s ∷ ss) h =
     let m = min 65536 (length c / 3) in
@@ -80,10 +80,10 @@ module _ (k : Column) (row : (at : ℕ) (r : List ℕ) → length r ≡ k .words
       let l : n * k .words ≤ length (drop (k .words) w) = rw length-drop (omega arith) in
       let r = take (k .words) w in
       lines-more k n (moves k (suc n) at w)
-      ∙ rw (first-moved k n at w p, others-moved k n at w p, row at r (row-length k w p), in-moves n (at + total (lineOf k r)) (drop (k .words) w) l, lines-more k n w)
+      ∙ rw (first-moved k n at w p, others-moved k n at w p, row at r (row-length k w p), in-moves n (at + pointsIn (lineOf k r)) (drop (k .words) w) l, lines-more k n w)
       (sym (settled-append at (lineOf k r) (linesIn k n (drop (k .words) w))))
 
-  lines-laid : (most at : ℕ) (t : List ℕ) → counted most (k .words) t ≡ true → lines k (laidFrom at k t) ≡ settled at (lines k t)
+  lines-laid : (most at : ℕ) (t : List ℕ) → counted most (k .words) t ≡ true → columnLines k (laidFrom at k t) ≡ settled at (columnLines k t)
   lines-laid most at t h =
       let c = counted-facts most (k .words) t h in
       lines-in k (laidFrom at k t) ∙ rw (laid-count k t at (c .0), laid-rows k t at (c .0), lines-in k t) (in-moves (word 0 t) at (drop 1 t) (rw length-drop (omega arith)))
@@ -119,7 +119,7 @@ left-kept at (x ∷ []) h = absurd (omega arith)
 left-kept at (x ∷ y ∷ []) h = absurd (omega arith)
 left-kept at (x ∷ y ∷ z ∷ r) h = refl
 
-lefts-kept : (most at : ℕ) (t : List ℕ) → counted most 7 t ≡ true → lines leftEdges (laidFrom at rightEdges t) ≡ lines leftEdges t
+lefts-kept : (most at : ℕ) (t : List ℕ) → counted most 7 t ≡ true → columnLines leftEdges (laidFrom at rightEdges t) ≡ columnLines leftEdges t
 lefts-kept most at t h = plain-lines 7 1 (laidFrom at rightEdges t) ∙ rows-kept rightEdges (spanAt 1) left-kept most at t h ∙ sym (plain-lines 7 1 t)
 
 -- ---- all lines
@@ -131,21 +131,21 @@ gathered-spans w t g =
     let n = counts t g in
     let b = t .boundaries in
     let x = t .crosswalks in
-    let bs = lines boundaryLines b in
-    let cs = lines centerlines (t .lanes) in
-    let ss = lines stopLines (t .stop-lines) in
-    let ls = lines leftEdges x in
-    let rs = lines rightEdges x in
-    let i = total bs + total cs in
-    let j = i + total ss in
+    let bs = columnLines boundaryLines b in
+    let cs = columnLines centerlines (t .lanes) in
+    let ss = columnLines stopLines (t .stop-lines) in
+    let ls = columnLines leftEdges x in
+    let rs = columnLines rightEdges x in
+    let i = pointsIn bs + pointsIn cs in
+    let j = i + pointsIn ss in
     let y = laidFrom j leftEdges x in
     let ny = counted-laid leftEdges x j 4096 (n .1 .1 .1) in
     let eb = lines-laid boundaryLines (λ a r l. plain-row 5 2 a r (omega arith) l) 4096 0 b (n .1 .0) in
-    let ec = lines-laid centerlines center-row 1024 (total bs) (t .lanes) (n .0) in
+    let ec = lines-laid centerlines center-row 1024 (pointsIn bs) (t .lanes) (n .0) in
     let es = lines-laid stopLines (λ a r l. plain-row 4 1 a r (omega arith) l) 4096 i (t .stop-lines) (n .1 .1 .0) in
-    let el = lefts-kept 4096 (j + total ls) y ny ∙ lines-laid leftEdges (λ a r l. plain-row 7 1 a r (omega arith) l) 4096 j x (n .1 .1 .1) in
-    let er : lines rightEdges (laidFrom (j + total ls) rightEdges y) ≡ settled (j + total ls) rs =
-    lines-laid rightEdges (λ a r l. plain-row 7 3 a r (omega arith) l) 4096 (j + total ls) y ny ∙ ap (settled (j + total ls)) (rights-kept 4096 j x (n .1 .1 .1)) in
+    let el = lefts-kept 4096 (j + pointsIn ls) y ny ∙ lines-laid leftEdges (λ a r l. plain-row 7 1 a r (omega arith) l) 4096 j x (n .1 .1 .1) in
+    let er : columnLines rightEdges (laidFrom (j + pointsIn ls) rightEdges y) ≡ settled (j + pointsIn ls) rs =
+    lines-laid rightEdges (λ a r l. plain-row 7 3 a r (omega arith) l) 4096 (j + pointsIn ls) y ny ∙ ap (settled (j + pointsIn ls)) (rights-kept 4096 j x (n .1 .1 .1)) in
     spans-columns (gathered w t)
     ∙ joined eb ec es el er
     ∙ sym (cut bs cs ss ls rs)
@@ -155,33 +155,33 @@ gathered-spans w t g =
     joined p q u v x = cc
 
     cut : (b c s l r : List Span) → settled 0 (b ++ (c ++ (s ++ (l ++ r))))
-        ≡ settled 0 b ++ (settled (total b) c ++ (settled (total b + total c) s ++ (settled (total b + total c + total s) l ++ settled (total b + total c + total s + total l) r)))
+        ≡ settled 0 b ++ (settled (pointsIn b) c ++ (settled (pointsIn b + pointsIn c) s ++ (settled (pointsIn b + pointsIn c + pointsIn s) l ++ settled (pointsIn b + pointsIn c + pointsIn s + pointsIn l) r)))
     cut b c s l r =
         rw (
           settled-append 0 b (c ++ (s ++ (l ++ r))),
-          zero-add (total b),
-          settled-append (total b) c (s ++ (l ++ r)),
-          settled-append (total b + total c) s (l ++ r),
-          settled-append (total b + total c + total s) l r,
+          zero-add (pointsIn b),
+          settled-append (pointsIn b) c (s ++ (l ++ r)),
+          settled-append (pointsIn b + pointsIn c) s (l ++ r),
+          settled-append (pointsIn b + pointsIn c + pointsIn s) l r,
         )
 
 module _ (w : List Float) (t : Tables) (g : Gatherable w t) where
-  fits : 0 + length (laid w (spans t)) ≤ length (t .coordinates)
+  fits : 0 + length (lineFloats w (spans t)) ≤ length (t .coordinates)
   fits = omega (arith, length-laid w (spans t) (g .fits), g .room)
 
   pub length-gathered : length (gathered w t .coordinates) ≡ length (t .coordinates)
   unfolding gathered
-  length-gathered = length-over (t .coordinates) 0 (laid w (spans t)) fits
+  length-gathered = length-over (t .coordinates) 0 (lineFloats w (spans t)) fits
 
   -- no stored point belongs to two lines
   pub gathered-clear : allClear (spans (gathered w t)) ≡ true
   gathered-clear = rw (gathered-spans w t (g .counts)) (settled-clear 0 (spans t))
 
   -- each line's points lie among those stored
-  pub gathered-stored : total (spans t) ≤ 65536 → all (stored (gathered w t .coordinates)) (spans (gathered w t)) ≡ true
+  pub gathered-stored : pointsIn (spans t) ≤ 65536 → all (stored (gathered w t .coordinates)) (spans (gathered w t)) ≡ true
   gathered-stored h =
-      let l : 0 + total (spans t) ≤ min 65536 (length (gathered w t .coordinates) / 3) = omega (arith, length-gathered, g .room) in
+      let l : 0 + pointsIn (spans t) ≤ min 65536 (length (gathered w t .coordinates) / 3) = omega (arith, length-gathered, g .room) in
       rw (gathered-spans w t (g .counts)) (settled-stored (gathered w t .coordinates) 0 (spans t) l)
 
-  pub gathered-total : total (spans (gathered w t)) ≡ total (spans t)
+  pub gathered-total : pointsIn (spans (gathered w t)) ≡ pointsIn (spans t)
   gathered-total = rw (gathered-spans w t (g .counts)) (total-settled 0 (spans t))

@@ -21,7 +21,7 @@ use Rattle.entities.specs.Records.{Line, Lane, Boundary, Road, Junction, Rule, 
 use Rattle.tables.specs.View.{Tables, word, mark, refAt, optionAt, slotAt, idsAt, part, lineAt, optionLineAt, laneOf, boundaryOf, stopLineOf, crosswalkOf, roadOf, junctionOf, ruleOf, rows, view}
 use Rattle.tables.specs.Formed.{Span, spanAt, spans}
 use Rattle.apart.specs.Marks.{within}
-use Rattle.layout.specs.Layout.{laid, total, centerlines, lineOf, lines, moved, laidFrom, gathered, laidOut, pointing, Gatherable, boundaryLines, stopLines, leftEdges, rightEdges}
+use Rattle.layout.specs.Layout.{lineFloats, pointsIn, centerlines, lineOf, columnLines, moved, laidFrom, gathered, laidOut, pointing, Gatherable, boundaryLines, stopLines, leftEdges, rightEdges}
 use Rattle.layout.proofs.Column.{total-append, laid-append, length-laid}
 use Rattle.layout.proofs.Moves.{rows-laid, rights-kept, counted-laid}
 use Rattle.layout.proofs.Stages.{spans-columns, counts}
@@ -30,30 +30,30 @@ use Rattle.layout.proofs.Stages.{spans-columns, counts}
 
 pub record Held (c w : List Float) (at : ℕ) (ss : List Span) : Type 0 where
   pub fits : all (within (length w / 3)) ss ≡ true
-  pub same : part c at (total ss) ≡ laid w ss
+  pub same : part c at (pointsIn ss) ≡ lineFloats w ss
 
 module _ (c w : List Float) where
   -- part by part
-  pub held-cut : (at : ℕ) (a b : List Span) → Held c w at (a ++ b) → Held c w at a × Held c w (at + total a) b
+  pub held-cut : (at : ℕ) (a b : List Span) → Held c w at (a ++ b) → Held c w at a × Held c w (at + pointsIn a) b
   unfolding part
   held-cut at a b h =
       let f = within (length w / 3) in
       let g : (all f a && all f b) ≡ true = sym (all-split f a b) ∙ h .fits in
       let fa = and-fst (all f a) (all f b) g in
-      let l : length (laid w a) ≡ total a * 3 = length-laid w a fa in
-      let e : take (total (a ++ b) * 3) (drop (at * 3) c) ≡ laid w a ++ laid w b = h .same ∙ laid-append w a b in
-      let n : total a * 3 ≤ total (a ++ b) * 3 = omega (arith, total-append a b) in
-      let m : total (a ++ b) * 3 - total a * 3 ≡ total b * 3 = omega (arith, total-append a b) in
-      let k : at * 3 + total a * 3 ≡ (at + total a) * 3 = omega arith in
-      let p : take (total a * 3) (drop (at * 3) c) ≡ laid w a =
-      sym (take-take (total a * 3) (total (a ++ b) * 3) (drop (at * 3) c) n) ∙ ap (take (total a * 3)) e ∙ take-at (laid w a) (laid w b) (total a * 3) l in
-      let d : drop (total a * 3) (take (total (a ++ b) * 3) (drop (at * 3) c)) ≡ take (total b * 3) (drop ((at + total a) * 3) c) =
-      drop-take (total a * 3) (total (a ++ b) * 3) (drop (at * 3) c) ∙ rw (m, drop-drop, k) in
-      let q : take (total b * 3) (drop ((at + total a) * 3) c) ≡ laid w b = sym d ∙ ap (drop (total a * 3)) e ∙ drop-at (laid w a) (laid w b) (total a * 3) l in
+      let l : length (lineFloats w a) ≡ pointsIn a * 3 = length-laid w a fa in
+      let e : take (pointsIn (a ++ b) * 3) (drop (at * 3) c) ≡ lineFloats w a ++ lineFloats w b = h .same ∙ laid-append w a b in
+      let n : pointsIn a * 3 ≤ pointsIn (a ++ b) * 3 = omega (arith, total-append a b) in
+      let m : pointsIn (a ++ b) * 3 - pointsIn a * 3 ≡ pointsIn b * 3 = omega (arith, total-append a b) in
+      let k : at * 3 + pointsIn a * 3 ≡ (at + pointsIn a) * 3 = omega arith in
+      let p : take (pointsIn a * 3) (drop (at * 3) c) ≡ lineFloats w a =
+      sym (take-take (pointsIn a * 3) (pointsIn (a ++ b) * 3) (drop (at * 3) c) n) ∙ ap (take (pointsIn a * 3)) e ∙ take-at (lineFloats w a) (lineFloats w b) (pointsIn a * 3) l in
+      let d : drop (pointsIn a * 3) (take (pointsIn (a ++ b) * 3) (drop (at * 3) c)) ≡ take (pointsIn b * 3) (drop ((at + pointsIn a) * 3) c) =
+      drop-take (pointsIn a * 3) (pointsIn (a ++ b) * 3) (drop (at * 3) c) ∙ rw (m, drop-drop, k) in
+      let q : take (pointsIn b * 3) (drop ((at + pointsIn a) * 3) c) ≡ lineFloats w b = sym d ∙ ap (drop (pointsIn a * 3)) e ∙ drop-at (lineFloats w a) (lineFloats w b) (pointsIn a * 3) l in
       (record { fits = fa; same = p }, record { fits = and-snd (all f a) (all f b) g; same = q })
 
   held-one : (at : ℕ) (s : Span) → Held c w at (s ∷ []) → part c at (s .size) ≡ part w (s .start) (s .size)
-  unfolding total laid each
+  unfolding pointsIn lineFloats each
   held-one at s h = rw (add-zero, append-nil) at (h .same)
 
   -- ---- rows read from c and from w
@@ -137,9 +137,9 @@ module _ (c w : List Float) where
 -- ---- the theorem
 
 -- lines laid out are held from point 0 on
-pub held-laid : (w c : List Float) (ss : List Span) → all (within (length w / 3)) ss ≡ true → Held (over c 0 (laid w ss)) w 0 ss
+pub held-laid : (w c : List Float) (ss : List Span) → all (within (length w / 3)) ss ≡ true → Held (over c 0 (lineFloats w ss)) w 0 ss
 unfolding part over
-held-laid w c ss f = record { fits = f; same = take-at (laid w ss) (drop (0 + length (laid w ss)) c) (total ss * 3) (length-laid w ss f) }
+held-laid w c ss f = record { fits = f; same = take-at (lineFloats w ss) (drop (0 + length (lineFloats w ss)) c) (pointsIn ss * 3) (length-laid w ss f) }
 
 held-as : (c w : List Float) (at : ℕ) (ss us : List Span) → ss ≡ us → Held c w at ss → Held c w at us
 held-as c w at ss us e h = rw e at h
@@ -153,30 +153,30 @@ same-map l l₁ b b₁ d j r s s₁ x x₁ p q u v = cc
 pub gathered-view : (w : List Float) (t : Tables) → Gatherable w t → view (gathered w t) ≡ view (pointing w t)
 unfolding gathered view crosswalkOf
 gathered-view w t g =
-    let c = over (t .coordinates) 0 (laid w (spans t)) in
+    let c = over (t .coordinates) 0 (lineFloats w (spans t)) in
     let n = counts t (g .counts) in
-    let bs = lines boundaryLines (t .boundaries) in
-    let cs = lines centerlines (t .lanes) in
-    let ss = lines stopLines (t .stop-lines) in
-    let ls = lines leftEdges (t .crosswalks) in
-    let rs = lines rightEdges (t .crosswalks) in
+    let bs = columnLines boundaryLines (t .boundaries) in
+    let cs = columnLines centerlines (t .lanes) in
+    let ss = columnLines stopLines (t .stop-lines) in
+    let ls = columnLines leftEdges (t .crosswalks) in
+    let rs = columnLines rightEdges (t .crosswalks) in
     let h0 = held-cut c w 0 bs (cs ++ (ss ++ (ls ++ rs))) (held-as c w 0 (spans t) (bs ++ (cs ++ (ss ++ (ls ++ rs)))) (spans-columns t) (held-laid w (t .coordinates) (spans t) (g .fits))) in
-    let b0 : Held c w (total bs) (cs ++ (ss ++ (ls ++ rs))) = rw (← zero-add (total bs)) (h0 .1) in
-    let h1 = held-cut c w (total bs) cs (ss ++ (ls ++ rs)) b0 in
-    let h2 = held-cut c w (total bs + total cs) ss (ls ++ rs) (h1 .1) in
-    let h3 = held-cut c w (total bs + total cs + total ss) ls rs (h2 .1) in
-    let x = laidFrom (total bs + total cs + total ss) leftEdges (t .crosswalks) in
-    let k : Held c w (total bs + total cs + total ss + total ls) (lines rightEdges x) = rw (rights-kept 4096 (total bs + total cs + total ss) (t .crosswalks) (n .1 .1 .1)) (h3 .1) in
-    let nx = counted-laid leftEdges (t .crosswalks) (total bs + total cs + total ss) 4096 (n .1 .1 .1) in
+    let b0 : Held c w (pointsIn bs) (cs ++ (ss ++ (ls ++ rs))) = rw (← zero-add (pointsIn bs)) (h0 .1) in
+    let h1 = held-cut c w (pointsIn bs) cs (ss ++ (ls ++ rs)) b0 in
+    let h2 = held-cut c w (pointsIn bs + pointsIn cs) ss (ls ++ rs) (h1 .1) in
+    let h3 = held-cut c w (pointsIn bs + pointsIn cs + pointsIn ss) ls rs (h2 .1) in
+    let x = laidFrom (pointsIn bs + pointsIn cs + pointsIn ss) leftEdges (t .crosswalks) in
+    let k : Held c w (pointsIn bs + pointsIn cs + pointsIn ss + pointsIn ls) (columnLines rightEdges x) = rw (rights-kept 4096 (pointsIn bs + pointsIn cs + pointsIn ss) (t .crosswalks) (n .1 .1 .1)) (h3 .1) in
+    let nx = counted-laid leftEdges (t .crosswalks) (pointsIn bs + pointsIn cs + pointsIn ss) 4096 (n .1 .1 .1) in
     let eb = rows-laid boundaryLines (Held c w) (held-cut c w) (boundaryOf c) (boundaryOf w) (boundary-same c w) 4096 0 (t .boundaries) (n .1 .0) (h0 .0) in
-    let el = rows-laid centerlines (Held c w) (held-cut c w) (laneOf c) (laneOf w) (lane-same c w) 1024 (total bs) (t .lanes) (n .0) (h1 .0) in
-    let es = rows-laid stopLines (Held c w) (held-cut c w) (stopLineOf c) (stopLineOf w) (stop-same c w) 4096 (total bs + total cs) (t .stop-lines) (n .1 .1 .0) (h2 .0) in
-    let er = rows-laid rightEdges (Held c w) (held-cut c w) (crosswalkFrom c w c c) (crosswalkFrom c w c w) (right-same c w) 4096 (total bs + total cs + total ss + total ls) x nx k in
-    let ex = rows-laid leftEdges (Held c w) (held-cut c w) (crosswalkFrom c w c w) (crosswalkFrom c w w w) (left-same c w) 4096 (total bs + total cs + total ss) (t .crosswalks) (n .1 .1 .1) (h3 .0) in
-    same-map (rows 52 (laneOf c) (laidFrom (total bs) centerlines (t .lanes))) (rows 52 (laneOf w) (t .lanes)) (rows 5 (boundaryOf c) (laidFrom 0 boundaryLines (t .boundaries))) (rows 5 (boundaryOf w) (t .boundaries))
+    let el = rows-laid centerlines (Held c w) (held-cut c w) (laneOf c) (laneOf w) (lane-same c w) 1024 (pointsIn bs) (t .lanes) (n .0) (h1 .0) in
+    let es = rows-laid stopLines (Held c w) (held-cut c w) (stopLineOf c) (stopLineOf w) (stop-same c w) 4096 (pointsIn bs + pointsIn cs) (t .stop-lines) (n .1 .1 .0) (h2 .0) in
+    let er = rows-laid rightEdges (Held c w) (held-cut c w) (crosswalkFrom c w c c) (crosswalkFrom c w c w) (right-same c w) 4096 (pointsIn bs + pointsIn cs + pointsIn ss + pointsIn ls) x nx k in
+    let ex = rows-laid leftEdges (Held c w) (held-cut c w) (crosswalkFrom c w c w) (crosswalkFrom c w w w) (left-same c w) 4096 (pointsIn bs + pointsIn cs + pointsIn ss) (t .crosswalks) (n .1 .1 .1) (h3 .0) in
+    same-map (rows 52 (laneOf c) (laidFrom (pointsIn bs) centerlines (t .lanes))) (rows 52 (laneOf w) (t .lanes)) (rows 5 (boundaryOf c) (laidFrom 0 boundaryLines (t .boundaries))) (rows 5 (boundaryOf w) (t .boundaries))
     (rows 68 roadOf (t .roads)) (rows 69 junctionOf (t .junctions)) (rows 330 ruleOf (t .rules))
-    (rows 4 (stopLineOf c) (laidFrom (total bs + total cs) stopLines (t .stop-lines))) (rows 4 (stopLineOf w) (t .stop-lines))
-    (rows 7 (crosswalkOf c) (laidFrom (total bs + total cs + total ss + total ls) rightEdges x)) (rows 7 (crosswalkOf w) (t .crosswalks))
+    (rows 4 (stopLineOf c) (laidFrom (pointsIn bs + pointsIn cs) stopLines (t .stop-lines))) (rows 4 (stopLineOf w) (t .stop-lines))
+    (rows 7 (crosswalkOf c) (laidFrom (pointsIn bs + pointsIn cs + pointsIn ss + pointsIn ls) rightEdges x)) (rows 7 (crosswalkOf w) (t .crosswalks))
     el eb es (er ∙ ex)
 
 -- and of lines laid out from where they lie

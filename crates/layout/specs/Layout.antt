@@ -19,13 +19,13 @@ use Rattle.rules.specs.Limits.{maxBoundaries, maxCrosswalks, maxLanes, maxStopL
 -- ---- lines one after another
 
 -- the coordinates of lines that lie in `work`, in their order
-unfoldable pub laid : List Float → List Span → List Float
-laid work ss = each (λ s. part work (s .start) (s .size)) ss
+unfoldable pub lineFloats : List Float → List Span → List Float
+lineFloats work ss = each (λ s. part work (s .start) (s .size)) ss
 
 -- how many points they have
-unfoldable pub total : List Span → ℕ
-total [] = 0
-total (s ∷ ss) = s .size + total ss
+unfoldable pub pointsIn : List Span → ℕ
+pointsIn [] = 0
+pointsIn (s ∷ ss) = s .size + pointsIn ss
 
 -- ---- a column of lines in a table
 
@@ -60,8 +60,8 @@ abbrev pub lineOf : Column → List ℕ → List Span
 lineOf k w = cond (k .has w) (spanAt (k .start) w ∷ []) []
 
 -- the lines of a table's column
-unfoldable pub lines : Column → List ℕ → List Span
-lines k t = each (λ s. s) (rows (k .words) (lineOf k) t)
+unfoldable pub columnLines : Column → List ℕ → List Span
+columnLines k t = each (λ s. s) (rows (k .words) (lineOf k) t)
 
 -- a row whose line starts at `at`; one without a line stays
 abbrev pub moved : Column → ℕ → List ℕ → List ℕ
@@ -70,7 +70,7 @@ moved k at w = cond (k .has w) (set w (k .start) at) w
 -- n rows whose lines follow one another from `at` on; what lies behind the rows stays
 unfoldable pub moves : Column → ℕ → ℕ → List ℕ → List ℕ
 moves k zero at w = w
-moves k (suc n) at w = let r = take (k .words) w in moved k at r ++ moves k n (at + total (lineOf k r)) (drop (k .words) w)
+moves k (suc n) at w = let r = take (k .words) w in moved k at r ++ moves k n (at + pointsIn (lineOf k r)) (drop (k .words) w)
 
 -- a table whose lines follow one another from `at` on
 unfoldable pub laidFrom : ℕ → Column → List ℕ → List ℕ
@@ -82,10 +82,10 @@ laidFrom at k t = take 1 t ++ moves k (word rowCount t) at (drop 1 t)
 -- right edges. The coordinates are the lines in order, then what was there.
 unfoldable pub gathered : List Float → Tables → Tables
 gathered work t =
-    let centers = total (lines boundaryLines (t .boundaries)) in
-    let stops = centers + total (lines centerlines (t .lanes)) in
-    let lefts = stops + total (lines stopLines (t .stop-lines)) in
-    let rights = lefts + total (lines leftEdges (t .crosswalks)) in
+    let centers = pointsIn (columnLines boundaryLines (t .boundaries)) in
+    let stops = centers + pointsIn (columnLines centerlines (t .lanes)) in
+    let lefts = stops + pointsIn (columnLines stopLines (t .stop-lines)) in
+    let rights = lefts + pointsIn (columnLines leftEdges (t .crosswalks)) in
     record {
       lanes = laidFrom centers centerlines (t .lanes);
       boundaries = laidFrom 0 boundaryLines (t .boundaries);
@@ -94,7 +94,7 @@ gathered work t =
       rules = t .rules;
       stop-lines = laidFrom stops stopLines (t .stop-lines);
       crosswalks = laidFrom rights rightEdges (laidFrom lefts leftEdges (t .crosswalks));
-      coordinates = over (t .coordinates) 0 (laid work (spans t));
+      coordinates = over (t .coordinates) 0 (lineFloats work (spans t));
     }
 
 -- the lines of a map laid out anew from where they lie
@@ -130,7 +130,7 @@ countedLines t = counted maxLanes laneWords (t .lanes) && counted maxBoundaries 
 pub record Gatherable (work : List Float) (t : Tables) : Type 0 where
   pub counts : countedLines t ≡ true
   pub fits : all (within (length work / 3)) (spans t) ≡ true
-  pub room : total (spans t) * 3 ≤ length (t .coordinates)
+  pub room : pointsIn (spans t) * 3 ≤ length (t .coordinates)
 
 -- what `formed` says of the lines: counts are kept, each line is stored, no two share a point
 unfoldable pub linesFormed : Tables → Bool
@@ -141,6 +141,6 @@ abbrev pub endOf : Span → ℕ
 endOf s = cond (eqb (s .size) 0) 0 (s .start + s .size)
 
 -- the point behind the last that a line has
-unfoldable pub reach : List Span → ℕ
-reach [] = 0
-reach (s ∷ ss) = max (endOf s) (reach ss)
+unfoldable pub farthest : List Span → ℕ
+farthest [] = 0
+farthest (s ∷ ss) = max (endOf s) (farthest ss)

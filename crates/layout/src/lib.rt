@@ -10,7 +10,7 @@ ghost use Rattle.lists.specs.Rows.{over};
 ghost use Rattle.tables.specs.View.{word, part};
 ghost use Rattle.tables.specs.Formed.{spanAt, spans, counted};
 ghost use Rattle.apart.specs.Marks.{within};
-ghost use Rattle.layout.specs.Layout.{laid, total, plain, centerlines, lineOf, lines, moved, laidFrom, gathered, laidOut, lineTables, Gatherable, countedLines, linesFormed, endOf, reach};
+ghost use Rattle.layout.specs.Layout.{lineFloats, pointsIn, plain, centerlines, lineOf, columnLines, moved, laidFrom, gathered, laidOut, lineTables, Gatherable, countedLines, linesFormed, endOf, farthest};
 use tables::BOUNDARY;
 use tables::BOUNDARY_START;
 use tables::CROSSWALK;
@@ -81,8 +81,8 @@ fn gather(
     coordinates: &mut [f64],
     at: usize,
 ) -> usize
-    requires { ⌜ (offset + 2 ≤ stride) × ((stride ≤ 512) × ((counted 4096 stride (now rows) ≡ true) × ((all (within (length (now work) / 3)) (lines (plain stride offset) (now rows)) ≡ true) × ((at + total (lines (plain stride offset) (now rows))) * 3 ≤ length (now coordinates))))) ⌝ }
-    ensures { λ r. ⌜ (r ≡ at + total (lines (plain stride offset) (now (rows .entry)))) × ((now (rows .exit) ≡ laidFrom at (plain stride offset) (now (rows .entry))) × (now (coordinates .exit) ≡ over (now (coordinates .entry)) (at * 3) (laid (now (work .entry)) (lines (plain stride offset) (now (rows .entry)))))) ⌝ }
+    requires { ⌜ (offset + 2 ≤ stride) × ((stride ≤ 512) × ((counted 4096 stride (now rows) ≡ true) × ((all (within (length (now work) / 3)) (columnLines (plain stride offset) (now rows)) ≡ true) × ((at + pointsIn (columnLines (plain stride offset) (now rows))) * 3 ≤ length (now coordinates))))) ⌝ }
+    ensures { λ r. ⌜ (r ≡ at + pointsIn (columnLines (plain stride offset) (now (rows .entry)))) × ((now (rows .exit) ≡ laidFrom at (plain stride offset) (now (rows .entry))) × (now (coordinates .exit) ≡ over (now (coordinates .entry)) (at * 3) (lineFloats (now (work .entry)) (columnLines (plain stride offset) (now (rows .entry)))))) ⌝ }
 {
     let n = rows[0] as usize;
     let mut place = at;
@@ -102,8 +102,8 @@ fn gather_center(
     coordinates: &mut [f64],
     at: usize,
 ) -> usize
-    requires { ⌜ (row + 52 ≤ length (now lanes)) × ((all (within (length (now work) / 3)) (lineOf centerlines (take 52 (drop row (now lanes)))) ≡ true) × ((at + total (lineOf centerlines (take 52 (drop row (now lanes))))) * 3 ≤ length (now coordinates))) ⌝ }
-    ensures { λ r. ⌜ (r ≡ at + total (lineOf centerlines (take 52 (drop row (now (lanes .entry)))))) × ((now (lanes .exit) ≡ over (now (lanes .entry)) row (moved centerlines at (take 52 (drop row (now (lanes .entry)))))) × (now (coordinates .exit) ≡ over (now (coordinates .entry)) (at * 3) (laid (now (work .entry)) (lineOf centerlines (take 52 (drop row (now (lanes .entry)))))))) ⌝ }
+    requires { ⌜ (row + 52 ≤ length (now lanes)) × ((all (within (length (now work) / 3)) (lineOf centerlines (take 52 (drop row (now lanes)))) ≡ true) × ((at + pointsIn (lineOf centerlines (take 52 (drop row (now lanes))))) * 3 ≤ length (now coordinates))) ⌝ }
+    ensures { λ r. ⌜ (r ≡ at + pointsIn (lineOf centerlines (take 52 (drop row (now (lanes .entry)))))) × ((now (lanes .exit) ≡ over (now (lanes .entry)) row (moved centerlines at (take 52 (drop row (now (lanes .entry)))))) × (now (coordinates .exit) ≡ over (now (coordinates .entry)) (at * 3) (lineFloats (now (work .entry)) (lineOf centerlines (take 52 (drop row (now (lanes .entry)))))))) ⌝ }
 {
     if lanes[row + LANE_CENTERLINE] == 0 {
         return at;
@@ -113,8 +113,8 @@ fn gather_center(
 
 // The explicit centrelines of the lanes, one after another from point `at` on; the point behind them.
 fn gather_centers(lanes: &mut [u64], work: &[f64], coordinates: &mut [f64], at: usize) -> usize
-    requires { ⌜ (counted 1024 52 (now lanes) ≡ true) × ((all (within (length (now work) / 3)) (lines centerlines (now lanes)) ≡ true) × ((at + total (lines centerlines (now lanes))) * 3 ≤ length (now coordinates))) ⌝ }
-    ensures { λ r. ⌜ (r ≡ at + total (lines centerlines (now (lanes .entry)))) × ((now (lanes .exit) ≡ laidFrom at centerlines (now (lanes .entry))) × (now (coordinates .exit) ≡ over (now (coordinates .entry)) (at * 3) (laid (now (work .entry)) (lines centerlines (now (lanes .entry)))))) ⌝ }
+    requires { ⌜ (counted 1024 52 (now lanes) ≡ true) × ((all (within (length (now work) / 3)) (columnLines centerlines (now lanes)) ≡ true) × ((at + pointsIn (columnLines centerlines (now lanes))) * 3 ≤ length (now coordinates))) ⌝ }
+    ensures { λ r. ⌜ (r ≡ at + pointsIn (columnLines centerlines (now (lanes .entry)))) × ((now (lanes .exit) ≡ laidFrom at centerlines (now (lanes .entry))) × (now (coordinates .exit) ≡ over (now (coordinates .entry)) (at * 3) (lineFloats (now (work .entry)) (columnLines centerlines (now (lanes .entry)))))) ⌝ }
 {
     let n = lanes[0] as usize;
     let mut place = at;
@@ -183,8 +183,8 @@ fn line_reach(start: u64, size: u64, most: usize) -> usize
 
 // The same of the lines of a column.
 fn column_reach(t: &[u64], stride: usize, offset: usize, most: usize) -> usize
-    requires { ⌜ (offset + 2 ≤ stride) × ((stride ≤ 512) × ((counted 4096 stride (now t) ≡ true) × (all (within 65536) (lines (plain stride offset) (now t)) ≡ true))) ⌝ }
-    ensures { λ r. ⌜ r ≡ max most (reach (lines (plain stride offset) (now (t .entry)))) ⌝ }
+    requires { ⌜ (offset + 2 ≤ stride) × ((stride ≤ 512) × ((counted 4096 stride (now t) ≡ true) × (all (within 65536) (columnLines (plain stride offset) (now t)) ≡ true))) ⌝ }
+    ensures { λ r. ⌜ r ≡ max most (farthest (columnLines (plain stride offset) (now (t .entry)))) ⌝ }
 {
     let n = t[0] as usize;
     let mut far = most;
@@ -200,7 +200,7 @@ fn column_reach(t: &[u64], stride: usize, offset: usize, most: usize) -> usize
 // The same of a lane's explicit centreline, where its mark says that there is one.
 fn center_reach(lanes: &[u64], row: usize, most: usize) -> usize
     requires { ⌜ (row + 52 ≤ length (now lanes)) × (all (within 65536) (lineOf centerlines (take 52 (drop row (now lanes)))) ≡ true) ⌝ }
-    ensures { λ r. ⌜ r ≡ max most (reach (lineOf centerlines (take 52 (drop row (now (lanes .entry)))))) ⌝ }
+    ensures { λ r. ⌜ r ≡ max most (farthest (lineOf centerlines (take 52 (drop row (now (lanes .entry)))))) ⌝ }
 {
     if lanes[row + LANE_CENTERLINE] == 0 {
         return most;
@@ -211,8 +211,8 @@ fn center_reach(lanes: &[u64], row: usize, most: usize) -> usize
 
 // The same of the explicit centrelines of the lanes.
 fn centers_reach(lanes: &[u64], most: usize) -> usize
-    requires { ⌜ (counted 1024 52 (now lanes) ≡ true) × (all (within 65536) (lines centerlines (now lanes)) ≡ true) ⌝ }
-    ensures { λ r. ⌜ r ≡ max most (reach (lines centerlines (now (lanes .entry)))) ⌝ }
+    requires { ⌜ (counted 1024 52 (now lanes) ≡ true) × (all (within 65536) (columnLines centerlines (now lanes)) ≡ true) ⌝ }
+    ensures { λ r. ⌜ r ≡ max most (farthest (columnLines centerlines (now (lanes .entry)))) ⌝ }
 {
     let n = lanes[0] as usize;
     let mut far = most;
@@ -232,7 +232,7 @@ pub fn lines_reach(
     crosswalks: &[u64],
 ) -> usize
     requires { ⌜ (countedLines (lineTables (now lanes) (now boundaries) (now «stop_lines») (now crosswalks) []) ≡ true) × (all (within 65536) (spans (lineTables (now lanes) (now boundaries) (now «stop_lines») (now crosswalks) [])) ≡ true) ⌝ }
-    ensures { λ r. ⌜ r ≡ reach (spans (lineTables (now (lanes .entry)) (now (boundaries .entry)) (now («stop_lines» .entry)) (now (crosswalks .entry)) [])) ⌝ }
+    ensures { λ r. ⌜ r ≡ farthest (spans (lineTables (now (lanes .entry)) (now (boundaries .entry)) (now («stop_lines» .entry)) (now (crosswalks .entry)) [])) ⌝ }
 {
     let centers = column_reach(boundaries, BOUNDARY, BOUNDARY_START, 0);
     let stops = centers_reach(lanes, centers);

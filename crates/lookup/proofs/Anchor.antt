@@ -21,31 +21,31 @@ use Rattle.rules.specs.Names as Names
 use Rattle.rules.specs.Map.{mid, halfWay, stopAnchor, crossAnchor, crosswalkIn, stop-line, crosswalk, anchorBy, rule-anchor}
 use Rattle.tables.specs.View.{word, part, rows, ruleOf, stopLineOf, crosswalkOf}
 use Rattle.tables.specs.Formed.{counted}
-use Rattle.map.proofs.Tables.{row-room}
+use Rattle.row_tests.proofs.Tables.{row-room}
 use Rattle.lookup.specs.declared.OptionPoint2.{OptionPoint2}
 use Rattle.lookup.specs.declared.OptionPoint2.the-variants as A
-use Rattle.lookup.specs.Lookup.{placeOf, rowAt, crossed, pointOf, optionOf}
+use Rattle.lookup.specs.Lookup.{placeOf, rowAt, crossed, pointGiven, optionOf}
 use Rattle.lookup.proofs.Laws.{find-at, find-none, word-in, row-line}
 
 -- ---- points
 
 module _ (ps : Line) (r : OptionPoint3) (e : r ≡ point-at-fraction ps halfᶠ) where
-  pub mid-none : r ≡ Names.NoPoint → A.None ≡ pointOf (mid ps)
+  pub mid-none : r ≡ Names.NoPoint → A.None ≡ pointGiven (mid ps)
   unfolding mid
   mid-none f = rw (← e, f)
 
-  pub mid-some : (p : Point3) (q : Point2) → r ≡ Names.APoint p → q ≡ xy p → A.Some q ≡ pointOf (mid ps)
+  pub mid-some : (p : Point3) (q : Point2) → r ≡ Names.APoint p → q ≡ xy p → A.Some q ≡ pointGiven (mid ps)
   unfolding mid
   mid-some p q f g = rw (← e, f, g)
 
-pub half-some : (p q : OptionPoint2) (a b r : Point2) → p ≡ A.Some a → q ≡ A.Some b → r ≡ lerp2 a b halfᶠ → A.Some r ≡ pointOf (halfWay (optionOf p) (optionOf q))
+pub half-some : (p q : OptionPoint2) (a b r : Point2) → p ≡ A.Some a → q ≡ A.Some b → r ≡ lerp2 a b halfᶠ → A.Some r ≡ pointGiven (halfWay (optionOf p) (optionOf q))
 half-some p q a b r e f g = rw (e, f, g)
 
-option-point : (o : Option Point2) → optionOf (pointOf o) ≡ o
+option-point : (o : Option Point2) → optionOf (pointGiven o) ≡ o
 option-point none = refl
 option-point (some p) = refl
 
-half-points : (p q : OptionPoint2) (a b : Option Point2) → p ≡ pointOf a → q ≡ pointOf b → halfWay (optionOf p) (optionOf q) ≡ halfWay a b
+half-points : (p q : OptionPoint2) (a b : Option Point2) → p ≡ pointGiven a → q ≡ pointGiven b → halfWay (optionOf p) (optionOf q) ≡ halfWay a b
 half-points p q a b e f = rw (e, f, option-point a, option-point b)
 
 -- ---- stop lines and crosswalks
@@ -55,7 +55,7 @@ module _ (c : List Float) (t : List ℕ) (id : ℕ) where
   unfolding stopLineOf
   stop-key w = refl
 
-  pub stop-absent : placeOf 4 t id ≡ Nothing → A.None ≡ pointOf (stopAnchor (stop-line (crossed c t []) id))
+  pub stop-absent : placeOf 4 t id ≡ Nothing → A.None ≡ pointGiven (stopAnchor (stop-line (crossed c t []) id))
   unfolding stop-line
   stop-absent e = rw (find-none 4 (stopLineOf c) (λ s. s .id) stop-key t id e)
 
@@ -64,7 +64,7 @@ module _ (c : List Float) (t : List ℕ) (id : ℕ) where
     unfolding stopLineOf
     stop-line-is = ap points (f ∙ row-line 4 1 c t j (omega arith))
 
-    pub stop-there : (r : OptionPoint2) → r ≡ pointOf (mid (points line)) → r ≡ pointOf (stopAnchor (stop-line (crossed c t []) id))
+    pub stop-there : (r : OptionPoint2) → r ≡ pointGiven (mid (points line)) → r ≡ pointGiven (stopAnchor (stop-line (crossed c t []) id))
     unfolding stop-line
     stop-there r g = g ∙ rw (find-at 4 (stopLineOf c) (λ s. s .id) stop-key t id j e, stop-line-is)
 
@@ -72,7 +72,7 @@ module _ (c : List Float) (t : List ℕ) (id : ℕ) where
   unfolding crosswalkOf
   cross-key w = refl
 
-  pub cross-absent : placeOf 7 t id ≡ Nothing → A.None ≡ pointOf (crossAnchor (crosswalk (crossed c [] t) id))
+  pub cross-absent : placeOf 7 t id ≡ Nothing → A.None ≡ pointGiven (crossAnchor (crosswalk (crossed c [] t) id))
   unfolding crosswalk
   cross-absent e = rw (find-none 7 (crosswalkOf c) (λ s. s .id) cross-key t id e)
 
@@ -86,11 +86,11 @@ module _ (c : List Float) (t : List ℕ) (id : ℕ) where
     unfolding crosswalkOf
     right-is = ap points (g ∙ row-line 7 3 c t j (omega arith))
 
-    pub cross-there : (p q r : OptionPoint2) → p ≡ pointOf (mid (points left)) → q ≡ pointOf (mid (points right)) → r ≡ pointOf (halfWay (optionOf p) (optionOf q))
-        → r ≡ pointOf (crossAnchor (crosswalk (crossed c [] t) id))
+    pub cross-there : (p q r : OptionPoint2) → p ≡ pointGiven (mid (points left)) → q ≡ pointGiven (mid (points right)) → r ≡ pointGiven (halfWay (optionOf p) (optionOf q))
+        → r ≡ pointGiven (crossAnchor (crosswalk (crossed c [] t) id))
     unfolding crosswalk
     cross-there p q r k l m =
-        m ∙ ap pointOf (half-points p q (mid (points left)) (mid (points right)) k l)
+        m ∙ ap pointGiven (half-points p q (mid (points left)) (mid (points right)) k l)
         ∙ rw (find-at 7 (crosswalkOf c) (λ s. s .id) cross-key t id j e, left-is, right-is)
 
 -- ---- a rule
@@ -146,14 +146,14 @@ module _ (c : List Float) (s x t : List ℕ) (i : ℕ) (h : counted 512 330 t �
   abbrev test : Bool
   test = not (eqb (getD t (1 + i * 330 + 1) 0) 5) && not (eqb (getD t (1 + i * 330 + 135) 0) 0)
 
-  pub anchor-stop : (b : Bool) → b ≡ test → b ≡ true → (r : OptionPoint2) → r ≡ pointOf (stopAnchor (stop-line (crossed c s []) (getD t (1 + i * 330 + 136) 0)))
-      → r ≡ pointOf (rule-anchor (crossed c s x) (ruleOf (rowAt 330 t i)))
+  pub anchor-stop : (b : Bool) → b ≡ test → b ≡ true → (r : OptionPoint2) → r ≡ pointGiven (stopAnchor (stop-line (crossed c s []) (getD t (1 + i * 330 + 136) 0)))
+      → r ≡ pointGiven (rule-anchor (crossed c s x) (ruleOf (rowAt 330 t i)))
   unfolding rule-anchor ruleOf stop-line
   anchor-stop b e f r g =
       let q = tested true (getD t (1 + i * 330 + 1) 0) (getD t (1 + i * 330 + 135) 0) kind-read count-read (sym e ∙ f) in
       let d = drop-cons (rowAt 330 t i) 136 0 row-long in
       g ∙ rw first-read
-      (ap pointOf (sym (first-there (word 1 (rowAt 330 t i)) (word 135 (rowAt 330 t i)) (word 136 (rowAt 330 t i)) (drop 136 (rowAt 330 t i)) (drop 137 (rowAt 330 t i)) d q (crossed c s x) (ruleOf (rowAt 330 t i)))))
+      (ap pointGiven (sym (first-there (word 1 (rowAt 330 t i)) (word 135 (rowAt 330 t i)) (word 136 (rowAt 330 t i)) (drop 136 (rowAt 330 t i)) (drop 137 (rowAt 330 t i)) d q (crossed c s x) (ruleOf (rowAt 330 t i)))))
 
   module _ (b : Bool) (e : b ≡ test) (f : b ≡ false) where
     by-cross : rule-anchor (crossed c s x) (ruleOf (rowAt 330 t i)) ≡ crossAnchor (crosswalkIn (crossed c s x) (ruleOf (rowAt 330 t i) .crosswalk))
@@ -162,14 +162,14 @@ module _ (c : List Float) (s x t : List ℕ) (i : ℕ) (h : counted 512 330 t �
         let q = tested false (getD t (1 + i * 330 + 1) 0) (getD t (1 + i * 330 + 135) 0) kind-read count-read (sym e ∙ f) in
         rw (none-there (word 1 (rowAt 330 t i)) (word 135 (rowAt 330 t i)) (drop 136 (rowAt 330 t i)) q)
 
-    pub anchor-cross : getD t (1 + i * 330 + 1) 0 ≡ 4 → (r : OptionPoint2) → r ≡ pointOf (crossAnchor (crosswalk (crossed c [] x) (getD t (1 + i * 330 + 4) 0)))
-        → r ≡ pointOf (rule-anchor (crossed c s x) (ruleOf (rowAt 330 t i)))
+    pub anchor-cross : getD t (1 + i * 330 + 1) 0 ≡ 4 → (r : OptionPoint2) → r ≡ pointGiven (crossAnchor (crosswalk (crossed c [] x) (getD t (1 + i * 330 + 4) 0)))
+        → r ≡ pointGiven (rule-anchor (crossed c s x) (ruleOf (rowAt 330 t i)))
     unfolding ruleOf crosswalk
     anchor-cross k r g =
         let q : word 1 (rowAt 330 t i) ≡ 4 = sym kind-read ∙ k in
         g ∙ rw (by-cross, q, cross-read)
 
-    pub anchor-none : (getD t (1 + i * 330 + 1) 0 ≡ 4 → ⊥) → A.None ≡ pointOf (rule-anchor (crossed c s x) (ruleOf (rowAt 330 t i)))
+    pub anchor-none : (getD t (1 + i * 330 + 1) 0 ≡ 4 → ⊥) → A.None ≡ pointGiven (rule-anchor (crossed c s x) (ruleOf (rowAt 330 t i)))
     unfolding ruleOf
     anchor-none k =
         let q : eqb (word 1 (rowAt 330 t i)) 4 ≡ false = ne-eqb (word 1 (rowAt 330 t i)) 4 (λ z. k (kind-read ∙ z)) in

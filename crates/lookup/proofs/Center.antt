@@ -27,7 +27,7 @@ use Rattle.tables.specs.Formed.{spanAt, stored}
 use Rattle.lookup.specs.declared.OptionCount.{OptionCount}
 use Rattle.lookup.specs.declared.OptionCount.the-variants as N
 use Rattle.lookup.specs.declared.OptionLength.the-variants.{None as NoLength, Some as ALength}
-use Rattle.lookup.specs.Lookup.{placeOf, rowAt, allShort, centersStored, countOf, pointsOf, lengthOf, sideWord, drawn, Drawable}
+use Rattle.lookup.specs.Lookup.{placeOf, rowAt, allShort, centersStored, countOf, pointsOr, lengthOf, sideWord, drawn, Drawable}
 use Rattle.lookup.proofs.Laws.{oriented-drawn, place-within, word-in, next-in, row-passes, part-few, length-turned, oriented-absent, oriented-there}
 
 -- ---- a side: how many points it has, and its points as they were written
@@ -36,15 +36,15 @@ pub count-none : (o : Option Line) → N.None ≡ countOf o → o ≡ none
 count-none none e = refl
 count-none (some l) e = let z : _≡_ {A = ℕ} 0 1 = cc in absurd (omega arith)
 
-pub count-some : (o : Option Line) (a : ℕ) → N.Some a ≡ countOf o → (o ≡ some (pointsOf o)) × (a ≡ length (pointsOf o))
+pub count-some : (o : Option Line) (a : ℕ) → N.Some a ≡ countOf o → (o ≡ some (pointsOr o)) × (a ≡ length (pointsOr o))
 count-some none a e = let z : _≡_ {A = ℕ} 0 1 = cc in absurd (omega arith)
 count-some (some l) a e = (refl, cc)
 
 -- a line along a lane has at most 256 points
-pub oriented-few : (c : List Float) (b w : List ℕ) (side : Side) → allShort 5 2 b ≡ true → length (pointsOf (oriented-boundary (drawn c b) side (laneOf c w))) ≤ 256
+pub oriented-few : (c : List Float) (b w : List ℕ) (side : Side) → allShort 5 2 b ≡ true → length (pointsOr (oriented-boundary (drawn c b) side (laneOf c w))) ≤ 256
 oriented-few c b w side h = go (placeOf 5 b (word (sideWord side) w)) refl
   where
-    go : (r : Found) → placeOf 5 b (word (sideWord side) w) ≡ r → length (pointsOf (oriented-boundary (drawn c b) side (laneOf c w))) ≤ 256
+    go : (r : Found) → placeOf 5 b (word (sideWord side) w) ≡ r → length (pointsOr (oriented-boundary (drawn c b) side (laneOf c w))) ≤ 256
     go Nothing q = rw (oriented-absent c b w side (refAt (sideWord side) w) refl q) (omega arith)
     go (At j) q =
         let v = rowAt 5 b j in
@@ -54,9 +54,9 @@ oriented-few c b w side h = go (placeOf 5 b (word (sideWord side) w)) refl
         let n : length ps ≡ length (cond (mark (suc (sideWord side)) w) (reverse ps) ps) = length-turned (mark (suc (sideWord side)) w) ps in
         rw (oriented-there c b w side (refAt (sideWord side) w) refl j q (part c (word 2 v) (word 3 v)) refl) (omega arith)
 
-module _ (o : Option Line) (w v : List Float) (few : length (pointsOf o) ≤ 256) (room : 768 ≤ length w) (e : v ≡ over w 0 (flat (pointsOf o))) where
+module _ (o : Option Line) (w v : List Float) (few : length (pointsOr o) ≤ 256) (room : 768 ≤ length w) (e : v ≡ over w 0 (flat (pointsOr o))) where
   pub side-length : length v ≡ length w
-  side-length = ap length e ∙ length-over w 0 (flat (pointsOf o)) (omega (arith, length-flat (pointsOf o)))
+  side-length = ap length e ∙ length-over w 0 (flat (pointsOr o)) (omega (arith, length-flat (pointsOr o)))
 
   module _ (a : ℕ) (n : N.Some a ≡ countOf o) where
     pub side-small : a ≤ 256
@@ -64,7 +64,7 @@ module _ (o : Option Line) (w v : List Float) (few : length (pointsOf o) ≤ 256
 
     pub side-there : o ≡ some (points (take (a * 3) v))
     side-there =
-        let p : points (take (a * 3) v) ≡ pointsOf o = rw (count-some o a n .1, e) (points-over w (pointsOf o) (omega arith)) in
+        let p : points (take (a * 3) v) ≡ pointsOr o = rw (count-some o a n .1, e) (points-over w (pointsOr o) (omega arith)) in
         count-some o a n .0 ∙ ap some (sym p)
 
     pub side-few : length (points (take (a * 3) v)) ≤ 256
@@ -96,17 +96,17 @@ module _ (o p : Option Line) (ps qs : Line) (f : o ≡ some ps) (g : p ≡ some 
   made : derived o p ≡ usable (Polyline.centerline ps qs)
   made = rw (f, g)
 
-  pub center-empty : n ≡ 0 → (N.None ≡ countOf (derived o p)) × (v ≡ over w 0 (flat (pointsOf (derived o p))))
+  pub center-empty : n ≡ 0 → (N.None ≡ countOf (derived o p)) × (v ≡ over w 0 (flat (pointsOr (derived o p))))
   center-empty z = rw made (go (Polyline.centerline ps qs) (sym k ∙ z) e)
     where
-      go : (xs : Line) → length xs ≡ 0 → v ≡ over w 0 (flat xs) → (N.None ≡ countOf (usable xs)) × (v ≡ over w 0 (flat (pointsOf (usable xs))))
+      go : (xs : Line) → length xs ≡ 0 → v ≡ over w 0 (flat xs) → (N.None ≡ countOf (usable xs)) × (v ≡ over w 0 (flat (pointsOr (usable xs))))
       go [] l q = (refl, q)
       go (x ∷ xs) l q = absurd (omega arith)
 
-  pub center-some : (n ≡ 0 → ⊥) → (N.Some n ≡ countOf (derived o p)) × (v ≡ over w 0 (flat (pointsOf (derived o p))))
+  pub center-some : (n ≡ 0 → ⊥) → (N.Some n ≡ countOf (derived o p)) × (v ≡ over w 0 (flat (pointsOr (derived o p))))
   center-some z = rw made (go (Polyline.centerline ps qs) k e)
     where
-      go : (xs : Line) → n ≡ length xs → v ≡ over w 0 (flat xs) → (N.Some n ≡ countOf (usable xs)) × (v ≡ over w 0 (flat (pointsOf (usable xs))))
+      go : (xs : Line) → n ≡ length xs → v ≡ over w 0 (flat xs) → (N.Some n ≡ countOf (usable xs)) × (v ≡ over w 0 (flat (pointsOr (usable xs))))
       go [] l q = absurd (z l)
       go (x ∷ xs) l q = (ap N.Some l, q)
 
@@ -155,7 +155,7 @@ module _ (c : List Float) (b t : List ℕ) (i : ℕ) where
           rw e (omega (arith, part-few c (getD t (1 + i * 52 + 6 + 1) 0) (getD t (1 + i * 52 + 6 + 1 + 1) 0)))
 
 -- the same line under another name
-pub written-as : (o p : Option Line) (r : OptionCount) (w v : List Float) → p ≡ o → (r ≡ countOf o) × (v ≡ over w 0 (flat (pointsOf o))) → (r ≡ countOf p) × (v ≡ over w 0 (flat (pointsOf p)))
+pub written-as : (o p : Option Line) (r : OptionCount) (w v : List Float) → p ≡ o → (r ≡ countOf o) × (v ≡ over w 0 (flat (pointsOr o))) → (r ≡ countOf p) × (v ≡ over w 0 (flat (pointsOr p)))
 written-as o p r w v e h = rw e h
 
 -- only the boundaries of a map are read
@@ -164,19 +164,19 @@ unfolding centerline
 center-drawn c b m l e = rw (oriented-drawn c b m Left l e, oriented-drawn c b m Right l e)
 
 -- a centreline has at most 256 points
-derived-few : (o p : Option Line) → length (pointsOf o) ≤ 256 → length (pointsOf p) ≤ 256 → length (pointsOf (derived o p)) ≤ 256
+derived-few : (o p : Option Line) → length (pointsOr o) ≤ 256 → length (pointsOr p) ≤ 256 → length (pointsOr (derived o p)) ≤ 256
 derived-few none p h k = omega arith
 derived-few (some l) none h k = omega arith
 derived-few (some l) (some r) h k = go (Polyline.centerline l r) (center-few l r h k)
   where
-    go : (xs : Line) → length xs ≤ 256 → length (pointsOf (usable xs)) ≤ 256
+    go : (xs : Line) → length xs ≤ 256 → length (pointsOr (usable xs)) ≤ 256
     go [] q = q
     go (x ∷ xs) q = q
 
-pub lane-center-few : (c : List Float) (b t : List ℕ) (i : ℕ) → Drawable t b c → i < word 0 t → length (pointsOf (centerline (drawn c b) (laneOf c (rowAt 52 t i)))) ≤ 256
+pub lane-center-few : (c : List Float) (b t : List ℕ) (i : ℕ) → Drawable t b c → i < word 0 t → length (pointsOr (centerline (drawn c b) (laneOf c (rowAt 52 t i)))) ≤ 256
 lane-center-few c b t i d l = go (eqb (getD t (1 + i * 52 + 6) 0) 0) refl
   where
-    go : (x : Bool) → eqb (getD t (1 + i * 52 + 6) 0) 0 ≡ x → length (pointsOf (centerline (drawn c b) (laneOf c (rowAt 52 t i)))) ≤ 256
+    go : (x : Bool) → eqb (getD t (1 + i * 52 + 6) 0) 0 ≡ x → length (pointsOr (centerline (drawn c b) (laneOf c (rowAt 52 t i)))) ≤ 256
     go true e =
         rw (center-derived c b t i (eqb-true (getD t (1 + i * 52 + 6) 0) 0 e))
         (derived-few (oriented-boundary (drawn c b) Left (laneOf c (rowAt 52 t i))) (oriented-boundary (drawn c b) Right (laneOf c (rowAt 52 t i)))

@@ -14,7 +14,7 @@ use Rattle.geometry.specs.Point.{inReach}
 use Rattle.polyline.specs.Polyline.{points}
 use Rattle.tables.specs.View.{word, mark, idsAt, part, rows}
 use Rattle.tables.specs.Formed.{Span, spanAt, stored, counted, laneFormed}
-use Rattle.map.specs.Good.{allRows, lineGood, handleGood, laneNumbers, linksGood, laneGood, boundaryGood, stopLineGood, crosswalkGood}
+use Rattle.row_tests.specs.Good.{allRows, lineGood, handleGood, laneNumbers, linksGood, laneGood, boundaryGood, stopLineGood, crosswalkGood}
 use Rattle.lookup.specs.Lookup.{sortedTable, allStored, allShort, centersStored, Drawable, Crossable}
 
 -- a test of every row, from one that says more

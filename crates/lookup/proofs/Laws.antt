@@ -31,12 +31,12 @@ use Rattle.rules.specs.Names.{Side, Left, Right, BoundaryRef}
 use Rattle.rules.specs.Map.{boundary, boundaryOn, orientedIn, oriented, oriented-boundary, uses, lanes-using-boundary}
 use Rattle.tables.specs.View.{word, refAt, part, rows, laneOf, boundaryOf}
 use Rattle.tables.specs.Formed.{counted, spanAt, stored, laneFormed}
-use Rattle.map.specs.Returned.{searchable}
-use Rattle.map.proofs.Tables.{table-few, table-room, row-room}
-use Rattle.map.proofs.Lanes.{rows-lent}
-use Rattle.map.proofs.Relations.{keys-reads}
+use Rattle.row_tests.specs.Returned.{searchable}
+use Rattle.row_tests.proofs.Tables.{table-few, table-room, row-room}
+use Rattle.row_tests.proofs.Lanes.{rows-lent}
+use Rattle.row_tests.proofs.Relations.{keys-reads}
 use Rattle.lookup.specs.declared.OptionCount.the-variants as N
-use Rattle.lookup.specs.Lookup.{sortedTable, placeOf, rowAt, allStored, allShort, countOf, pointsOf, sideWord, drawn, anyRow, rowUses, usesBesides, used, usedBesides, usesOutside, usedOutside, users}
+use Rattle.lookup.specs.Lookup.{sortedTable, placeOf, rowAt, allStored, allShort, countOf, pointsOr, sideWord, drawn, anyRow, rowUses, usesBesides, used, usedBesides, usesOutside, usedOutside, users}
 
 -- ---- a table in id order
 
@@ -256,11 +256,11 @@ length-turned true ps = sym (length-reverse ps)
 length-turned false ps = refl
 
 -- no line, and one
-pub written-none : (o : Option Line) (w : List Float) → o ≡ none → (N.None ≡ countOf o) × (w ≡ over w 0 (flat (pointsOf o)))
+pub written-none : (o : Option Line) (w : List Float) → o ≡ none → (N.None ≡ countOf o) × (w ≡ over w 0 (flat (pointsOr o)))
 written-none o w e = rw e (refl, sym (over-none w 0))
 
 pub written-some : (o : Option Line) (ps : Line) (n : ℕ) (w v : List Float) → o ≡ some ps → n ≡ length ps → v ≡ over w 0 (flat ps)
-    → (N.Some n ≡ countOf o) × (v ≡ over w 0 (flat (pointsOf o)))
+    → (N.Some n ≡ countOf o) × (v ≡ over w 0 (flat (pointsOr o)))
 written-some o ps n w v e p q = rw e (ap N.Some p, q)
 
 -- ---- a test that some row of a table passes

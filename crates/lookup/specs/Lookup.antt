@@ -55,9 +55,9 @@ abbrev pub countOf : Option Line → OptionCount
 countOf none = None
 countOf (some l) = Some (length l)
 
-abbrev pub pointsOf : Option Line → Line
-pointsOf none = []
-pointsOf (some l) = l
+abbrev pub pointsOr : Option Line → Line
+pointsOr none = []
+pointsOr (some l) = l
 
 -- a map of boundaries alone: what lines along a lane are made of
 abbrev pub drawn : List Float → List ℕ → Map
@@ -148,9 +148,9 @@ pub record Crossable (stops crosswalks : List ℕ) (c : List Float) : Type 0 whe
   pub rights-stored : allStored crosswalkWords crosswalkRightStart c crosswalks ≡ true
 
 -- a point that may be missing, as it goes by value
-abbrev pub pointOf : Option Point2 → OptionPoint2
-pointOf none = NoPoint
-pointOf (some p) = APoint p
+abbrev pub pointGiven : Option Point2 → OptionPoint2
+pointGiven none = NoPoint
+pointGiven (some p) = APoint p
 
 abbrev pub optionOf : OptionPoint2 → Option Point2
 optionOf NoPoint = none

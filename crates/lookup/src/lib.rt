@@ -258,7 +258,7 @@ pub fn oriented_boundary(
     out: &mut [f64],
 ) -> OptionCount
     requires { ⌜ (K.sortedTable 1024 52 (now lanes) ≡ true) × ((i < word 0 (now lanes)) × ((K.sortedTable 4096 5 (now boundaries) ≡ true) × ((K.allStored 5 2 (now coordinates) (now boundaries) ≡ true) × ((K.allShort 5 2 (now boundaries) ≡ true) × (768 ≤ length (now out)))))) ⌝ }
-    ensures { λ r. ⌜ (r ≡ K.countOf (K.sideLine (now (coordinates .entry)) (now (lanes .entry)) (now (boundaries .entry)) i side)) × (now (out .exit) ≡ over (now (out .entry)) 0 (flat (K.pointsOf (K.sideLine (now (coordinates .entry)) (now (lanes .entry)) (now (boundaries .entry)) i side)))) ⌝ }
+    ensures { λ r. ⌜ (r ≡ K.countOf (K.sideLine (now (coordinates .entry)) (now (lanes .entry)) (now (boundaries .entry)) i side)) × (now (out .exit) ≡ over (now (out .entry)) 0 (flat (K.pointsOr (K.sideLine (now (coordinates .entry)) (now (lanes .entry)) (now (boundaries .entry)) i side)))) ⌝ }
 {
     let r = boundary_ref(lanes, i, side);
     let found = boundary(boundaries, r.boundary);
@@ -282,7 +282,7 @@ fn between_sides(
     out: &mut [f64],
 ) -> OptionCount
     requires { ⌜ (K.Drawable (now lanes) (now boundaries) (now coordinates)) × ((i < word 0 (now lanes)) × ((768 ≤ length (now left)) × ((768 ≤ length (now right)) × (768 ≤ length (now out))))) ⌝ }
-    ensures { λ r. ⌜ (r ≡ K.countOf (derived (K.sideLine (now (coordinates .entry)) (now (lanes .entry)) (now (boundaries .entry)) i Left) (K.sideLine (now (coordinates .entry)) (now (lanes .entry)) (now (boundaries .entry)) i Right))) × ((now (out .exit) ≡ over (now (out .entry)) 0 (flat (K.pointsOf (derived (K.sideLine (now (coordinates .entry)) (now (lanes .entry)) (now (boundaries .entry)) i Left) (K.sideLine (now (coordinates .entry)) (now (lanes .entry)) (now (boundaries .entry)) i Right))))) × ((now (left .exit) ≡ over (now (left .entry)) 0 (flat (K.pointsOf (K.sideLine (now (coordinates .entry)) (now (lanes .entry)) (now (boundaries .entry)) i Left)))) × (now (right .exit) ≡ over (now (right .entry)) 0 (flat (K.pointsOf (K.sideLine (now (coordinates .entry)) (now (lanes .entry)) (now (boundaries .entry)) i Right)))))) ⌝ }
+    ensures { λ r. ⌜ (r ≡ K.countOf (derived (K.sideLine (now (coordinates .entry)) (now (lanes .entry)) (now (boundaries .entry)) i Left) (K.sideLine (now (coordinates .entry)) (now (lanes .entry)) (now (boundaries .entry)) i Right))) × ((now (out .exit) ≡ over (now (out .entry)) 0 (flat (K.pointsOr (derived (K.sideLine (now (coordinates .entry)) (now (lanes .entry)) (now (boundaries .entry)) i Left) (K.sideLine (now (coordinates .entry)) (now (lanes .entry)) (now (boundaries .entry)) i Right))))) × ((now (left .exit) ≡ over (now (left .entry)) 0 (flat (K.pointsOr (K.sideLine (now (coordinates .entry)) (now (lanes .entry)) (now (boundaries .entry)) i Left)))) × (now (right .exit) ≡ over (now (right .entry)) 0 (flat (K.pointsOr (K.sideLine (now (coordinates .entry)) (now (lanes .entry)) (now (boundaries .entry)) i Right)))))) ⌝ }
 {
     let l = oriented_boundary(lanes, i, Side::Left, boundaries, coordinates, left);
     let r = oriented_boundary(lanes, i, Side::Right, boundaries, coordinates, right);
@@ -310,7 +310,7 @@ fn derived(
     out: &mut [f64],
 ) -> OptionCount
     requires { ⌜ (K.Drawable (now lanes) (now boundaries) (now coordinates)) × ((i < word 0 (now lanes)) × (768 ≤ length (now out))) ⌝ }
-    ensures { λ r. ⌜ (r ≡ K.countOf (derived (K.sideLine (now (coordinates .entry)) (now (lanes .entry)) (now (boundaries .entry)) i Left) (K.sideLine (now (coordinates .entry)) (now (lanes .entry)) (now (boundaries .entry)) i Right))) × (now (out .exit) ≡ over (now (out .entry)) 0 (flat (K.pointsOf (derived (K.sideLine (now (coordinates .entry)) (now (lanes .entry)) (now (boundaries .entry)) i Left) (K.sideLine (now (coordinates .entry)) (now (lanes .entry)) (now (boundaries .entry)) i Right))))) ⌝ }
+    ensures { λ r. ⌜ (r ≡ K.countOf (derived (K.sideLine (now (coordinates .entry)) (now (lanes .entry)) (now (boundaries .entry)) i Left) (K.sideLine (now (coordinates .entry)) (now (lanes .entry)) (now (boundaries .entry)) i Right))) × (now (out .exit) ≡ over (now (out .entry)) 0 (flat (K.pointsOr (derived (K.sideLine (now (coordinates .entry)) (now (lanes .entry)) (now (boundaries .entry)) i Left) (K.sideLine (now (coordinates .entry)) (now (lanes .entry)) (now (boundaries .entry)) i Right))))) ⌝ }
 {
     let mut left = [0.0; LINE_FLOATS];
     let mut right = [0.0; LINE_FLOATS];
@@ -334,7 +334,7 @@ pub fn centerline(
     out: &mut [f64],
 ) -> OptionCount
     requires { ⌜ (K.Drawable (now lanes) (now boundaries) (now coordinates)) × ((i < word 0 (now lanes)) × (768 ≤ length (now out))) ⌝ }
-    ensures { λ r. ⌜ (r ≡ K.countOf (K.centerLine (now (coordinates .entry)) (now (lanes .entry)) (now (boundaries .entry)) i)) × (now (out .exit) ≡ over (now (out .entry)) 0 (flat (K.pointsOf (K.centerLine (now (coordinates .entry)) (now (lanes .entry)) (now (boundaries .entry)) i)))) ⌝ }
+    ensures { λ r. ⌜ (r ≡ K.countOf (K.centerLine (now (coordinates .entry)) (now (lanes .entry)) (now (boundaries .entry)) i)) × (now (out .exit) ≡ over (now (out .entry)) 0 (flat (K.pointsOr (K.centerLine (now (coordinates .entry)) (now (lanes .entry)) (now (boundaries .entry)) i)))) ⌝ }
 {
     let at = 1 + i * LANE + LANE_CENTERLINE;
     if lanes[at] == 0 {
@@ -352,7 +352,7 @@ fn length_in(
     line: &mut [f64],
 ) -> OptionLength
     requires { ⌜ (K.Drawable (now lanes) (now boundaries) (now coordinates)) × ((i < word 0 (now lanes)) × (768 ≤ length (now line))) ⌝ }
-    ensures { λ r. ⌜ (r ≡ K.lengthOf (K.centerLine (now (coordinates .entry)) (now (lanes .entry)) (now (boundaries .entry)) i)) × (now (line .exit) ≡ over (now (line .entry)) 0 (flat (K.pointsOf (K.centerLine (now (coordinates .entry)) (now (lanes .entry)) (now (boundaries .entry)) i)))) ⌝ }
+    ensures { λ r. ⌜ (r ≡ K.lengthOf (K.centerLine (now (coordinates .entry)) (now (lanes .entry)) (now (boundaries .entry)) i)) × (now (line .exit) ≡ over (now (line .entry)) 0 (flat (K.pointsOr (K.centerLine (now (coordinates .entry)) (now (lanes .entry)) (now (boundaries .entry)) i)))) ⌝ }
 {
     let found = centerline(lanes, i, boundaries, coordinates, line);
     let OptionCount::Some(n) = found else {
@@ -462,7 +462,7 @@ pub fn users(lanes: &[u64], boundary: u64) -> usize
 
 // The point half way along a line.
 fn mid(line: &[f64]) -> OptionPoint2
-    ensures { λ r. ⌜ r ≡ K.pointOf (mid (points (now (line .entry)))) ⌝ }
+    ensures { λ r. ⌜ r ≡ K.pointGiven (mid (points (now (line .entry)))) ⌝ }
 {
     let found = polyline::point_at_fraction(line, 0.5);
     let OptionPoint3::Some(p) = found else {
@@ -473,7 +473,7 @@ fn mid(line: &[f64]) -> OptionPoint2
 
 // Half way between two points, if both are there.
 fn half_way(p: OptionPoint2, q: OptionPoint2) -> OptionPoint2
-    ensures { λ r. ⌜ r ≡ K.pointOf (halfWay (K.optionOf p) (K.optionOf q)) ⌝ }
+    ensures { λ r. ⌜ r ≡ K.pointGiven (halfWay (K.optionOf p) (K.optionOf q)) ⌝ }
 {
     let OptionPoint2::Some(a) = p else {
         return OptionPoint2::None;
@@ -486,7 +486,7 @@ fn half_way(p: OptionPoint2, q: OptionPoint2) -> OptionPoint2
 
 fn stop_anchor(stops: &[u64], id: u64, coordinates: &[f64]) -> OptionPoint2
     requires { ⌜ (K.sortedTable 512 4 (now stops) ≡ true) × (K.allStored 4 1 (now coordinates) (now stops) ≡ true) ⌝ }
-    ensures { λ r. ⌜ r ≡ K.pointOf (stopAnchor (stop-line (K.crossed (now (coordinates .entry)) (now (stops .entry)) []) id)) ⌝ }
+    ensures { λ r. ⌜ r ≡ K.pointGiven (stopAnchor (stop-line (K.crossed (now (coordinates .entry)) (now (stops .entry)) []) id)) ⌝ }
 {
     let found = stop_line(stops, id);
     let Found::At(j) = found else {
@@ -497,7 +497,7 @@ fn stop_anchor(stops: &[u64], id: u64, coordinates: &[f64]) -> OptionPoint2
 
 fn crosswalk_anchor(crosswalks: &[u64], id: u64, coordinates: &[f64]) -> OptionPoint2
     requires { ⌜ (K.sortedTable 128 7 (now crosswalks) ≡ true) × ((K.allStored 7 1 (now coordinates) (now crosswalks) ≡ true) × (K.allStored 7 3 (now coordinates) (now crosswalks) ≡ true)) ⌝ }
-    ensures { λ r. ⌜ r ≡ K.pointOf (crossAnchor (crosswalk (K.crossed (now (coordinates .entry)) [] (now (crosswalks .entry))) id)) ⌝ }
+    ensures { λ r. ⌜ r ≡ K.pointGiven (crossAnchor (crosswalk (K.crossed (now (coordinates .entry)) [] (now (crosswalks .entry))) id)) ⌝ }
 {
     let found = crosswalk(crosswalks, id);
     let Found::At(j) = found else {
@@ -518,7 +518,7 @@ pub fn rule_anchor(
     coordinates: &[f64],
 ) -> OptionPoint2
     requires { ⌜ (counted 512 330 (now rules) ≡ true) × ((i < word 0 (now rules)) × (K.Crossable (now stops) (now crosswalks) (now coordinates))) ⌝ }
-    ensures { λ r. ⌜ r ≡ K.pointOf (rule-anchor (K.crossed (now (coordinates .entry)) (now (stops .entry)) (now (crosswalks .entry))) (ruleOf (K.rowAt 330 (now (rules .entry)) i))) ⌝ }
+    ensures { λ r. ⌜ r ≡ K.pointGiven (rule-anchor (K.crossed (now (coordinates .entry)) (now (stops .entry)) (now (crosswalks .entry))) (ruleOf (K.rowAt 330 (now (rules .entry)) i))) ⌝ }
 {
     let at = 1 + i * RULE;
     let kind = rules[at + RULE_KIND];

@@ -26,7 +26,7 @@ use Rattle.rules.specs.Edit.{Res, yield}
 use Rattle.rules.specs.Merge.{SidePlan, kept, joined, joinedLines, side-plan}
 use Rattle.tables.specs.View.{word, mark, refAt, part, rows, laneOf}
 use Rattle.tables.specs.Formed.{spanAt, stored}
-use Rattle.lookup.specs.Lookup.{Drawable, rowAt, sortedTable, placeOf, allStored, pointsOf, sideWord, sideLine, usedBesides}
+use Rattle.lookup.specs.Lookup.{Drawable, rowAt, sortedTable, placeOf, allStored, pointsOr, sideWord, sideLine, usedBesides}
 use Rattle.lookup.proofs.Laws.{sorted-ascends, sorted-row, stored-room, part-few, place-within, word-in, row-passes, length-turned, side-ref, oriented-absent, oriented-there, alone-using}
 use Rattle.lookup.proofs.Center.{oriented-few}
 use Rattle.merge_plan.specs.Deciding.{SideRows, laneIn, drawnLanes, sideTold, sidePlan, joinedLength, bothAlone}
@@ -85,50 +85,50 @@ module _ (c : List Float) (lanes boundaries : List ℕ) (i : ℕ) (side : Side) 
       oriented-there c boundaries (rowAt 52 lanes i) side (refAt (sideWord side) (rowAt 52 lanes i)) refl x q (part c (word 2 (rowAt 5 boundaries x)) (word 3 (rowAt 5 boundaries x))) refl
 
   -- a boundary that is present has a line
-  pub side-some : sideLine c lanes boundaries i side ≡ some (pointsOf (sideLine c lanes boundaries i side))
+  pub side-some : sideLine c lanes boundaries i side ≡ some (pointsOr (sideLine c lanes boundaries i side))
   side-some = rw side-there
 
   -- along the lane it has as many points as its row says
-  pub side-long : length (pointsOf (sideLine c lanes boundaries i side)) ≡ getD boundaries (1 + x * 5 + 3) 0
+  pub side-long : length (pointsOr (sideLine c lanes boundaries i side)) ≡ getD boundaries (1 + x * 5 + 3) 0
   unfolding allStored
   side-long =
       let l : 3 < 5 = omega arith in
       let p = row-passes 5 (λ w. stored c (spanAt 2 w)) boundaries s x (place-within 5 boundaries (refAt (sideWord side) (rowAt 52 lanes i) .boundary) x q) in
-      ap (λ o. length (pointsOf o)) side-there
+      ap (λ o. length (pointsOr o)) side-there
       ∙ (sym (length-turned turned stands) ∙ (stored-long c (word 2 (rowAt 5 boundaries x)) (word 3 (rowAt 5 boundaries x)) p ∙ sym (word-in 5 boundaries x 3 l)))
 
 -- ---- joined lines
 
-last-of : (o : Option Line) → lastOf o ≡ last (pointsOf o)
+last-of : (o : Option Line) → lastOf o ≡ last (pointsOr o)
 unfolding last
 last-of none = refl
 last-of (some l) = refl
 
-first-of : (o : Option Line) → firstOf o ≡ first (pointsOf o)
+first-of : (o : Option Line) → firstOf o ≡ first (pointsOr o)
 unfolding first
 first-of none = refl
 first-of (some l) = refl
 
 -- two lines of `one` and `two` points that are joined, and the points where they meet
-module _ (join : Float) (o p : Option Line) (one two : ℕ) (eo : length (pointsOf o) ≡ one) (ep : length (pointsOf p) ≡ two)
+module _ (join : Float) (o p : Option Line) (one two : ℕ) (eo : length (pointsOr o) ≡ one) (ep : length (pointsOr p) ≡ two)
     (end start : OptionPoint3) (ee : end ≡ lastOf o) (es : start ≡ firstOf p) (m : ℕ) (em : m ≡ meeting join end start) where
-  met : m ≡ skipped join (pointsOf o) (pointsOf p)
+  met : m ≡ skipped join (pointsOr o) (pointsOr p)
   unfolding skipped
   met = rw (em, ee, es, last-of o, first-of p)
 
   -- of the second line no more points are dropped than it has
   pub met-few : m ≤ two
-  met-few = omega (arith, met, skipped-few join (pointsOf o) (pointsOf p))
+  met-few = omega (arith, met, skipped-few join (pointsOr o) (pointsOr p))
 
   pub joined-long : one + two - m ≡ joinedLength join o p
-  joined-long = omega (arith, met, skipped-few join (pointsOf o) (pointsOf p), length-concat join (pointsOf o) (pointsOf p))
+  joined-long = omega (arith, met, skipped-few join (pointsOr o) (pointsOr p), length-concat join (pointsOr o) (pointsOr p))
 
 -- the lines of two boundaries along their lanes
 module _ (lanes : List ℕ) (i j : ℕ) (side : Side) (boundaries : List ℕ) (x y : ℕ) (c : List Float) (h : SideRows lanes i j side boundaries x y c) where
-  pub first-long : length (pointsOf (sideLine c lanes boundaries i side)) ≡ getD boundaries (1 + x * 5 + 3) 0
+  pub first-long : length (pointsOr (sideLine c lanes boundaries i side)) ≡ getD boundaries (1 + x * 5 + 3) 0
   first-long = side-long c lanes boundaries i side (h .drawable .boundaries-stored) x (h .first-boundary)
 
-  pub second-long : length (pointsOf (sideLine c lanes boundaries j side)) ≡ getD boundaries (1 + y * 5 + 3) 0
+  pub second-long : length (pointsOr (sideLine c lanes boundaries j side)) ≡ getD boundaries (1 + y * 5 + 3) 0
   second-long = side-long c lanes boundaries j side (h .drawable .boundaries-stored) y (h .second-boundary)
 
   pub both-few : getD boundaries (1 + x * 5 + 3) 0 + getD boundaries (1 + y * 5 + 3) 0 ≤ 512
@@ -197,7 +197,7 @@ module _ (join : Float) (c : List Float) (lanes boundaries : List ℕ) (d : Draw
     first-absent q = sym (ap sideTold planned-side ∙ rw (ne-eqb one two n, oriented-absent c boundaries (rowAt 52 lanes i) side ra ea q))
 
     module _ (x : ℕ) (q : placeOf 5 boundaries one ≡ At x) where
-      first-some : sideLine c lanes boundaries i side ≡ some (pointsOf (sideLine c lanes boundaries i side))
+      first-some : sideLine c lanes boundaries i side ≡ some (pointsOr (sideLine c lanes boundaries i side))
       first-some = side-some c lanes boundaries i side (d .boundaries-stored) x (rw ea at q)
 
       pub second-absent : placeOf 5 boundaries two ≡ Nothing → Refused (BoundaryAbsent two) ≡ sideTold plan
@@ -208,7 +208,7 @@ module _ (join : Float) (c : List Float) (lanes boundaries : List ℕ) (d : Draw
         pub side-rows : SideRows lanes i j side boundaries x y c
         side-rows = record { drawable = d; first = l; second = k; first-boundary = rw ea at q; second-boundary = rw eb at r }
 
-        side-joined : plan ≡ yield (joined (bothAlone lanes i one j two) (concat join (pointsOf (sideLine c lanes boundaries i side)) (pointsOf (sideLine c lanes boundaries j side))))
+        side-joined : plan ≡ yield (joined (bothAlone lanes i one j two) (concat join (pointsOr (sideLine c lanes boundaries i side)) (pointsOr (sideLine c lanes boundaries j side))))
         side-joined = planned-side ∙ rw (ne-eqb one two n, first-some, side-some c lanes boundaries j side (d .boundaries-stored) y (rw eb at r))
 
         module _ (m : ℕ) (em : m ≡ joinedLength join (sideLine c lanes boundaries i side) (sideLine c lanes boundaries j side)) (b : Bool) (f : b ≡ bothAlone lanes i one j two) where

@@ -21,7 +21,7 @@ use Rattle.rules.specs.Edit.{Res, refuse, yield, warning, when}
 use Rattle.rules.specs.Merge.{SidePlan, joinedCenter, speedsDiffer, conflict, dropped}
 use Rattle.tables.specs.View.{word, idsAt, optionAt, slotAt, part, laneOf}
 use Rattle.tables.specs.Formed.{stored, laneFormed}
-use Rattle.map.specs.Good.{allRows}
+use Rattle.row_tests.specs.Good.{allRows}
 use Rattle.store.proofs.Marks.{LaneMarks, lane-marks}
 use Rattle.lookup.specs.Lookup.{rowAt, centersStored, countOf}
 use Rattle.lookup.specs.declared.OptionCount.{OptionCount}

@@ -18,8 +18,8 @@ use Rattle.rules.specs.Edit.{Res, refuse, yield, _>>=_}
 use Rattle.rules.specs.Merge.{SidePlan, kept, in-place, fresh, side-plan, joinedCenter, speedsDiffer}
 use Rattle.tables.specs.View.{word, refAt, rows, laneOf, boundaryOf}
 use Rattle.tables.specs.Formed.{laneFormed}
-use Rattle.map.specs.Good.{allRows}
-use Rattle.lookup.specs.Lookup.{rowAt, countOf, pointsOf, sortedTable, placeOf, sideWord, usedBesides, Drawable}
+use Rattle.row_tests.specs.Good.{allRows}
+use Rattle.lookup.specs.Lookup.{rowAt, countOf, pointsOr, sortedTable, placeOf, sideWord, usedBesides, Drawable}
 use Rattle.lookup.specs.declared.OptionCount.{OptionCount}
 use Rattle.merge_plan.specs.declared.Joined.{Joined}
 use Rattle.merge_plan.specs.declared.Joined.the-variants.{Kept, InPlace, Fresh}
@@ -108,7 +108,7 @@ pub record SideRows (lanes : List ℕ) (i j : ℕ) (side : Side) (boundaries : L
 
 -- how many points two lines have when they are joined
 abbrev pub joinedLength : Float → Option Line → Option Line → ℕ
-joinedLength join one two = length (concat join (pointsOf one) (pointsOf two))
+joinedLength join one two = length (concat join (pointsOr one) (pointsOr two))
 
 -- no lane but that in row i uses boundary one, none but that in row j boundary two
 abbrev pub bothAlone : List ℕ → ℕ → ℕ → ℕ → ℕ → Bool

@@ -13,8 +13,8 @@ use Rattle.lists.proofs.Booleans.{and-fst, and-snd}
 use Rattle.entities.specs.Records.{Lane}
 use Rattle.rules.specs.Edit.{linkIn, relinked}
 use Rattle.tables.specs.View.{word, idsAt, slotAt, laneOf}
-use Rattle.map.specs.Returned.{searchable, laneAt}
-use Rattle.map.proofs.Lanes.{lane-room, links-within, ids-at, row-formed}
+use Rattle.row_tests.specs.Returned.{searchable, laneAt}
+use Rattle.row_tests.proofs.Lanes.{lane-room, links-within, ids-at, row-formed}
 use Rattle.store.specs.Store.{laneOnto}
 use Rattle.store.specs.Rows.{onRows, setList}
 use Rattle.store.proofs.Marks.{lane-marks}

@@ -14,15 +14,15 @@ use Rattle.entities.specs.Records.{Issue}
 use Rattle.rules.specs.Names.{IssueCode, GeometricGap, LaneKind, NoRoom}
 use Rattle.rules.specs.Edit as E
 use Rattle.tables.specs.View.{word}
-use Rattle.map.specs.Returned.{laneAt}
-use Rattle.map.proofs.Lanes.{id-at}
+use Rattle.row_tests.specs.Returned.{laneAt}
+use Rattle.row_tests.proofs.Lanes.{id-at}
 use Rattle.topology.specs.Topology.{lanesChanged, idAt}
 use Rattle.report.specs.declared.Counts.{Counts}
 use Rattle.report.specs.declared.Notice.{Notice}
 use Rattle.report.specs.declared.Notice.the-variants as N
 use Rattle.report.specs.declared.Answer.the-variants.{Changed, Refused}
-use Rattle.report.specs.Report.{listed, warned, issues, fits}
-use Rattle.relink.specs.Parts.{relinked, relinking, pairOf, linkRoom, linking, unlinking, Linkable}
+use Rattle.report.specs.Report.{listed, warned, issues, reportFits}
+use Rattle.relink.specs.Parts.{linksWritten, writingLinks, pairOf, linkRoom, linking, unlinking, Linkable}
 
 -- ---- notices
 
@@ -64,16 +64,16 @@ pair-few false a b n e = omega (arith, e, few (has b (place a [])) refl)
 -- ---- the whole
 
 module _ (room : Bool) (after ids lanes modified warnings : List ℕ) (is : List Issue) where
-  pub done : (r : Bool) → r ≡ (room && fits (length ids) (length is) modified warnings) → r ≡ true
+  pub done : (r : Bool) → r ≡ (room && reportFits (length ids) (length is) modified warnings) → r ≡ true
       → (lanes' modified' warnings' : List ℕ) (n : Counts) → lanes' ≡ after → n ≡ record { created = 0; modified = length ids; deleted = 0; warnings = length is }
       → modified' ≡ listed modified (E.refs LaneKind ids) → warnings' ≡ warned warnings is
-      → relinked lanes' modified' warnings' (Changed n) ≡ relinking room after ids is lanes modified warnings
-  unfolding relinking
+      → linksWritten lanes' modified' warnings' (Changed n) ≡ writingLinks room after ids is lanes modified warnings
+  unfolding writingLinks
   done r e t lanes' modified' warnings' n a b c d = rw (sym e ∙ t, a, b, c, d)
 
-  pub full : (r : Bool) → r ≡ (room && fits (length ids) (length is) modified warnings) → r ≡ false
-      → relinked lanes modified warnings (Refused NoRoom) ≡ relinking room after ids is lanes modified warnings
-  unfolding relinking
+  pub full : (r : Bool) → r ≡ (room && reportFits (length ids) (length is) modified warnings) → r ≡ false
+      → linksWritten lanes modified warnings (Refused NoRoom) ≡ writingLinks room after ids is lanes modified warnings
+  unfolding writingLinks
   full r e t = rw (sym e ∙ t)
 
 -- ---- link and unlink, with the ids and notices as they are found
@@ -81,7 +81,7 @@ module _ (room : Bool) (after ids lanes modified warnings : List ℕ) (is : List
 module _ (t : List ℕ) (i j : ℕ) (linked gap : Bool) (md ws : List ℕ) (first second : Notice) (n : ℕ) (arr : List ℕ)
     (e1 : first ≡ cond gap (N.Pair GeometricGap (getD t (1 + i * 52) 0) (getD t (1 + j * 52) 0)) N.Nothing) (e2 : second ≡ cond linked (N.NoOp (getD t (1 + i * 52) 0)) N.Nothing)
     (p : (take n arr ≡ cond linked [] (pairOf (getD t (1 + i * 52) 0) (getD t (1 + j * 52) 0))) × (n ≡ length (cond linked [] (pairOf (getD t (1 + i * 52) 0) (getD t (1 + j * 52) 0)))))
-    (room fit r : Bool) (er : room ≡ (linked || linkRoom t i j)) (ef : fit ≡ fits n (length (issues first ++ issues second)) md ws) (eb : r ≡ (room && fit)) where
+    (room fit r : Bool) (er : room ≡ (linked || linkRoom t i j)) (ef : fit ≡ reportFits n (length (issues first ++ issues second)) md ws) (eb : r ≡ (room && fit)) where
   abbrev a : ℕ
   a = idAt t i
 
@@ -106,13 +106,13 @@ module _ (t : List ℕ) (i j : ℕ) (linked gap : Bool) (md ws : List ℕ) (firs
   count-ids : n ≡ length ids
   count-ids = sym count ∙ ap length named-ids
 
-  test : r ≡ ((linked || linkRoom t i j) && fits (length ids) (length is) md ws)
+  test : r ≡ ((linked || linkRoom t i j) && reportFits (length ids) (length is) md ws)
   test = eb ∙ rw (er, ef, told, sym count-ids)
 
   pub link-counted : n ≡ length (take n arr)
   link-counted = sym count
 
-  pub link-fits : r ≡ true → fits (length (take n arr)) (length (issues first ++ issues second)) md ws ≡ true
+  pub link-fits : r ≡ true → reportFits (length (take n arr)) (length (issues first ++ issues second)) md ws ≡ true
   link-fits q = rw (count) (sym ef ∙ and-snd room fit (sym eb ∙ q))
 
   pub link-room : r ≡ true → (linked || linkRoom t i j) ≡ true
@@ -121,18 +121,18 @@ module _ (t : List ℕ) (i j : ℕ) (linked gap : Bool) (md ws : List ℕ) (firs
   pub link-done : r ≡ true → (t' md' ws' : List ℕ) (c : Counts) → t' ≡ lanesChanged (E.linkIn a b) t
       → (c ≡ record { created = 0; modified = length (take n arr); deleted = 0; warnings = length (issues first ++ issues second) })
       × ((md' ≡ listed md (E.refs LaneKind (take n arr))) × (ws' ≡ warned ws (issues first ++ issues second)))
-      → relinked t' md' ws' (Changed c) ≡ linking t i j linked gap md ws
+      → linksWritten t' md' ws' (Changed c) ≡ linking t i j linked gap md ws
   link-done q t' md' ws' c f g =
       done (linked || linkRoom t i j) (lanesChanged (E.linkIn a b) t) ids t md ws is r test q t' md' ws' c f
       (g .0 ∙ rw (named-ids, told)) (g .1 .0 ∙ ap (λ z. listed md (E.refs LaneKind z)) named-ids) (g .1 .1 ∙ ap (warned ws) told)
 
-  pub link-full : r ≡ false → relinked t md ws (Refused NoRoom) ≡ linking t i j linked gap md ws
+  pub link-full : r ≡ false → linksWritten t md ws (Refused NoRoom) ≡ linking t i j linked gap md ws
   link-full q = full (linked || linkRoom t i j) (lanesChanged (E.linkIn a b) t) ids t md ws is r test q
 
 module _ (t : List ℕ) (i j : ℕ) (linked : Bool) (md ws : List ℕ) (note : Notice) (n : ℕ) (arr : List ℕ)
     (e1 : note ≡ cond (not linked) (N.NoOp (getD t (1 + i * 52) 0)) N.Nothing)
     (p : (take n arr ≡ cond (not linked) [] (pairOf (getD t (1 + i * 52) 0) (getD t (1 + j * 52) 0))) × (n ≡ length (cond (not linked) [] (pairOf (getD t (1 + i * 52) 0) (getD t (1 + j * 52) 0)))))
-    (r : Bool) (ef : r ≡ fits n (length (issues note ++ issues N.Nothing)) md ws) where
+    (r : Bool) (ef : r ≡ reportFits n (length (issues note ++ issues N.Nothing)) md ws) where
   abbrev from : ℕ
   from = idAt t i
 
@@ -155,22 +155,22 @@ module _ (t : List ℕ) (i j : ℕ) (linked : Bool) (md ws : List ℕ) (note : N
   out-count : length (take n arr) ≡ n
   out-count = ap length (p .0) ∙ sym (p .1)
 
-  out-test : r ≡ (true && fits (length left-out) (length (E.when (not linked) (E.no-op from))) md ws)
+  out-test : r ≡ (true && reportFits (length left-out) (length (E.when (not linked) (E.no-op from))) md ws)
   out-test = ef ∙ rw (noted, sym out-count, out-ids)
 
   pub unlink-counted : n ≡ length (take n arr)
   unlink-counted = sym out-count
 
-  pub unlink-fits : r ≡ true → fits (length (take n arr)) (length (issues note ++ issues N.Nothing)) md ws ≡ true
+  pub unlink-fits : r ≡ true → reportFits (length (take n arr)) (length (issues note ++ issues N.Nothing)) md ws ≡ true
   unlink-fits q = rw out-count (sym ef ∙ q)
 
   pub unlink-done : r ≡ true → (t' md' ws' : List ℕ) (c : Counts) → t' ≡ lanesChanged (E.linkOut from to) t
       → (c ≡ record { created = 0; modified = length (take n arr); deleted = 0; warnings = length (issues note ++ issues N.Nothing) })
       × ((md' ≡ listed md (E.refs LaneKind (take n arr))) × (ws' ≡ warned ws (issues note ++ issues N.Nothing)))
-      → relinked t' md' ws' (Changed c) ≡ unlinking t i j linked md ws
+      → linksWritten t' md' ws' (Changed c) ≡ unlinking t i j linked md ws
   unlink-done q t' md' ws' c f g =
       done true (lanesChanged (E.linkOut from to) t) left-out t md ws (E.when (not linked) (E.no-op from)) r out-test q t' md' ws' c f
       (g .0 ∙ rw (out-ids, noted)) (g .1 .0 ∙ ap (λ z. listed md (E.refs LaneKind z)) out-ids) (g .1 .1 ∙ ap (warned ws) noted)
 
-  pub unlink-full : r ≡ false → relinked t md ws (Refused NoRoom) ≡ unlinking t i j linked md ws
+  pub unlink-full : r ≡ false → linksWritten t md ws (Refused NoRoom) ≡ unlinking t i j linked md ws
   unlink-full q = full true (lanesChanged (E.linkOut from to) t) left-out t md ws (E.when (not linked) (E.no-op from)) r out-test q

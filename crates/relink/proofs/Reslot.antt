@@ -19,22 +19,22 @@ use Rattle.rules.specs.Sound.{sameDirection}
 use Rattle.rules.specs.Edit as E
 use Rattle.store.specs.Store.{directionMark}
 use Rattle.tables.specs.View.{refAt}
-use Rattle.map.specs.Returned.{laneAt}
-use Rattle.map.proofs.Lanes.{id-at}
+use Rattle.row_tests.specs.Returned.{laneAt}
+use Rattle.row_tests.proofs.Lanes.{id-at}
 use Rattle.lookup.specs.Lookup.{sideWord}
-use Rattle.topology.specs.Topology.{idAt, lanesChanged, slotHeld, beside, optional}
+use Rattle.topology.specs.Topology.{idAt, lanesChanged, slotHeld, besideRow, byValue}
 use Rattle.report.specs.declared.Counts.{Counts}
 use Rattle.report.specs.declared.Notice.{Notice}
 use Rattle.report.specs.declared.Notice.the-variants as N
 use Rattle.report.specs.declared.Answer.the-variants.{Changed, Refused}
-use Rattle.report.specs.Report.{listed, warned, issues, fits}
+use Rattle.report.specs.Report.{listed, warned, issues, reportFits}
 use Rattle.lists.proofs.Place.{place-present, length-place}
 use Rattle.relink.specs.Parts as P
 use Rattle.relink.proofs.Reported.{no-op-issues, pair-issues, nothing-up, done, full}
 
 -- ---- what slots hold
 
-as-held : (o : Option Neighbor) → neighborOption (optional o) ≡ o
+as-held : (o : Option Neighbor) → neighborOption (byValue o) ≡ o
 as-held none = refl
 as-held (some n) = refl
 
@@ -49,7 +49,7 @@ pub holds-both : (slot : OptionNeighbor) (n : Neighbor) (lane : ℕ) (d : Neighb
 holds-both slot n lane d x y r e p q s = s ∙ rw (p, q, e, marks-same d (n .direction))
 
 pub two-boundaries : (t : List ℕ) (i : ℕ) (side : Side) (j : ℕ) (answer : Side) (x y : BoundaryRef) → x ≡ refAt (sideWord side) (laneAt t i) → y ≡ refAt (sideWord answer) (laneAt t j)
-    → not (eqb (x .boundary) (y .boundary)) ≡ P.unshared t i side j answer
+    → not (eqb (x .boundary) (y .boundary)) ≡ P.unsharedIssues t i side j answer
 two-boundaries t i side j answer x y p q =
     ap (λ z. not (eqb (z .boundary) (y .boundary))) p ∙ ap (λ z. not (eqb (refAt (sideWord side) (laneAt t i) .boundary) (z .boundary))) q
 
@@ -118,11 +118,11 @@ unless b y e f = rw e f
 -- Before a report: the ids are counted and fit. After the call: with room the table, the lists and the counts make `whole`; without room nothing changes.
 pub record Ends (t md ws : List ℕ) (n : ℕ) (ids : List ℕ) (told : List Issue) (r same : Bool) (after : List ℕ) (whole : P.Relinked) : Type 0 where
   pub counted : n ≡ length ids
-  pub fitting : r ≡ true → fits (length ids) (length told) md ws ≡ true
+  pub fitting : r ≡ true → reportFits (length ids) (length told) md ws ≡ true
   pub changed : r ≡ true → (t' md' ws' : List ℕ) (c : Counts) → t' ≡ cond same t after
       → (c ≡ record { created = 0; modified = length ids; deleted = 0; warnings = length told }) × ((md' ≡ listed md (E.refs LaneKind ids)) × (ws' ≡ warned ws told))
-      → P.relinked t' md' ws' (Changed c) ≡ whole
-  pub refused : r ≡ false → P.relinked t md ws (Refused NoRoom) ≡ whole
+      → P.linksWritten t' md' ws' (Changed c) ≡ whole
+  pub refused : r ≡ false → P.linksWritten t md ws (Refused NoRoom) ≡ whole
 
 abbrev afterSlot : List ℕ → ℕ → Side → Option Neighbor → Option Neighbor → List ℕ
 afterSlot t i side new other = lanesChanged (E.reslotted (E.slotAfter (idAt t i) side new (slotHeld t i side) other)) t
@@ -132,7 +132,7 @@ module _ (t : List ℕ) (i : ℕ) (side : Side) (new other : Option Neighbor) (i
     (old : Option Neighbor) (same : Bool) (told : List Issue) (n : ℕ) (ids : List ℕ) (r : Bool)
     (eo : old ≡ slotHeld t i side) (es : same ≡ E.sameSlot old new) (et : told ≡ E.when same (E.no-op (getD t (1 + i * 52) 0)) ++ is)
     (p : (ids ≡ cond same [] (P.slotIds (getD t (1 + i * 52) 0) old new other)) × (n ≡ length (cond same [] (P.slotIds (getD t (1 + i * 52) 0) old new other))))
-    (er : r ≡ fits n (length told) md ws) where
+    (er : r ≡ reportFits n (length told) md ws) where
   abbrev now-same : Bool
   now-same = E.sameSlot (slotHeld t i side) new
 
@@ -160,14 +160,14 @@ module _ (t : List ℕ) (i : ℕ) (side : Side) (new other : Option Neighbor) (i
   count : n ≡ length ids
   count = p .1 ∙ sym (ap length (p .0))
 
-  test : r ≡ (true && fits (length named) (length warnings) md ws)
-  test = er ∙ (ap (λ z. fits z (length told) md ws) (count ∙ ap length ids-are) ∙ ap (λ z. fits (length named) (length z) md ws) told-is)
+  test : r ≡ (true && reportFits (length named) (length warnings) md ws)
+  test = er ∙ (ap (λ z. reportFits z (length told) md ws) (count ∙ ap length ids-are) ∙ ap (λ z. reportFits (length named) (length z) md ws) told-is)
 
   reslot-ends : Ends t md ws n ids told r same after (P.reslotting t i side new other is md ws)
   reslot-ends =
       record {
         counted = count;
-        fitting = λ q. ap (λ z. fits z (length told) md ws) (sym count) ∙ (sym er ∙ q);
+        fitting = λ q. ap (λ z. reportFits z (length told) md ws) (sym count) ∙ (sym er ∙ q);
         changed = λ q t' md' ws' c f g.
             done true (cond now-same t after) named t md ws warnings r test q t' md' ws' c (f ∙ ap (λ z. cond z t after) same-now)
             (g .0 ∙ rw (ids-are, told-is)) (g .1 .0 ∙ ap (λ z. listed md (E.refs LaneKind z)) ids-are) (g .1 .1 ∙ ap (warned ws) told-is);
@@ -179,9 +179,9 @@ abbrev pub FreeEnds : List ℕ → ℕ → Side → List ℕ → List ℕ → Bo
 FreeEnds t i side md ws free first n arr r = Ends t md ws n (take n arr) (issues first ++ issues N.Nothing) r free (afterSlot t i side none none) (P.freeing t i side md ws)
 
 module _ (t : List ℕ) (i : ℕ) (side : Side) (md ws : List ℕ) (old : OptionNeighbor) (free : Bool) (first : Notice) (n : ℕ) (arr : List ℕ) (r : Bool) where
-  pub free-ends : old ≡ optional (slotHeld t i side) → free ≡ E.sameSlot (neighborOption old) none → first ≡ cond free (N.NoOp (getD t (1 + i * 52) 0)) N.Nothing
+  pub free-ends : old ≡ byValue (slotHeld t i side) → free ≡ E.sameSlot (neighborOption old) none → first ≡ cond free (N.NoOp (getD t (1 + i * 52) 0)) N.Nothing
       → (take n arr ≡ cond free [] (P.slotIds (getD t (1 + i * 52) 0) (neighborOption old) none none)) × (n ≡ length (cond free [] (P.slotIds (getD t (1 + i * 52) 0) (neighborOption old) none none)))
-      → r ≡ fits n (length (issues first ++ issues N.Nothing)) md ws → FreeEnds t i side md ws free first n arr r
+      → r ≡ reportFits n (length (issues first ++ issues N.Nothing)) md ws → FreeEnds t i side md ws free first n arr r
   free-ends eo es e1 p er =
       let held : neighborOption old ≡ slotHeld t i side = ap neighborOption eo ∙ as-held (slotHeld t i side) in
       let told = ap (λ z. issues z ++ []) e1 ∙ ap (λ z. z ++ []) (no-op-issues free (getD t (1 + i * 52) 0)) in
@@ -190,7 +190,7 @@ module _ (t : List ℕ) (i : ℕ) (side : Side) (md ws : List ℕ) (old : Option
 -- a lane set beside another
 abbrev pub SetEnds : List ℕ → ℕ → Side → ℕ → NeighborDirection → List ℕ → List ℕ → Bool → Notice → Notice → ℕ → List ℕ → Bool → Type 0
 SetEnds t i side j d md ws set first second n arr r =
-    Ends t md ws n (take n arr) (issues first ++ issues second) r set (afterSlot t i side (some (beside t j d)) (slotHeld t j (reciprocal-side side d))) (P.setting t i side j d md ws)
+    Ends t md ws n (take n arr) (issues first ++ issues second) r set (afterSlot t i side (some (besideRow t j d)) (slotHeld t j (reciprocal-side side d))) (P.setting t i side j d md ws)
 
 module _ (t : List ℕ) (i : ℕ) (side : Side) (j : ℕ) (d : NeighborDirection) (md ws : List ℕ) (answer : Side) (old other : OptionNeighbor) (set : Bool) (first : Notice) (apart : Bool) (second : Notice)
     (n : ℕ) (arr : List ℕ) (r : Bool) where
@@ -205,13 +205,13 @@ module _ (t : List ℕ) (i : ℕ) (side : Side) (j : ℕ) (d : NeighborDirection
   read z = some (record { lane = z; direction = d })
 
   abbrev new : Option Neighbor
-  new = some (beside t j d)
+  new = some (besideRow t j d)
 
   abbrev answered : Option Neighbor
   answered = slotHeld t j (reciprocal-side side d)
 
   abbrev two : Bool
-  two = P.unshared t i side j (reciprocal-side side d)
+  two = P.unsharedIssues t i side j (reciprocal-side side d)
 
   abbrev apartness : Bool → ℕ → ℕ → List Issue
   apartness x y z = E.when x (E.warning BoundaryUnshared (laneEntity y) (laneEntity z ∷ []))
@@ -221,17 +221,17 @@ module _ (t : List ℕ) (i : ℕ) (side : Side) (j : ℕ) (d : NeighborDirection
       ap (λ z. cond set [] (P.slotIds a (neighborOption old) (read z) (neighborOption other))) (id-at t j)
       ∙ ap (λ z. cond set [] (P.slotIds a (neighborOption old) new z)) h
 
-  set-warned : answer ≡ reciprocal-side side d → apart ≡ P.unshared t i side j answer → second ≡ cond apart (N.Pair BoundaryUnshared a b) N.Nothing
+  set-warned : answer ≡ reciprocal-side side d → apart ≡ P.unsharedIssues t i side j answer → second ≡ cond apart (N.Pair BoundaryUnshared a b) N.Nothing
       → issues second ≡ apartness two (idAt t i) (idAt t j)
   set-warned ea ep e2 =
       ap issues e2
       ∙ (pair-issues apart BoundaryUnshared a b
-      ∙ (ap (λ z. apartness z a b) (ep ∙ ap (P.unshared t i side j) ea) ∙ (ap (λ z. apartness two z b) (id-at t i) ∙ ap (apartness two (idAt t i)) (id-at t j))))
+      ∙ (ap (λ z. apartness z a b) (ep ∙ ap (P.unsharedIssues t i side j) ea) ∙ (ap (λ z. apartness two z b) (id-at t i) ∙ ap (apartness two (idAt t i)) (id-at t j))))
 
-  pub set-ends : answer ≡ reciprocal-side side d → old ≡ optional (slotHeld t i side) → other ≡ optional (slotHeld t j answer) → set ≡ E.sameSlot (neighborOption old) (read b)
-      → first ≡ cond set (N.NoOp a) N.Nothing → apart ≡ P.unshared t i side j answer → second ≡ cond apart (N.Pair BoundaryUnshared a b) N.Nothing
+  pub set-ends : answer ≡ reciprocal-side side d → old ≡ byValue (slotHeld t i side) → other ≡ byValue (slotHeld t j answer) → set ≡ E.sameSlot (neighborOption old) (read b)
+      → first ≡ cond set (N.NoOp a) N.Nothing → apart ≡ P.unsharedIssues t i side j answer → second ≡ cond apart (N.Pair BoundaryUnshared a b) N.Nothing
       → (take n arr ≡ cond set [] (P.slotIds a (neighborOption old) (read b) (neighborOption other))) × (n ≡ length (cond set [] (P.slotIds a (neighborOption old) (read b) (neighborOption other))))
-      → r ≡ fits n (length (issues first ++ issues second)) md ws → SetEnds t i side j d md ws set first second n arr r
+      → r ≡ reportFits n (length (issues first ++ issues second)) md ws → SetEnds t i side j d md ws set first second n arr r
   set-ends ea eo eh es e1 ep e2 p er =
       let held : neighborOption old ≡ slotHeld t i side = ap neighborOption eo ∙ as-held (slotHeld t i side) in
       let others : neighborOption other ≡ answered = ap neighborOption eh ∙ (as-held (slotHeld t j answer) ∙ ap (slotHeld t j) ea) in

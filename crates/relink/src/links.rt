@@ -7,7 +7,7 @@ ghost use lib.ListN.{length, take};
 ghost use Rattle.lists.specs.Select.{has};
 ghost use Rattle.rules.specs.Edit as E;
 ghost use Rattle.tables.specs.View.{word, laneOf};
-ghost use Rattle.map.specs.Returned.{searchable, laneAt};
+ghost use Rattle.row_tests.specs.Returned.{searchable, laneAt};
 ghost use Rattle.lookup.specs.Lookup.{sortedTable, allStored, drawn};
 ghost use Rattle.topology.specs.Topology as T;
 ghost use Rattle.relink.specs.Parts as P;
@@ -37,7 +37,7 @@ fn there(p: OptionPoint3) -> bool
 
 // Whether two ends that are there are further apart than the tolerance.
 fn apart(tolerance: f64, p: OptionPoint3, q: OptionPoint3) -> bool
-    ensures { λ r. ⌜ r ≡ E.apart tolerance p q ⌝ }
+    ensures { λ r. ⌜ r ≡ E.farApart tolerance p q ⌝ }
 {
     let OptionPoint3::Some(a) = p else {
         return false;
@@ -135,7 +135,7 @@ pub fn link(
     warnings: &mut [u64],
 ) -> Answer
     requires { ⌜ P.Linkable (now lanes) i j linked ⌝ }
-    ensures { λ r. ⌜ P.relinked (now (lanes .exit)) (now (modified .exit)) (now (warnings .exit)) r ≡ P.linking (now (lanes .entry)) i j linked gap (now (modified .entry)) (now (warnings .entry)) ⌝ }
+    ensures { λ r. ⌜ P.linksWritten (now (lanes .exit)) (now (modified .exit)) (now (warnings .exit)) r ≡ P.linking (now (lanes .entry)) i j linked gap (now (modified .entry)) (now (warnings .entry)) ⌝ }
 {
     let from = lanes[1 + i * LANE];
     let to = lanes[1 + j * LANE];
@@ -162,7 +162,7 @@ pub fn unlink(
     warnings: &mut [u64],
 ) -> Answer
     requires { ⌜ P.Linkable (now lanes) i j linked ⌝ }
-    ensures { λ r. ⌜ P.relinked (now (lanes .exit)) (now (modified .exit)) (now (warnings .exit)) r ≡ P.unlinking (now (lanes .entry)) i j linked (now (modified .entry)) (now (warnings .entry)) ⌝ }
+    ensures { λ r. ⌜ P.linksWritten (now (lanes .exit)) (now (modified .exit)) (now (warnings .exit)) r ≡ P.unlinking (now (lanes .entry)) i j linked (now (modified .entry)) (now (warnings .entry)) ⌝ }
 {
     let from = lanes[1 + i * LANE];
     let to = lanes[1 + j * LANE];

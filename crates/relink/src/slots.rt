@@ -10,7 +10,7 @@ ghost use Rattle.lists.specs.Select.{ascending};
 ghost use Rattle.entities.specs.Types.{reciprocal-side};
 ghost use Rattle.rules.specs.Edit as E;
 ghost use Rattle.tables.specs.View.{word, refAt};
-ghost use Rattle.map.specs.Returned.{searchable, laneAt};
+ghost use Rattle.row_tests.specs.Returned.{searchable, laneAt};
 ghost use Rattle.lookup.specs.Lookup.{sideWord};
 ghost use Rattle.topology.specs.Topology as T;
 ghost use Rattle.entities.specs.Types.{neighborOption};
@@ -54,7 +54,7 @@ fn holds(slot: OptionNeighbor, lane: u64, direction: NeighborDirection) -> bool
 // Whether the boundaries between two rows are two.
 fn unshared(lanes: &[u64], i: usize, side: Side, j: usize, answer: Side) -> bool
     requires { ⌜ (searchable (now lanes) ≡ true) × ((i < word 0 (now lanes)) × (j < word 0 (now lanes))) ⌝ }
-    ensures { λ r. ⌜ r ≡ P.unshared (now (lanes .entry)) i side j answer ⌝ }
+    ensures { λ r. ⌜ r ≡ P.unsharedIssues (now (lanes .entry)) i side j answer ⌝ }
 {
     let own = lookup::boundary_ref(lanes, i, side);
     let other = lookup::boundary_ref(lanes, j, answer);
@@ -118,7 +118,7 @@ fn set_unless(
     set: bool,
 )
     requires { ⌜ (searchable (now lanes) ≡ true) × ((i < word 0 (now lanes)) × ((j < word 0 (now lanes)) × (j ≡ i → ⊥))) ⌝ }
-    ensures { λ _. ⌜ now (lanes .exit) ≡ cond set (now (lanes .entry)) (T.lanesChanged (E.reslotted (E.slotAfter (T.idAt (now (lanes .entry)) i) side (some (T.beside (now (lanes .entry)) j direction)) (T.slotHeld (now (lanes .entry)) i side) (T.slotHeld (now (lanes .entry)) j (reciprocal-side side direction)))) (now (lanes .entry))) ⌝ }
+    ensures { λ _. ⌜ now (lanes .exit) ≡ cond set (now (lanes .entry)) (T.lanesChanged (E.reslotted (E.slotAfter (T.idAt (now (lanes .entry)) i) side (some (T.besideRow (now (lanes .entry)) j direction)) (T.slotHeld (now (lanes .entry)) i side) (T.slotHeld (now (lanes .entry)) j (reciprocal-side side direction)))) (now (lanes .entry))) ⌝ }
 {
     if set {
         return;
@@ -135,7 +135,7 @@ pub fn free_slot(
     warnings: &mut [u64],
 ) -> Answer
     requires { ⌜ (searchable (now lanes) ≡ true) × (i < word 0 (now lanes)) ⌝ }
-    ensures { λ r. ⌜ P.relinked (now (lanes .exit)) (now (modified .exit)) (now (warnings .exit)) r ≡ P.freeing (now (lanes .entry)) i side (now (modified .entry)) (now (warnings .entry)) ⌝ }
+    ensures { λ r. ⌜ P.linksWritten (now (lanes .exit)) (now (modified .exit)) (now (warnings .exit)) r ≡ P.freeing (now (lanes .entry)) i side (now (modified .entry)) (now (warnings .entry)) ⌝ }
 {
     let lane = lanes[1 + i * LANE];
     let nobody = OptionNeighbor::None;
@@ -164,7 +164,7 @@ pub fn set_slot(
     warnings: &mut [u64],
 ) -> Answer
     requires { ⌜ (searchable (now lanes) ≡ true) × ((i < word 0 (now lanes)) × ((j < word 0 (now lanes)) × (j ≡ i → ⊥))) ⌝ }
-    ensures { λ r. ⌜ P.relinked (now (lanes .exit)) (now (modified .exit)) (now (warnings .exit)) r ≡ P.setting (now (lanes .entry)) i side j direction (now (modified .entry)) (now (warnings .entry)) ⌝ }
+    ensures { λ r. ⌜ P.linksWritten (now (lanes .exit)) (now (modified .exit)) (now (warnings .exit)) r ≡ P.setting (now (lanes .entry)) i side j direction (now (modified .entry)) (now (warnings .entry)) ⌝ }
 {
     let answer = reciprocal_side(side, direction);
     let lane = lanes[1 + i * LANE];

@@ -23,7 +23,7 @@ use Rattle.store.specs.Store.{flag, writes}
 use Rattle.report.specs.declared.Notice.{Notice}
 use Rattle.report.specs.declared.Notice.the-variants.{Nothing, NoOp as NoOpNotice, Pair, Unshared, Pieces}
 use Rattle.report.proofs.Laws.{length-entities}
-use Rattle.report.specs.Report.{entityWords, issueOnto, warned, warnedAt, single, issues, fits}
+use Rattle.report.specs.Report.{entityWords, issueOnto, warned, warnedAt, single, issues, reportFits}
 
 -- ---- a row's words
 
@@ -219,7 +219,7 @@ room n l s t =
     let a : n * s ≤ l / s * s = mul-le-mul-right s (leb-true n (l / s) t) in
     omega (arith, a, div-mul-le-self l s)
 
-pub fits-room : (ids ws : ℕ) (m w : List ℕ) → fits ids ws m w ≡ true → (ids * 2 ≤ length m) × (ws * 10 ≤ length w)
+pub fits-room : (ids ws : ℕ) (m w : List ℕ) → reportFits ids ws m w ≡ true → (ids * 2 ≤ length m) × (ws * 10 ≤ length w)
 fits-room ids ws m w t =
     let a = leb ids (length m / 2) in
     let b = leb ws (length w / 10) in
@@ -231,5 +231,5 @@ notices-room f s l h = rw (← length-append (issues f) (issues s)) h
 
 -- the test by two counts
 pub fits-counted : (ids x y : ℕ) (f s : Notice) (m w : List ℕ) (r : Bool) → x ≡ length (issues f) → y ≡ length (issues s)
-    → r ≡ (leb ids (length m / 2) && leb (x + y) (length w / 10)) → r ≡ fits ids (length (issues f ++ issues s)) m w
+    → r ≡ (leb ids (length m / 2) && leb (x + y) (length w / 10)) → r ≡ reportFits ids (length (issues f ++ issues s)) m w
 fits-counted ids x y f s m w r p q e = rw (length-append (issues f) (issues s), ← p, ← q) e

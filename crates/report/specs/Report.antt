@@ -96,5 +96,5 @@ unfoldable pub warnedAt : ℕ → List ℕ → List Issue → List ℕ
 warnedAt at w is = take (at * 10) w ++ warned (drop (at * 10) w) is
 
 -- the lists have places for so many lanes and warnings
-abbrev pub fits : ℕ → ℕ → List ℕ → List ℕ → Bool
-fits ids ws modified warnings = leb ids (length modified / 2) && leb ws (length warnings / 10)
+abbrev pub reportFits : ℕ → ℕ → List ℕ → List ℕ → Bool
+reportFits ids ws modified warnings = leb ids (length modified / 2) && leb ws (length warnings / 10)

@@ -324,7 +324,7 @@ pub fn note(warnings: &mut [u64], at: usize, notice: Notice) -> usize
 
 // Whether the lists have places for so many lanes and for two notices.
 pub fn fits(ids: usize, first: Notice, second: Notice, modified: &[u64], warnings: &[u64]) -> bool
-    ensures { λ r. ⌜ r ≡ R.fits ids (length (R.issues first ++ R.issues second)) (now (modified .entry)) (now (warnings .entry)) ⌝ }
+    ensures { λ r. ⌜ r ≡ R.reportFits ids (length (R.issues first ++ R.issues second)) (now (modified .entry)) (now (warnings .entry)) ⌝ }
 {
     let ws = notice_count(first) + notice_count(second);
     both(
@@ -341,7 +341,7 @@ pub fn report(
     modified: &mut [u64],
     warnings: &mut [u64],
 ) -> Counts
-    requires { ⌜ R.fits (length (now ids)) (length (R.issues first ++ R.issues second)) (now modified) (now warnings) ≡ true ⌝ }
+    requires { ⌜ R.reportFits (length (now ids)) (length (R.issues first ++ R.issues second)) (now modified) (now warnings) ≡ true ⌝ }
     ensures { λ r. ⌜ (r ≡ record { created = 0; modified = length (now (ids .entry)); deleted = 0; warnings = length (R.issues first ++ R.issues second) }) × ((now (modified .exit) ≡ R.listed (now (modified .entry)) (E.refs LaneKind (now (ids .entry)))) × (now (warnings .exit) ≡ R.warned (now (warnings .entry)) (R.issues first ++ R.issues second))) ⌝ }
 {
     let kind = EntityKind::Lane;

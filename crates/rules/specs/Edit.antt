@@ -125,10 +125,10 @@ relinking m modified warnings =
 -- ---- connect, disconnect
 
 -- further apart than the tolerance, where both ends are there
-abbrev pub apart : Float → OptionPoint3 → OptionPoint3 → Bool
-apart tol NoPoint q = false
-apart tol (APoint p) NoPoint = false
-apart tol (APoint p) (APoint q) = lt tol (distance3 p q)
+abbrev pub farApart : Float → OptionPoint3 → OptionPoint3 → Bool
+farApart tol NoPoint q = false
+farApart tol (APoint p) NoPoint = false
+farApart tol (APoint p) (APoint q) = lt tol (distance3 p q)
 
 abbrev pub there : OptionPoint3 → Bool
 there NoPoint = false
@@ -141,7 +141,7 @@ gapped tol m from to =
     let fr = lastOf (oriented-boundary m Right from) in
     let tl = firstOf (oriented-boundary m Left to) in
     let tr = firstOf (oriented-boundary m Right to) in
-    (there fl && there fr && there tl && there tr) && (apart tol fl tl || apart tol fr tr)
+    (there fl && there fr && there tl && there tr) && (farApart tol fl tl || farApart tol fr tr)
 
 -- "an edit puts each link in its place"
 abbrev pub linkIn : ℕ → ℕ → Lane → Lane

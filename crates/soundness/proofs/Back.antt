@@ -16,7 +16,7 @@ use Rattle.rules.specs.Sound.{lastCounter, handleWidth, speedLegal, sound, with
 use Rattle.rules.proofs.Facts.{Sound, sound-facts}
 use Rattle.tables.specs.View.{Tables, word, lineAt, rows, view, laneOf, boundaryOf, roadOf, junctionOf, ruleOf, stopLineOf, crosswalkOf}
 use Rattle.tables.specs.Formed.{spanAt, centerSpan, stored, counted, spans, allClear, formed, soundTables, laneFormed, ruleFormed}
-use Rattle.map.specs.Good.{largestId, allRows}
+use Rattle.row_tests.specs.Good.{largestId, allRows}
 use Rattle.soundness.specs.Parts.{allCounted}
 use Rattle.soundness.proofs.Rows.{all-rows}
 use Rattle.soundness.proofs.Pointwise.{and3, and5}

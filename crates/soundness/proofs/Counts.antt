@@ -9,7 +9,7 @@ use Rattle.lists.specs.Rows.{keys}
 use Rattle.lists.specs.Select.{ascending}
 use Rattle.tables.specs.View.{Tables, word}
 use Rattle.tables.specs.Formed.{counted}
-use Rattle.map.proofs.Lanes.{rows-lent}
+use Rattle.row_tests.proofs.Lanes.{rows-lent}
 use Rattle.apart.proofs.Marks.{counted-facts}
 use Rattle.soundness.specs.Parts.{allCounted}
 use Rattle.soundness.proofs.Back.{and7}

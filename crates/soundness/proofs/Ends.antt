@@ -17,9 +17,9 @@ use Rattle.tables.specs.View.{Tables, word, rows, view, laneOf}
 use Rattle.tables.specs.Formed.{stored, counted, spans, allClear, formed, soundTables, laneFormed}
 use Rattle.apart.specs.Marks.{takeable, lineSpans}
 use Rattle.apart.proofs.Stored.{takeable-of, spans-lines}
-use Rattle.map.specs.Good.{largestId, allRows, laneGood, boundaryGood, roadGood, junctionGood, ruleGood, stopLineGood, crosswalkGood}
-use Rattle.map.specs.Returned.{searchable, laneReturned, slotsReturned}
-use Rattle.map.proofs.Relations.{links-tie, neighbors-tie}
+use Rattle.row_tests.specs.Good.{largestId, allRows, laneGood, boundaryGood, roadGood, junctionGood, ruleGood, stopLineGood, crosswalkGood}
+use Rattle.row_tests.specs.Returned.{searchable, laneReturned, slotsReturned}
+use Rattle.row_tests.proofs.Relations.{links-tie, neighbors-tie}
 use Rattle.soundness.specs.Parts.{allCounted, allGood, allAscend, ascends}
 use Rattle.soundness.proofs.Pointwise.{ok}
 use Rattle.soundness.proofs.Parts.{Held, lane-parts, boundary-parts, stop-line-parts, crosswalk-parts}

@@ -17,7 +17,7 @@ use Rattle.entities.specs.Records.{Line, Rule}
 use Rattle.rules.specs.Sound.{handleWidth, optionalId, ruleNames, ruleLegal, hasContent, stopLinesFit, given}
 use Rattle.tables.specs.View.{word, idsAt, idsWhere, lineAt, ruleOf}
 use Rattle.tables.specs.Formed.{Span, spanAt, stored, ruleFormed}
-use Rattle.map.specs.Good.{lineGood, idsGood, handleGood, boundaryGood, roadGood, junctionGood, ruleNumbers, ruleLists, ruleGood, stopLineGood, crosswalkGood}
+use Rattle.row_tests.specs.Good.{lineGood, idsGood, handleGood, boundaryGood, roadGood, junctionGood, ruleNumbers, ruleLists, ruleGood, stopLineGood, crosswalkGood}
 use Rattle.soundness.proofs.Pointwise.{and3, and5, line-same}
 
 -- what the definition asks of a line: in the store, not too long, within reach

@@ -14,7 +14,7 @@ use Rattle.geometry.specs.Point.{inReach}
 use Rattle.rules.specs.Sound.{handleWidth, optionalLine, speedLegal, laneNames, ruleNames, ruleLegal}
 use Rattle.tables.specs.View.{word, idsAt, optionAt, optionLineAt, lineAt, rows, laneOf, boundaryOf, roadOf, junctionOf, ruleOf, stopLineOf, crosswalkOf}
 use Rattle.tables.specs.Formed.{Span, spanAt, centerSpan, stored, counted, laneFormed, ruleFormed}
-use Rattle.map.specs.Good.{allRows, laneGood, boundaryGood, roadGood, junctionGood, ruleGood, stopLineGood, crosswalkGood}
+use Rattle.row_tests.specs.Good.{allRows, laneGood, boundaryGood, roadGood, junctionGood, ruleGood, stopLineGood, crosswalkGood}
 use Rattle.soundness.proofs.Rows.{all-rows, rows-and, rows-three, rows-four, rows-six, rows-weaken}
 use Rattle.soundness.proofs.Pointwise.{ok, and3, and5, laneAsked, lane-same}
 use Rattle.soundness.proofs.Others.{lineAsked, boundaryAsked, boundary-same, stopLineAsked, stop-line-same, crosswalkAsked, crosswalk-same, roadAsked, road-same, junctionAsked, junction-same}

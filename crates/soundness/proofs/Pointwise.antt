@@ -24,7 +24,7 @@ use Rattle.entities.specs.Records.{Line, Lane}
 use Rattle.rules.specs.Sound.{laneNames, slotId, optionalLine, speedLegal, handleWidth}
 use Rattle.tables.specs.View.{word, mark, idsAt, refAt, optionAt, slotAt, lineAt, optionLineAt, part, laneOf, boundaryOf}
 use Rattle.tables.specs.Formed.{Span, spanAt, centerSpan, stored, laneFormed}
-use Rattle.map.specs.Good.{lineGood, idsGood, slotGood, handleGood, laneNumbers, linksGood, laneGood}
+use Rattle.row_tests.specs.Good.{lineGood, idsGood, slotGood, handleGood, laneNumbers, linksGood, laneGood}
 
 -- ---- conjunctions taken apart
 

@@ -15,8 +15,8 @@ use Rattle.lists.proofs.Every.{all-and, all-take, all-drop}
 use Rattle.lists.proofs.Booleans.{and-both, and-fst, and-snd}
 use Rattle.tables.specs.View.{word, rows}
 use Rattle.tables.specs.Formed.{counted}
-use Rattle.map.specs.Good.{allRows}
-use Rattle.map.proofs.Relations.{all-reads}
+use Rattle.row_tests.specs.Good.{allRows}
+use Rattle.row_tests.proofs.Relations.{all-reads}
 
 -- ---- tests of rows
 

@@ -16,7 +16,7 @@ use Rattle.entities.specs.Records.{Rule}
 use Rattle.rules.specs.Sound.{handleWidth, optionalId, ruleNames, ruleLegal, hasContent, stopLinesFit, given}
 use Rattle.tables.specs.View.{word, idsAt, idsWhere, ruleOf}
 use Rattle.tables.specs.Formed.{ruleFormed}
-use Rattle.map.specs.Good.{idsGood, handleGood, ruleNumbers, ruleLists, ruleGood}
+use Rattle.row_tests.specs.Good.{idsGood, handleGood, ruleNumbers, ruleLists, ruleGood}
 use Rattle.soundness.proofs.Pointwise.{and3, and5}
 
 abbrev pub ruleAsked : ℕ → List ℕ → Bool

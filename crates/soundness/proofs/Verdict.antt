@@ -18,7 +18,7 @@ use Rattle.rules.specs.Sound.{lastCounter, sound, withinLimits, idsAscend, coun
 use Rattle.rules.proofs.Facts.{Sound, sound-facts, facts-sound}
 use Rattle.tables.specs.View.{Tables, word, idsAt, idsWhere, lineAt, rows, view, laneOf, boundaryOf, roadOf, junctionOf, ruleOf, stopLineOf, crosswalkOf}
 use Rattle.tables.specs.Formed.{Span, spanAt, centerSpan, stored, counted, spans, allClear, formed, soundTables, laneFormed, ruleFormed}
-use Rattle.map.specs.Good.{largestId, allRows, laneGood, boundaryGood, roadGood, junctionGood, ruleGood, stopLineGood, crosswalkGood}
+use Rattle.row_tests.specs.Good.{largestId, allRows, laneGood, boundaryGood, roadGood, junctionGood, ruleGood, stopLineGood, crosswalkGood}
 use Rattle.soundness.proofs.Rows.{all-rows, rows-three, rows-weaken}
 use Rattle.soundness.proofs.Pointwise.{ok, and3, and5}
 use Rattle.soundness.proofs.Others.{lineAsked}

@@ -20,8 +20,8 @@ use Rattle.entities.specs.Records.{Line, Lane, Map}
 use Rattle.rules.specs.Sound.{lastCounter, nextId, counterAbove, idsNamed, laneNames, ruleNames, lines, optionalLine}
 use Rattle.tables.specs.View.{Tables, word, rows, view, laneOf}
 use Rattle.tables.specs.Formed.{Span, spanAt, centerSpan, stored, spans}
-use Rattle.map.specs.Good.{largestId, allRows}
-use Rattle.map.proofs.Relations.{keys-reads}
+use Rattle.row_tests.specs.Good.{largestId, allRows}
+use Rattle.row_tests.proofs.Relations.{keys-reads}
 use Rattle.soundness.proofs.Rows.{all-rows, rows-three}
 use Rattle.soundness.proofs.Pointwise.{ok, and3}
 use Rattle.soundness.proofs.Others.{lineAsked}

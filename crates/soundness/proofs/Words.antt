@@ -15,7 +15,7 @@ use Rattle.entities.specs.Types.{same, opposing}
 use Rattle.entities.specs.Records.{Map}
 use Rattle.rules.specs.Sound.{idsNamed, laneNames, ruleNames, slotId, optionalId}
 use Rattle.tables.specs.View.{Tables, word, idsAt, idsWhere, slotAt, rows, view, laneOf, boundaryOf, roadOf, junctionOf, ruleOf, stopLineOf, crosswalkOf}
-use Rattle.map.specs.Good.{allRows}
+use Rattle.row_tests.specs.Good.{allRows}
 use Rattle.soundness.proofs.Rows.{all-rows, rows-weaken}
 use Rattle.soundness.proofs.Pointwise.{ok, word-ok}
 use Rattle.soundness.proofs.Parts.{Held, room}

@@ -8,7 +8,7 @@ use Rattle.lists.specs.Rows.{keys}
 use Rattle.lists.specs.Select.{ascending}
 use Rattle.tables.specs.View.{Tables, word}
 use Rattle.tables.specs.Formed.{counted}
-use Rattle.map.specs.Good.{largestId, allRows, laneGood, boundaryGood, roadGood, junctionGood, ruleGood, stopLineGood, crosswalkGood}
+use Rattle.row_tests.specs.Good.{largestId, allRows, laneGood, boundaryGood, roadGood, junctionGood, ruleGood, stopLineGood, crosswalkGood}
 use Rattle.tables.specs.Columns.{boundaryWords, crosswalkWords, junctionWords, laneWords, roadWords, rowCount, ruleWords, stopLineWords}
 use Rattle.rules.specs.Limits.{maxBoundaries, maxCrosswalks, maxJunctions, maxLanes, maxRoads, maxRules, maxStopLines}
 

@@ -35,17 +35,17 @@ fn all_counted(
     ensures { λ r. ⌜ r ≡ P.allCounted (tablesOf (now (lanes .entry)) (now (boundaries .entry)) (now (roads .entry)) (now (junctions .entry)) (now (rules .entry)) (now («stop_lines» .entry)) (now (crosswalks .entry)) (now (coordinates .entry))) ⌝ }
 {
     let a = both(
-        map::sound::counted(lanes, LANES, LANE),
-        map::sound::counted(boundaries, BOUNDARIES, BOUNDARY),
+        row_tests::sound::counted(lanes, LANES, LANE),
+        row_tests::sound::counted(boundaries, BOUNDARIES, BOUNDARY),
     );
     let b = both(
-        both(a, map::sound::counted(roads, ROADS, ROAD)),
-        map::sound::counted(junctions, JUNCTIONS, JUNCTION),
+        both(a, row_tests::sound::counted(roads, ROADS, ROAD)),
+        row_tests::sound::counted(junctions, JUNCTIONS, JUNCTION),
     );
-    let c = both(b, map::sound::counted(rules, RULES, RULE));
+    let c = both(b, row_tests::sound::counted(rules, RULES, RULE));
     both(
-        both(c, map::sound::counted(stop_lines, STOP_LINES, STOP_LINE)),
-        map::sound::counted(crosswalks, CROSSWALKS, CROSSWALK),
+        both(c, row_tests::sound::counted(stop_lines, STOP_LINES, STOP_LINE)),
+        row_tests::sound::counted(crosswalks, CROSSWALKS, CROSSWALK),
     )
 }
 
@@ -65,20 +65,20 @@ fn all_good(
     ensures { λ r. ⌜ r ≡ P.allGood most (tablesOf (now (lanes .entry)) (now (boundaries .entry)) (now (roads .entry)) (now (junctions .entry)) (now (rules .entry)) (now («stop_lines» .entry)) (now (crosswalks .entry)) (now (coordinates .entry))) ⌝ }
 {
     let a = both(
-        map::sound::lanes_good(lanes, most, coordinates),
-        map::sound::boundaries_good(boundaries, most, coordinates),
+        row_tests::sound::lanes_good(lanes, most, coordinates),
+        row_tests::sound::boundaries_good(boundaries, most, coordinates),
     );
     let b = both(
-        both(a, map::sound::roads_good(roads, most)),
-        map::sound::junctions_good(junctions, most),
+        both(a, row_tests::sound::roads_good(roads, most)),
+        row_tests::sound::junctions_good(junctions, most),
     );
-    let c = both(b, map::sound::rules_good(rules, most));
+    let c = both(b, row_tests::sound::rules_good(rules, most));
     both(
         both(
             c,
-            map::sound::stop_lines_good(stop_lines, most, coordinates),
+            row_tests::sound::stop_lines_good(stop_lines, most, coordinates),
         ),
-        map::sound::crosswalks_good(crosswalks, most, coordinates),
+        row_tests::sound::crosswalks_good(crosswalks, most, coordinates),
     )
 }
 
@@ -134,7 +134,7 @@ fn rows_sound(
     requires { ⌜ P.allCounted (tablesOf (now lanes) (now boundaries) (now roads) (now junctions) (now rules) (now «stop_lines») (now crosswalks) (now coordinates)) ≡ true ⌝ }
     ensures { λ r. ⌜ r ≡ P.rowsSound counter (tablesOf (now (lanes .entry)) (now (boundaries .entry)) (now (roads .entry)) (now (junctions .entry)) (now (rules .entry)) (now («stop_lines» .entry)) (now (crosswalks .entry)) (now (coordinates .entry))) ⌝ }
 {
-    let most = map::sound::largest_id(counter);
+    let most = row_tests::sound::largest_id(counter);
     let good = all_good(
         most,
         lanes,
@@ -197,8 +197,8 @@ pub fn sound(
             coordinates,
         ) {
             if apart::lines_apart(lanes, boundaries, stop_lines, crosswalks) {
-                let linked = map::links::links_returned(lanes);
-                return both(linked, map::links::neighbors_returned(lanes));
+                let linked = row_tests::links::links_returned(lanes);
+                return both(linked, row_tests::links::neighbors_returned(lanes));
             }
         }
     }

@@ -19,7 +19,7 @@ use Rattle.tables.specs.View.{Tables, view}
 use Rattle.tables.specs.Formed.{soundTables}
 use Rattle.store.specs.Store.{roomOf}
 use Rattle.step.specs.Step.{Lent, listsOf, callOf, stateOf, refusing, writing, changing, closing, step}
-use Rattle.facts.proofs.Found.{sound-map}
+use Rattle.sound_facts.proofs.Found.{sound-map}
 use Rattle.step.specs.Run.{Held, Lending, lend, heldIn, mapIn, call, callOn, runTables, heldAfter, closings, lengthsOf, TableDemand3}
 
 -- ---- one call

@@ -25,7 +25,7 @@ use Rattle.laws.proofs.SplitLawful.{split-lawful}
 use Rattle.tables.specs.View.{Tables, view}
 use Rattle.tables.specs.Formed.{soundTables}
 use Rattle.store.specs.Laid.{laid}
-use Rattle.facts.proofs.Laid.{SameBeside, view-laid, lengths-laid, kept-laid}
+use Rattle.sound_facts.proofs.Laid.{SameBeside, view-laid, lengths-laid, kept-laid}
 use Rattle.step.proofs.Keeping.{Keeps, Writable, Writes, writes-keep}
 use Rattle.step.proofs.Relinking.{goes-on}
 

@@ -18,9 +18,9 @@ use Rattle.laws.proofs.Lawful.{yields, no-yield, connect-lawful, disconnect-law
 use Rattle.tables.specs.View.{Tables, view}
 use Rattle.tables.specs.Formed.{soundTables}
 use Rattle.store.specs.Store.{store}
-use Rattle.facts.proofs.Stored.{store-mapped}
-use Rattle.facts.proofs.Kept.{links-few, length-kept, view-mapped, kept-mapped}
-use Rattle.facts.proofs.Found.{sound-formed}
+use Rattle.sound_facts.proofs.Stored.{store-mapped}
+use Rattle.sound_facts.proofs.Kept.{links-few, length-kept, view-mapped, kept-mapped}
+use Rattle.sound_facts.proofs.Found.{sound-formed}
 use Rattle.step.specs.Run.{lengthsOf}
 use Rattle.step.proofs.Keeping.{Keeps, Holds, Writable, Writes, writes-keep}
 

@@ -18,7 +18,7 @@ use Rattle.laws.proofs.RemoveLawful.{removing, remove-lawful}
 use Rattle.tables.specs.View.{Tables, view}
 use Rattle.tables.specs.Formed.{soundTables}
 use Rattle.store.specs.Store.{store}
-use Rattle.facts.proofs.Thinned.{Keeping, view-thinned, kept-thinned, lengths-thinned}
+use Rattle.sound_facts.proofs.Thinned.{Keeping, view-thinned, kept-thinned, lengths-thinned}
 use Rattle.step.proofs.Keeping.{Keeps, Holds, Writable, Writes, writes-keep}
 
 -- the ids that stay: of lanes, and of boundaries

@@ -10,7 +10,7 @@ use Rattle.rules.specs.Edit.{_>>=_}
 use Rattle.rules.specs.Ops as O
 use Rattle.tables.specs.Formed.{soundTables}
 use Rattle.store.specs.Store.{roomOf}
-use Rattle.facts.proofs.Found.{sound-map}
+use Rattle.sound_facts.proofs.Found.{sound-map}
 use Rattle.step.specs.Step.{Lent, Ended, step, stateOf, listsOf, refusing, changing, closing}
 
 module _ (tol : Tolerance) (c : O.Command) (l : Lent) where

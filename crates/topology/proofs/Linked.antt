@@ -18,8 +18,8 @@ use Rattle.entities.specs.Records.{Lane}
 use Rattle.rules.specs.Edit.{withLinks, relinked, linkIn, linkOut}
 use Rattle.tables.specs.View.{word, idsAt, slotAt, laneOf}
 use Rattle.tables.specs.Formed.{laneFormed}
-use Rattle.map.specs.Returned.{searchable, laneAt}
-use Rattle.map.proofs.Lanes.{lane-room, row-formed, id-at}
+use Rattle.row_tests.specs.Returned.{searchable, laneAt}
+use Rattle.row_tests.proofs.Lanes.{lane-room, row-formed, id-at}
 use Rattle.store.specs.Store.{laneOnto}
 use Rattle.store.specs.Rows.{onRows, keyed, setList}
 use Rattle.store.proofs.Marks.{LaneMarks, lane-marks, marks-formed}

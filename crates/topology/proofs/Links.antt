@@ -18,9 +18,9 @@ use Rattle.lists.proofs.Place.{length-place}
 use Rattle.lists.proofs.Select.{length-keep}
 use Rattle.store.proofs.Lists.{list-room, list-put}
 use Rattle.tables.specs.View.{word, idsAt}
-use Rattle.map.specs.Returned.{searchable, laneAt}
-use Rattle.map.proofs.Lanes.{lane-room, word-at, ids-at, links-within, row-formed}
-use Rattle.map.proofs.Formed.{lane-before, lane-after}
+use Rattle.row_tests.specs.Returned.{searchable, laneAt}
+use Rattle.row_tests.proofs.Lanes.{lane-room, word-at, ids-at, links-within, row-formed}
+use Rattle.row_tests.proofs.Formed.{lane-before, lane-after}
 use Rattle.topology.specs.Topology.{linksAt, linkWords, Open}
 use Rattle.topology.proofs.Table.{links-room}
 

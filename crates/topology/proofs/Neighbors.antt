@@ -23,8 +23,8 @@ use Rattle.rules.specs.Names.{Side, Left, Right}
 use Rattle.rules.specs.Edit.{sameSide, answering, slotAfter, reslotted}
 use Rattle.tables.specs.View.{word, slotAt, laneOf}
 use Rattle.tables.specs.Formed.{laneFormed}
-use Rattle.map.specs.Returned.{searchable, laneAt}
-use Rattle.map.proofs.Lanes.{lanes-some, lanes-room, lanes-ascend, lane-room, row-formed, word-at, id-at}
+use Rattle.row_tests.specs.Returned.{searchable, laneAt}
+use Rattle.row_tests.proofs.Lanes.{lanes-some, lanes-room, lanes-ascend, lane-room, row-formed, word-at, id-at}
 use Rattle.lookup.specs.Lookup.{placeOf}
 use Rattle.lookup.proofs.Laws.{place-within, place-id, next-in}
 use Rattle.store.specs.Store.{laneOnto, slotMark, slotLane, directionMark}
@@ -32,7 +32,7 @@ use Rattle.store.specs.Rows.{onRows, keyed, setSlot, slotWords}
 use Rattle.store.proofs.Rows.{rows-stay}
 use Rattle.store.proofs.Marks.{LaneMarks, lane-marks, marks-formed}
 use Rattle.store.proofs.LaneRow.{lane-row}
-use Rattle.topology.specs.Topology.{lanesChanged, idAt, slotPlace, slotHeld, optional, beside, freedBy}
+use Rattle.topology.specs.Topology.{lanesChanged, idAt, slotPlace, slotHeld, byValue, besideRow, freedBy}
 use Rattle.topology.proofs.Linked.{word-written, keyed-keeps}
 use Rattle.topology.proofs.Table.{Keeps, over-row, row-words, all-formed, lanes-agree, lanes-agree-at, lanes-twice, one-lane, lanes-changed, lanes-kept, lane-changed, unique}
 
@@ -180,7 +180,7 @@ module _ (w : List ℕ) (l : length w ≡ 52) (f : Side → Option Neighbor) whe
 
   -- the slot that answers what was held
   free-held : Own w f → (side : Side) (held : Option Neighbor)
-      → freedBy side (optional held) (slotted w f) ≡ slotted w (λ s. cond (answering side held (word 0 w) s) none (f s))
+      → freedBy side (byValue held) (slotted w f) ≡ slotted w (λ s. cond (answering side held (word 0 w) s) none (f s))
   free-held h side none = refl
   free-held h side (some n) = free-keyed h (n .lane) (reciprocal-side side (n .direction))
 
@@ -211,11 +211,11 @@ module _ (w : List ℕ) (l : length w ≡ 52) (h : laneFormed w ≡ true) where
     own-after : Own w freed
     own-after = own-freed w (own w) (answering side old (word 0 w)) (own-own w)
 
-    row-freed : freedBy side (optional old) w ≡ slotted w freed
-    row-freed = ap (freedBy side (optional old)) as-slotted ∙ free-held w l (own w) (own-own w) side old
+    row-freed : freedBy side (byValue old) w ≡ slotted w freed
+    row-freed = ap (freedBy side (byValue old)) as-slotted ∙ free-held w l (own w) (own-own w) side old
 
     -- a slot freed
-    pub row-cleared : keyed a (setSlot (slotPlace side) none) (freedBy side (optional old) w) ≡ laneOnto w (reslotted (slotAfter a side none old none) (laneOf [] w))
+    pub row-cleared : keyed a (setSlot (slotPlace side) none) (freedBy side (byValue old) w) ≡ laneOnto w (reslotted (slotAfter a side none old none) (laneOf [] w))
     row-cleared =
         ap (keyed a (setSlot (slotPlace side) none)) row-freed
         ∙ (free-keyed w l freed own-after a side
@@ -236,11 +236,11 @@ module _ (w : List ℕ) (l : length w ≡ 52) (h : laneFormed w ≡ true) where
       abbrev put : Side → Option Neighbor
       put s = cond (eqb (word 0 w) a && sameSide s side) (some n) (freed2 s)
 
-      pub row-set : keyed (n .lane) (setSlot (slotPlace ans) (some back)) (keyed a (setSlot (slotPlace side) (some n)) (freedBy ans (optional other) (freedBy side (optional old) w)))
+      pub row-set : keyed (n .lane) (setSlot (slotPlace ans) (some back)) (keyed a (setSlot (slotPlace side) (some n)) (freedBy ans (byValue other) (freedBy side (byValue old) w)))
           ≡ laneOnto w (reslotted (slotAfter a side (some n) old other) (laneOf [] w))
       row-set =
           ap (λ z. keyed (n .lane) (setSlot (slotPlace ans) (some back)) (keyed a (setSlot (slotPlace side) (some n)) z))
-          (ap (freedBy ans (optional other)) row-freed ∙ free-held w l freed own-after ans other)
+          (ap (freedBy ans (byValue other)) row-freed ∙ free-held w l freed own-after ans other)
           ∙ (ap (keyed (n .lane) (setSlot (slotPlace ans) (some back))) (put-keyed w l freed2 a side n)
           ∙ (put-keyed w l put (n .lane) ans back
           ∙ (slotted-same w (λ s. cond (eqb (word 0 w) (n .lane) && sameSide s ans) (some back) (put s)) (λ s. slotAfter a side (some n) old other (word 0 w) s (own w s)) same-slot
@@ -286,14 +286,14 @@ module _ (t : List ℕ) (i p : ℕ) (side : Side) (e : p ≡ slotPlace side) whe
       held-read
       ∙ (ap (λ x. cond x none (cond (eqb m 1) (some (same y)) (some (opposing y)))) f ∙ ap (λ x. cond a none (cond x (some (same y)) (some (opposing y)))) g)
 
-  pub held-none : m ≡ 0 → None ≡ optional (slotHeld t i side)
-  held-none f = sym (ap optional (held-by true (eqb m 1) (eq-eqb m 0 f) refl))
+  pub held-none : m ≡ 0 → None ≡ byValue (slotHeld t i side)
+  held-none f = sym (ap byValue (held-by true (eqb m 1) (eq-eqb m 0 f) refl))
 
-  pub held-same : (n : Neighbor) → (m ≡ 0 → ⊥) → m ≡ 1 → n ≡ same y → Some n ≡ optional (slotHeld t i side)
-  held-same n f g q = ap (λ x. Some x) q ∙ sym (ap optional (held-by false true (ne-eqb m 0 f) (eq-eqb m 1 g)))
+  pub held-same : (n : Neighbor) → (m ≡ 0 → ⊥) → m ≡ 1 → n ≡ same y → Some n ≡ byValue (slotHeld t i side)
+  held-same n f g q = ap (λ x. Some x) q ∙ sym (ap byValue (held-by false true (ne-eqb m 0 f) (eq-eqb m 1 g)))
 
-  pub held-opposite : (n : Neighbor) → (m ≡ 0 → ⊥) → (m ≡ 1 → ⊥) → n ≡ opposing y → Some n ≡ optional (slotHeld t i side)
-  held-opposite n f g q = ap (λ x. Some x) q ∙ sym (ap optional (held-by false false (ne-eqb m 0 f) (ne-eqb m 1 g)))
+  pub held-opposite : (n : Neighbor) → (m ≡ 0 → ⊥) → (m ≡ 1 → ⊥) → n ≡ opposing y → Some n ≡ byValue (slotHeld t i side)
+  held-opposite n f g q = ap (λ x. Some x) q ∙ sym (ap byValue (held-by false false (ne-eqb m 0 f) (ne-eqb m 1 g)))
 
 -- one word stored, and two
 module _ {A : Type 0} (w : List A) (a : ℕ) where
@@ -403,7 +403,7 @@ module _ (t : List ℕ) (h : searchable t ≡ true) (g : List ℕ → List ℕ) 
 
 -- ---- clear_slot
 
-module _ (t : List ℕ) (h : searchable t ≡ true) (i : ℕ) (li : i < word 0 t) (side : Side) (old : OptionNeighbor) (eo : old ≡ optional (slotHeld t i side))
+module _ (t : List ℕ) (h : searchable t ≡ true) (i : ℕ) (li : i < word 0 t) (side : Side) (old : OptionNeighbor) (eo : old ≡ byValue (slotHeld t i side))
     (t1 : List ℕ) (e1 : t1 ≡ onRows 52 (freedBy side old) t) where
   pub clear-search : searchable t1 ≡ true
   clear-search = changed-search t h (freedBy side old) (freed-keeps side old) t1 e1
@@ -422,18 +422,18 @@ module _ (t : List ℕ) (h : searchable t ≡ true) (i : ℕ) (li : i < word 0 t
       ∙ (ap (λ z. onRows 52 (keyed z free) t1) (changed-id t h (freedBy side old) k t1 e1 i li)
       ∙ (changed-next t h (freedBy side old) k t1 e1 (keyed a free) (onRows 52 (keyed a free) t1) refl
       ∙ (ap (λ x. onRows 52 (λ w. keyed a free (freedBy side x w)) t) eo
-      ∙ (lanes-agree t h (λ w. keyed a free (freedBy side (optional (slotHeld t i side)) w)) (λ w. laneOnto w (reslotted f (laneOf [] w))) (λ w l q. row-cleared w l q a side (slotHeld t i side))
+      ∙ (lanes-agree t h (λ w. keyed a free (freedBy side (byValue (slotHeld t i side)) w)) (λ w. laneOnto w (reslotted f (laneOf [] w))) (λ w l q. row-cleared w l q a side (slotHeld t i side))
       ∙ sym (lanes-changed t h (reslotted f) (λ l. refl))))))
 
 -- ---- set_neighbor
 
 module _ (t : List ℕ) (h : searchable t ≡ true) (i j : ℕ) (li : i < word 0 t) (lj : j < word 0 t) (apart : j ≡ i → ⊥) (side ans : Side) (d : NeighborDirection)
-    (ea : ans ≡ reciprocal-side side d) (old other : OptionNeighbor) (eo : old ≡ optional (slotHeld t i side)) (er : other ≡ optional (slotHeld t j ans)) where
+    (ea : ans ≡ reciprocal-side side d) (old other : OptionNeighbor) (eo : old ≡ byValue (slotHeld t i side)) (er : other ≡ byValue (slotHeld t j ans)) where
   abbrev to : Neighbor
-  to = beside t j d
+  to = besideRow t j d
 
   abbrev from : Neighbor
-  from = beside t i d
+  from = besideRow t i d
 
   abbrev g1 : List ℕ → List ℕ
   g1 = freedBy side old
@@ -488,11 +488,11 @@ module _ (t : List ℕ) (h : searchable t ≡ true) (i j : ℕ) (li : i < word 0
 
           -- the changes in terms of the records
           told : onRows 52 g4 t
-              ≡ onRows 52 (λ w. keyed (idAt t j) (setSlot (slotPlace (reciprocal-side side d)) (some from)) (keyed (idAt t i) (setSlot (slotPlace side) (some to)) (freedBy (reciprocal-side side d) (optional (slotHeld t j (reciprocal-side side d))) (freedBy side (optional (slotHeld t i side)) w)))) t
+              ≡ onRows 52 (λ w. keyed (idAt t j) (setSlot (slotPlace (reciprocal-side side d)) (some from)) (keyed (idAt t i) (setSlot (slotPlace side) (some to)) (freedBy (reciprocal-side side d) (byValue (slotHeld t j (reciprocal-side side d))) (freedBy side (byValue (slotHeld t i side)) w)))) t
           told =
               ap (λ x. onRows 52 (λ w. keyed (idAt t j) (setSlot (slotPlace ans) (some from)) (keyed (idAt t i) (setSlot (slotPlace side) (some to)) (freedBy ans other (freedBy side x w)))) t) eo
-              ∙ (ap (λ x. onRows 52 (λ w. keyed (idAt t j) (setSlot (slotPlace ans) (some from)) (keyed (idAt t i) (setSlot (slotPlace side) (some to)) (freedBy ans x (freedBy side (optional (slotHeld t i side)) w)))) t) er
-              ∙ ap (λ x. onRows 52 (λ w. keyed (idAt t j) (setSlot (slotPlace x) (some from)) (keyed (idAt t i) (setSlot (slotPlace side) (some to)) (freedBy x (optional (slotHeld t j x)) (freedBy side (optional (slotHeld t i side)) w)))) t) ea)
+              ∙ (ap (λ x. onRows 52 (λ w. keyed (idAt t j) (setSlot (slotPlace ans) (some from)) (keyed (idAt t i) (setSlot (slotPlace side) (some to)) (freedBy ans x (freedBy side (byValue (slotHeld t i side)) w)))) t) er
+              ∙ ap (λ x. onRows 52 (λ w. keyed (idAt t j) (setSlot (slotPlace x) (some from)) (keyed (idAt t i) (setSlot (slotPlace side) (some to)) (freedBy x (byValue (slotHeld t j x)) (freedBy side (byValue (slotHeld t i side)) w)))) t) ea)
 
           pub set-both : t4 ≡ lanesChanged (reslotted (slotAfter (idAt t i) side (some to) (slotHeld t i side) (slotHeld t j (reciprocal-side side d)))) t
           set-both =
@@ -500,7 +500,7 @@ module _ (t : List ℕ) (h : searchable t ≡ true) (i j : ℕ) (li : i < word 0
               at4
               ∙ (told
               ∙ (lanes-agree t h
-              (λ w. keyed (idAt t j) (setSlot (slotPlace (reciprocal-side side d)) (some from)) (keyed (idAt t i) (setSlot (slotPlace side) (some to)) (freedBy (reciprocal-side side d) (optional (slotHeld t j (reciprocal-side side d))) (freedBy side (optional (slotHeld t i side)) w))))
+              (λ w. keyed (idAt t j) (setSlot (slotPlace (reciprocal-side side d)) (some from)) (keyed (idAt t i) (setSlot (slotPlace side) (some to)) (freedBy (reciprocal-side side d) (byValue (slotHeld t j (reciprocal-side side d))) (freedBy side (byValue (slotHeld t i side)) w))))
               (λ w. laneOnto w (reslotted f (laneOf [] w)))
               (λ w l q. row-set w l q (idAt t i) side (slotHeld t i side) to (slotHeld t j (reciprocal-side side d)) (λ z. apart (unique t h i j li lj z)))
               ∙ sym (lanes-changed t h (reslotted f) (λ l. refl))))

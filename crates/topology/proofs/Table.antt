@@ -19,8 +19,8 @@ use Rattle.lists.proofs.Select.{ascending-places}
 use Rattle.entities.specs.Records.{Lane}
 use Rattle.tables.specs.View.{word, rows, laneOf}
 use Rattle.tables.specs.Formed.{counted, laneFormed}
-use Rattle.map.specs.Returned.{searchable, laneAt}
-use Rattle.map.proofs.Lanes.{lanes-counted, lanes-ascend, lanes-some, lanes-few, lanes-room, lanes-formed, lane-room, row-formed, id-at}
+use Rattle.row_tests.specs.Returned.{searchable, laneAt}
+use Rattle.row_tests.proofs.Lanes.{lanes-counted, lanes-ascend, lanes-some, lanes-few, lanes-room, lanes-formed, lane-room, row-formed, id-at}
 use Rattle.store.specs.Store.{laneOnto}
 use Rattle.store.specs.Rows.{mapRows, onRows, keyed}
 use Rattle.store.proofs.Rows.{front-over, passing, rowAt, rows-agree, rows-agree-at, rows-stay, rows-twice, rows-read, rows-length, one-keyed}

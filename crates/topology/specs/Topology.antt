@@ -15,7 +15,7 @@ use Rattle.entities.specs.Types.{reciprocal-side}
 use Rattle.rules.specs.Names.{Side, Left, Right}
 use Rattle.rules.specs.Map.{neighborOn}
 use Rattle.tables.specs.View.{word, idsAt, rows, laneOf}
-use Rattle.map.specs.Returned.{laneAt}
+use Rattle.row_tests.specs.Returned.{laneAt}
 use Rattle.store.specs.Store.{laneOnto, storeRows}
 use Rattle.store.specs.Rows.{keyed, setSlot}
 use Rattle.tables.specs.Columns.{laneWords, rowId}
@@ -46,17 +46,17 @@ slotPlace Left = 14
 slotPlace Right = 16
 
 -- what a neighbour's slot holds, as the enum
-abbrev pub optional : Option Neighbor → OptionNeighbor
-optional none = None
-optional (some n) = Some n
+abbrev pub byValue : Option Neighbor → OptionNeighbor
+byValue none = None
+byValue (some n) = Some n
 
 -- what the lane in row i has on a side
 abbrev pub slotHeld : List ℕ → ℕ → Side → Option Neighbor
 slotHeld t i side = neighborOn side (laneOf [] (laneAt t i))
 
 -- the lane in row j as a neighbour
-abbrev pub beside : List ℕ → ℕ → NeighborDirection → Neighbor
-beside t j d = record { lane = idAt t j; direction = d }
+abbrev pub besideRow : List ℕ → ℕ → NeighborDirection → Neighbor
+besideRow t j d = record { lane = idAt t j; direction = d }
 
 -- a row, where it is that of the neighbour held on a side, with its answering slot freed
 abbrev pub freedBy : Side → OptionNeighbor → List ℕ → List ℕ

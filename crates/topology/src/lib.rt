@@ -13,7 +13,7 @@ ghost use Rattle.rules.specs.Edit.{linkIn, linkOut, slotAfter, reslotted};
 ghost use Rattle.store.specs.Store.{directionMark};
 ghost use Rattle.store.specs.Rows.{onRows, keyed, setSlot};
 ghost use Rattle.tables.specs.View.{word};
-ghost use Rattle.map.specs.Returned.{searchable, laneAt};
+ghost use Rattle.row_tests.specs.Returned.{searchable, laneAt};
 ghost use Rattle.topology.specs.Topology as T;
 use entities::Neighbor;
 use entities::NeighborDirection;
@@ -106,7 +106,7 @@ pub fn direction_mark(direction: NeighborDirection) -> u64
 // The neighbour of the lane in row i on a side.
 pub fn neighbor(lanes: &[u64], i: usize, side: Side) -> OptionNeighbor
     requires { ⌜ (searchable (now lanes) ≡ true) × (i < word 0 (now lanes)) ⌝ }
-    ensures { λ r. ⌜ r ≡ T.optional (T.slotHeld (now (lanes .entry)) i side) ⌝ }
+    ensures { λ r. ⌜ r ≡ T.byValue (T.slotHeld (now (lanes .entry)) i side) ⌝ }
 {
     let at = 1 + i * LANE + slot_place(side);
     let mark = lanes[at];
@@ -161,7 +161,7 @@ pub fn clear_slot(lanes: &mut [u64], i: usize, side: Side)
 // The lane in row j set beside the lane in row i, another one, on a side. What either slot held is freed first.
 pub fn set_neighbor(lanes: &mut [u64], i: usize, side: Side, j: usize, direction: NeighborDirection)
     requires { ⌜ (searchable (now lanes) ≡ true) × ((i < word 0 (now lanes)) × ((j < word 0 (now lanes)) × (j ≡ i → ⊥))) ⌝ }
-    ensures { λ _. ⌜ now (lanes .exit) ≡ T.lanesChanged (reslotted (slotAfter (T.idAt (now (lanes .entry)) i) side (some (T.beside (now (lanes .entry)) j direction)) (T.slotHeld (now (lanes .entry)) i side) (T.slotHeld (now (lanes .entry)) j (reciprocal-side side direction)))) (now (lanes .entry)) ⌝ }
+    ensures { λ _. ⌜ now (lanes .exit) ≡ T.lanesChanged (reslotted (slotAfter (T.idAt (now (lanes .entry)) i) side (some (T.besideRow (now (lanes .entry)) j direction)) (T.slotHeld (now (lanes .entry)) i side) (T.slotHeld (now (lanes .entry)) j (reciprocal-side side direction)))) (now (lanes .entry)) ⌝ }
 {
     let answer = reciprocal_side(side, direction);
     let old = neighbor(lanes, i, side);

@@ -6,7 +6,7 @@ use native.Mathlib.Omega.{arith}
 use Rattle.tables.specs.View.{Tables}
 use Rattle.step.specs.Step.{Lent, tablesOf, lentOf}
 use Rattle.edit.proofs.Beside.{set-absent}
-use Rattle.facts.proofs.Found.{found, missing, lanes-sorted, leads-may}
+use Rattle.sound_facts.proofs.Found.{found, missing, lanes-sorted, leads-may}
 use Rattle.edit.proofs.Ends.{set-may, freed, besides, beside-missing, beside-itself}
 
 -- what is lent

@@ -5,8 +5,8 @@ use Rattle.edit_lane.proofs.drop_lane.Tie as tie
 use mathlib.Core.Path.{_≡_, ap, subst, sym, _∙_}
 use mathlib.Core.Bool.{true}
 use native.Mathlib.Omega.{arith}
-use Rattle.naming.specs.declared.Rows.the-variants.{Lanes}
-use Rattle.naming.specs.Naming.{tableFormed, forgets}
+use Rattle.mentions.specs.declared.Rows.the-variants.{Lanes}
+use Rattle.mentions.specs.Naming.{tableFormed, forgets}
 use Rattle.store.specs.Rows.{stays, onRows}
 use Rattle.edit_lane.proofs.Staying.{lanes-room, lanes-formed}
 

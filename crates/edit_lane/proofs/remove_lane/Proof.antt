@@ -5,7 +5,7 @@ use Rattle.edit_lane.proofs.remove_lane.Tie as tie
 use native.Mathlib.Omega.{arith}
 use Rattle.tables.specs.View.{Tables}
 use Rattle.step.specs.Step.{Lent, tablesOf, lentOf}
-use Rattle.facts.proofs.Found.{lanes-sorted, found, missing}
+use Rattle.sound_facts.proofs.Found.{lanes-sorted, found, missing}
 use Rattle.edit_lane.proofs.Calls.{may-remove, absent, ends}
 
 -- what is lent

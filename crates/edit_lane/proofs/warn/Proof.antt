@@ -5,8 +5,8 @@ use Prim.Native.Nat.{_+_, _*_, _-_, _≤_}
 use native.Mathlib.Omega.{arith}
 use lib.ListN.{length}
 use mathlib.Core.Path.{refl}
-use Rattle.naming.specs.declared.Rows.the-variants.{Orphans}
-use Rattle.naming.proofs.Turns.{formed-some, formed-few, lent-room, lent-formed}
+use Rattle.mentions.specs.declared.Rows.the-variants.{Orphans}
+use Rattle.mentions.proofs.Turns.{formed-some, formed-few, lent-room, lent-formed}
 use Rattle.edit_lane.proofs.Warned.{Warned, warned-none, warned-length, warned-room, warned-turn, warned-all}
 
 abbrev Inv-loop : tie.InvT-loop

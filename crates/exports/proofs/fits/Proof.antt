@@ -16,7 +16,7 @@ use Rattle.geometry.specs.declared.Point3.{Point3}
 use Rattle.polyline.specs.Polyline.{points, lineLength, slice, between, point-at, firstPiece, secondPiece}
 use Rattle.polyline.proofs.Lines.{length-inner, optional-few, slice-short}
 use Rattle.polyline.proofs.Counts.{held-to, length-slice, slice-one-empty}
-use Rattle.exports.specs.Split.{room}
+use Rattle.exports.specs.Split.{piecesFit}
 
 module _ (from to : Float) where
   -- the first point is never between
@@ -37,18 +37,18 @@ module _ (ps : List Point3) (from to : Float) where
           omega (arith, length-slice ps from to two t, between-few (held-to ps from) (held-to ps to) ps (omega arith))
 
 module _ (ps : List Point3) (s : Float) (n : ℕ) where
-  surely : length ps < n / 3 / 2 → room ps s n ≡ true
-  unfolding room firstPiece secondPiece
+  surely : length ps < n / 3 / 2 → piecesFit ps s n ≡ true
+  unfolding piecesFit firstPiece secondPiece
   surely h =
       le-leb ((length (slice ps zeroᶠ s) + length (slice ps s (lineLength ps))) * 3) n (omega (arith, slice-few ps zeroᶠ s, slice-few ps s (lineLength ps)))
 
 module _ (ps : List Point3) (s : Float) (n f g : ℕ) (p : f ≡ length (slice ps zeroᶠ s)) (q : g ≡ length (slice ps s (lineLength ps))) where
-  no-room : n / 3 < f + g → room ps s n ≡ false
-  unfolding room firstPiece secondPiece
+  no-room : n / 3 < f + g → piecesFit ps s n ≡ false
+  unfolding piecesFit firstPiece secondPiece
   no-room h = lt-leb ((length (slice ps zeroᶠ s) + length (slice ps s (lineLength ps))) * 3) n (omega arith)
 
-  has-room : f + g ≤ n / 3 → room ps s n ≡ true
-  unfolding room firstPiece secondPiece
+  has-room : f + g ≤ n / 3 → piecesFit ps s n ≡ true
+  unfolding piecesFit firstPiece secondPiece
   has-room h = le-leb ((length (slice ps zeroᶠ s) + length (slice ps s (lineLength ps))) * 3) n (omega arith)
 
 count-requires : tie.Need-count-requires

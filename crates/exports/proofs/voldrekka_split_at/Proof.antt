@@ -8,7 +8,7 @@ use mathlib.Core.Bool.{Bool, true, false, not}
 use lib.ListN.{length}
 use Prim.Native.Nat.{_+_, _*_}
 use Rattle.polyline.specs.Polyline.{points, firstPiece, secondPiece}
-use Rattle.exports.specs.Split.{room}
+use Rattle.exports.specs.Split.{piecesFit}
 
 is-false : (b : Bool) → not b ≡ true → b ≡ false
 is-false true h = sym h
@@ -25,7 +25,7 @@ returns : tie.Need-returns
 returns c = rw (sym (c .before .fits2 .ensures) ∙ is-false _ (c .if1 .taken)) (refl, (refl, refl))
 
 split-at-requires : tie.Need-split-at-requires
-unfolding room
+unfolding piecesFit
 split-at-requires c κs =
     let ps = points (c .before .before .before .before .before .args .line .now) in
     let s = c .before .before .before .before .before .args .station in

@@ -11,7 +11,7 @@ use lib.Seq.{take-all}
 use Rattle.lists.specs.Rows.{over}
 use Rattle.lists.proofs.Rows.{over-nil, length-keys}
 use Rattle.tables.specs.View.{word}
-use Rattle.map.proofs.Lanes.{lanes-some, lane-room}
+use Rattle.row_tests.proofs.Lanes.{lanes-some, lane-room}
 use Rattle.group.specs.Walk.{idsOf, chosen}
 use Rattle.group.proofs.Choose.{choose-one, choose-store, choose-none}
 

@@ -5,7 +5,7 @@ use Rattle.group.proofs.slot_row.Tie as tie
 use Prim.Native.Nat.{_+_, _*_, _≤_}
 use native.Mathlib.Omega.{arith}
 use lib.ListN.{length, getD}
-use Rattle.map.proofs.Lanes.{lanes-some, lane-room, slot-within, search-may, search-gives}
+use Rattle.row_tests.proofs.Lanes.{lanes-some, lane-room, slot-within, search-may, search-gives}
 use Rattle.group.proofs.Slots.{slot-empty, slot-search}
 
 -- the row lies in the table, and the slot in the row

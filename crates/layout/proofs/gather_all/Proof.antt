@@ -10,7 +10,7 @@ use Prim.Native.Nat.{ℕ, _+_}
 use lib.Ieee.{Float}
 use Rattle.tables.specs.View.{Tables}
 use Rattle.tables.specs.Formed.{Span, spans, counted}
-use Rattle.layout.specs.Layout.{laid, centerlines, lines, lineTables, boundaryLines, stopLines, leftEdges, rightEdges}
+use Rattle.layout.specs.Layout.{lineFloats, centerlines, columnLines, lineTables, boundaryLines, stopLines, leftEdges, rightEdges}
 use Rattle.layout.proofs.Stages.{Stage, lefts-on, stops-on, centers-on, counts, stage-start, stage-fits, stage-room, stage-step, all-gathered, rights-ready, right-needs, right-last}
 
 abbrev tables : tie.Start → Tables
@@ -20,35 +20,35 @@ tables s = lineTables (s .args .lanes .now) (s .args .boundaries .now) (s .args 
 abbrev Before : tie.Start → List Float → ℕ → List Span → Type 0
 Before s c at rest = Stage (s .args .work .now) (s .args .coordinates .now) (spans (tables s)) c at rest
 
-start : (s : tie.Start) → Before s (s .args .coordinates .now) 0 (lines boundaryLines (s .args .boundaries .now) ++ centers-on (s .args .lanes .now) (s .args .stop-lines .now) (s .args .crosswalks .now))
+start : (s : tie.Start) → Before s (s .args .coordinates .now) 0 (columnLines boundaryLines (s .args .boundaries .now) ++ centers-on (s .args .lanes .now) (s .args .stop-lines .now) (s .args .crosswalks .now))
 start s = stage-start (s .args .work .now) (tables s) (s .pre)
 
 centers : (c : tie.After-gather) → Before (c .before .before .before .before .before .before .before .before .before) (c .gather .last .1 .1 .1 .1 .0) (c .gather .result) (centers-on (c .before .before .before .before .before .before .before .before .before .args .lanes .now) (c .before .before .before .before .before .before .before .before .before .args .stop-lines .now) (c .before .before .before .before .before .before .before .before .before .args .crosswalks .now))
 centers c =
     let s = c .before .before .before .before .before .before .before .before .before in
-    stage-step (s .args .work .now) (s .args .coordinates .now) (spans (tables s)) (s .args .coordinates .now) 0 (lines boundaryLines (s .args .boundaries .now)) (centers-on (s .args .lanes .now) (s .args .stop-lines .now) (s .args .crosswalks .now)) (start s)
+    stage-step (s .args .work .now) (s .args .coordinates .now) (spans (tables s)) (s .args .coordinates .now) 0 (columnLines boundaryLines (s .args .boundaries .now)) (centers-on (s .args .lanes .now) (s .args .stop-lines .now) (s .args .crosswalks .now)) (start s)
     (c .gather .last .1 .1 .1 .1 .0) (c .gather .result) (c .gather .ensures .0) (c .gather .ensures .1 .1)
 
 stops : (c : tie.After-gather-centers) → Before (c .before .before .before .before .before .before .before .before .before .before .before .before .before .before .before .before) (c .gather-centers .last .1 .1 .0) (c .gather-centers .result) (stops-on (c .before .before .before .before .before .before .before .before .before .before .before .before .before .before .before .before .args .stop-lines .now) (c .before .before .before .before .before .before .before .before .before .before .before .before .before .before .before .before .args .crosswalks .now))
 stops c =
     let s = c .before .before .before .before .before .before .before .before .before .before .before .before .before .before .before .before in
-    stage-step (s .args .work .now) (s .args .coordinates .now) (spans (tables s)) (c .before .before .before .before .before .before .before .gather .last .1 .1 .1 .1 .0) (c .before .before .before .before .before .before .before .gather .result) (lines centerlines (s .args .lanes .now)) (stops-on (s .args .stop-lines .now) (s .args .crosswalks .now)) (centers (c .before .before .before .before .before .before .before))
+    stage-step (s .args .work .now) (s .args .coordinates .now) (spans (tables s)) (c .before .before .before .before .before .before .before .gather .last .1 .1 .1 .1 .0) (c .before .before .before .before .before .before .before .gather .result) (columnLines centerlines (s .args .lanes .now)) (stops-on (s .args .stop-lines .now) (s .args .crosswalks .now)) (centers (c .before .before .before .before .before .before .before))
     (c .gather-centers .last .1 .1 .0) (c .gather-centers .result) (c .gather-centers .ensures .0) (c .gather-centers .ensures .1 .1)
 
 lefts : (c : tie.After-gather2) → Before (c .before .before .before .before .before .before .before .before .before .before .before .before .before .before .before .before .before .before .before .before .before .before .before) (c .gather2 .last .1 .1 .1 .1 .0) (c .gather2 .result) (lefts-on (c .before .before .before .before .before .before .before .before .before .before .before .before .before .before .before .before .before .before .before .before .before .before .before .args .crosswalks .now))
 lefts c =
     let s = c .before .before .before .before .before .before .before .before .before .before .before .before .before .before .before .before .before .before .before .before .before .before .before in
-    stage-step (s .args .work .now) (s .args .coordinates .now) (spans (tables s)) (c .before .before .before .before .before .before .before .gather-centers .last .1 .1 .0) (c .before .before .before .before .before .before .before .gather-centers .result) (lines stopLines (s .args .stop-lines .now)) (lefts-on (s .args .crosswalks .now)) (stops (c .before .before .before .before .before .before .before))
+    stage-step (s .args .work .now) (s .args .coordinates .now) (spans (tables s)) (c .before .before .before .before .before .before .before .gather-centers .last .1 .1 .0) (c .before .before .before .before .before .before .before .gather-centers .result) (columnLines stopLines (s .args .stop-lines .now)) (lefts-on (s .args .crosswalks .now)) (stops (c .before .before .before .before .before .before .before))
     (c .gather2 .last .1 .1 .1 .1 .0) (c .gather2 .result) (c .gather2 .ensures .0) (c .gather2 .ensures .1 .1)
 
-rights : (c : tie.After-gather3) → Before (c .before .before .before .before .before .before .before .before .before .before .before .before .before .before .before .before .before .before .before .before .before .before .before .before .before .before .before .before .before .before) (c .gather3 .last .1 .1 .1 .1 .0) (c .gather3 .result) (lines rightEdges (c .before .before .before .before .before .before .before .before .before .before .before .before .before .before .before .before .before .before .before .before .before .before .before .before .before .before .before .before .before .before .args .crosswalks .now))
+rights : (c : tie.After-gather3) → Before (c .before .before .before .before .before .before .before .before .before .before .before .before .before .before .before .before .before .before .before .before .before .before .before .before .before .before .before .before .before .before) (c .gather3 .last .1 .1 .1 .1 .0) (c .gather3 .result) (columnLines rightEdges (c .before .before .before .before .before .before .before .before .before .before .before .before .before .before .before .before .before .before .before .before .before .before .before .before .before .before .before .before .before .before .args .crosswalks .now))
 rights c =
     let s = c .before .before .before .before .before .before .before .before .before .before .before .before .before .before .before .before .before .before .before .before .before .before .before .before .before .before .before .before .before .before in
-    stage-step (s .args .work .now) (s .args .coordinates .now) (spans (tables s)) (c .before .before .before .before .before .before .before .gather2 .last .1 .1 .1 .1 .0) (c .before .before .before .before .before .before .before .gather2 .result) (lines leftEdges (s .args .crosswalks .now)) (lines rightEdges (s .args .crosswalks .now)) (lefts (c .before .before .before .before .before .before .before))
+    stage-step (s .args .work .now) (s .args .coordinates .now) (spans (tables s)) (c .before .before .before .before .before .before .before .gather2 .last .1 .1 .1 .1 .0) (c .before .before .before .before .before .before .before .gather2 .result) (columnLines leftEdges (s .args .crosswalks .now)) (columnLines rightEdges (s .args .crosswalks .now)) (lefts (c .before .before .before .before .before .before .before))
     (c .gather3 .last .1 .1 .1 .1 .0) (c .gather3 .result) (c .gather3 .ensures .0) (c .gather3 .ensures .1 .1)
 
 -- the crosswalks with their left edges laid out
-edges : (c : tie.After-gather3) → (counted 4096 7 (c .gather3 .last .0) ≡ true) × (lines rightEdges (c .gather3 .last .0) ≡ lines rightEdges (c .before .before .before .before .before .before .before .before .before .before .before .before .before .before .before .before .before .before .before .before .before .before .before .before .before .before .before .before .before .before .args .crosswalks .now))
+edges : (c : tie.After-gather3) → (counted 4096 7 (c .gather3 .last .0) ≡ true) × (columnLines rightEdges (c .gather3 .last .0) ≡ columnLines rightEdges (c .before .before .before .before .before .before .before .before .before .before .before .before .before .before .before .before .before .before .before .before .before .before .before .before .before .before .before .before .before .before .args .crosswalks .now))
 edges c =
     let s = c .before .before .before .before .before .before .before .before .before .before .before .before .before .before .before .before .before .before .before .before .before .before .before .before .before .before .before .before .before .before in
     rights-ready (c .before .before .before .before .before .before .before .gather2 .result) (s .args .crosswalks .now) (c .gather3 .last .0) (c .gather3 .ensures .1 .0) (counts (tables s) (s .pre .counts) .1 .1 .1)
@@ -56,7 +56,7 @@ edges c =
 gather-requires : tie.Need-gather-requires
 gather-requires c κs =
     let s = c .before .before .before .before .before .before .before .before in
-    let a = lines boundaryLines (s .args .boundaries .now) in
+    let a = columnLines boundaryLines (s .args .boundaries .now) in
     let r = centers-on (s .args .lanes .now) (s .args .stop-lines .now) (s .args .crosswalks .now) in
     (omega arith, (omega arith, (counts (tables s) (s .pre .counts) .1 .0, (stage-fits (s .args .work .now) (s .args .coordinates .now) (spans (tables s)) (s .args .coordinates .now) 0 a r (start s), stage-room (s .args .work .now) (s .args .coordinates .now) (spans (tables s)) (s .args .coordinates .now) 0 a r (start s)))))
 
@@ -64,7 +64,7 @@ gather-centers-requires : tie.Need-gather-centers-requires
 gather-centers-requires c κs =
     let s = c .before .before .before .before .before .before .before .before .before .before .before .before .before .before .before in
     let g = c .before .before .before .before .before .before .gather in
-    let a = lines centerlines (s .args .lanes .now) in
+    let a = columnLines centerlines (s .args .lanes .now) in
     let r = stops-on (s .args .stop-lines .now) (s .args .crosswalks .now) in
     let p = centers (c .before .before .before .before .before .before) in
     (counts (tables s) (s .pre .counts) .0, (stage-fits (s .args .work .now) (s .args .coordinates .now) (spans (tables s)) (g .last .1 .1 .1 .1 .0) (g .result) a r p, stage-room (s .args .work .now) (s .args .coordinates .now) (spans (tables s)) (g .last .1 .1 .1 .1 .0) (g .result) a r p))
@@ -73,7 +73,7 @@ gather-requires-2 : tie.Need-gather-requires-2
 gather-requires-2 c κs =
     let s = c .before .before .before .before .before .before .before .before .before .before .before .before .before .before .before .before .before .before .before .before .before .before in
     let g = c .before .before .before .before .before .before .gather-centers in
-    let a = lines stopLines (s .args .stop-lines .now) in
+    let a = columnLines stopLines (s .args .stop-lines .now) in
     let r = lefts-on (s .args .crosswalks .now) in
     let p = stops (c .before .before .before .before .before .before) in
     (omega arith, (omega arith, (counts (tables s) (s .pre .counts) .1 .1 .0, (stage-fits (s .args .work .now) (s .args .coordinates .now) (spans (tables s)) (g .last .1 .1 .0) (g .result) a r p, stage-room (s .args .work .now) (s .args .coordinates .now) (spans (tables s)) (g .last .1 .1 .0) (g .result) a r p))))
@@ -82,8 +82,8 @@ gather-requires-3 : tie.Need-gather-requires-3
 gather-requires-3 c κs =
     let s = c .before .before .before .before .before .before .before .before .before .before .before .before .before .before .before .before .before .before .before .before .before .before .before .before .before .before .before .before .before in
     let g = c .before .before .before .before .before .before .gather2 in
-    let a = lines leftEdges (s .args .crosswalks .now) in
-    let r = lines rightEdges (s .args .crosswalks .now) in
+    let a = columnLines leftEdges (s .args .crosswalks .now) in
+    let r = columnLines rightEdges (s .args .crosswalks .now) in
     let p = lefts (c .before .before .before .before .before .before) in
     (omega arith, (omega arith, (counts (tables s) (s .pre .counts) .1 .1 .1, (stage-fits (s .args .work .now) (s .args .coordinates .now) (spans (tables s)) (g .last .1 .1 .1 .1 .0) (g .result) a r p, stage-room (s .args .work .now) (s .args .coordinates .now) (spans (tables s)) (g .last .1 .1 .1 .1 .0) (g .result) a r p))))
 

@@ -14,7 +14,7 @@ use Rattle.rules.specs.Names.{Side, Left, Right}
 use Rattle.rules.specs.Map.{oriented-boundary}
 use Rattle.tables.specs.View.{laneOf}
 use Rattle.lookup.specs.declared.OptionCount.the-variants as N
-use Rattle.lookup.specs.Lookup.{rowAt, drawn, countOf, pointsOf}
+use Rattle.lookup.specs.Lookup.{rowAt, drawn, countOf, pointsOr}
 use Rattle.lookup.proofs.Laws.{written-none}
 use Rattle.lookup.proofs.Center.{count-none, oriented-few, side-length, side-small, side-there, side-few, left-absent, right-absent, center-room, center-empty, center-some}
 use Rattle.lookup.proofs.between_sides.Statement.{statement}
@@ -30,7 +30,7 @@ leftOut c = c .before .before .before .before .oriented-boundary .last .1 .1 .1 
 abbrev rightOut : tie.After-oriented-boundary2 → List Float
 rightOut c = c .oriented-boundary2 .last .1 .1 .1 .1 .1 .0
 
-few : (c : tie.After-oriented-boundary2) (side : Side) → length (pointsOf (sideOf c side)) ≤ 256
+few : (c : tie.After-oriented-boundary2) (side : Side) → length (pointsOr (sideOf c side)) ≤ 256
 few c side = oriented-few (c .before .before .before .before .before .before .before .before .before .before .before .before .args .coordinates .now) (c .before .before .before .before .before .before .before .before .before .before .before .before .args .boundaries .now) (rowAt 52 (c .before .before .before .before .before .before .before .before .before .before .before .before .args .lanes .now) (c .before .before .before .before .before .before .before .before .before .before .before .before .args .i)) side (c .before .before .before .before .before .before .before .before .before .before .before .before .pre .0 .boundaries-short)
 
 left-long : (c : tie.After-oriented-boundary2) → length (leftOut c) ≡ length (c .before .before .before .before .before .before .before .before .before .before .before .before .args .left .now)

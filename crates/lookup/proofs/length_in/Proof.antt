@@ -13,7 +13,7 @@ use Rattle.entities.specs.Records.{Line}
 use Rattle.rules.specs.Map.{centerline}
 use Rattle.tables.specs.View.{laneOf}
 use Rattle.lookup.specs.declared.OptionCount.the-variants as N
-use Rattle.lookup.specs.Lookup.{rowAt, drawn, countOf, pointsOf}
+use Rattle.lookup.specs.Lookup.{rowAt, drawn, countOf, pointsOr}
 use Rattle.lookup.proofs.Center.{count-none, lane-center-few, side-length, side-small, side-there, length-none, length-some}
 use Rattle.lookup.proofs.length_in.Statement.{statement}
 use Rattle.lookup.proofs.length_in.Tie as tie
@@ -25,7 +25,7 @@ center c = centerline (drawn (c .before .before .before .before .before .before 
 abbrev lineOut : tie.After-centerline → List Float
 lineOut c = c .centerline .last .1 .1 .1 .1 .0
 
-few : (c : tie.After-centerline) → length (pointsOf (center c)) ≤ 256
+few : (c : tie.After-centerline) → length (pointsOr (center c)) ≤ 256
 few c = lane-center-few (c .before .before .before .before .before .before .args .coordinates .now) (c .before .before .before .before .before .before .args .boundaries .now) (c .before .before .before .before .before .before .args .lanes .now) (c .before .before .before .before .before .before .args .i) (c .before .before .before .before .before .before .pre .0) (c .before .before .before .before .before .before .pre .1 .0)
 
 module _ (c : tie.After-centerline) (a : ℕ) (n : N.Some a ≡ countOf (center c)) where

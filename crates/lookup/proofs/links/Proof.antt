@@ -5,7 +5,7 @@ use Rattle.lookup.proofs.links.Tie as tie
 use Prim.Native.Nat.{_+_, _*_, _≤_, _<_}
 use native.Mathlib.Omega.{arith}
 use lib.ListN.{length, getD}
-use Rattle.map.proofs.Lanes.{ids-at}
+use Rattle.row_tests.proofs.Lanes.{ids-at}
 use Rattle.lookup.proofs.Laws.{sorted-row, word-in}
 
 room : (c : tie.Start) → (1 + c .args .i * 52 + 52 ≤ length (c .args .lanes .now)) × (c .args .column + 1 + getD (c .args .lanes .now) (1 + c .args .i * 52 + c .args .column) 0 ≤ 52)

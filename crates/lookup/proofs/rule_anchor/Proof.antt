@@ -1,7 +1,7 @@
 -- `lookup::rule_anchor` meets its contract: by the kind of the rule and its count of stop lines. Assumes nothing.
 use native.Mathlib.Omega.{arith}
 use borrow.Author.Needs.{needs}
-use Rattle.map.proofs.Tables.{row-room}
+use Rattle.row_tests.proofs.Tables.{row-room}
 use Rattle.lookup.proofs.Anchor.{anchor-stop, anchor-cross, anchor-none}
 use Rattle.lookup.proofs.rule_anchor.Statement.{statement}
 use Rattle.lookup.proofs.rule_anchor.Tie as tie

@@ -7,7 +7,7 @@ use Prim.Native.Nat.{_≤_}
 use native.Mathlib.Omega.{arith}
 use Rattle.rules.specs.Sound.{lastCounter}
 use Rattle.lists.proofs.Booleans.{and-fst}
-use Rattle.map.specs.Good.{largestId}
+use Rattle.row_tests.specs.Good.{largestId}
 use Rattle.apart.proofs.Stored.{spans-lines}
 use Rattle.tables.specs.Formed.{allClear}
 use Rattle.tables.specs.View.{tablesOf}

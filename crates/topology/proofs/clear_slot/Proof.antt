@@ -3,7 +3,7 @@ use borrow.Author.Needs.{needs}
 use Rattle.topology.proofs.clear_slot.Statement.{statement}
 use Rattle.topology.proofs.clear_slot.Tie as tie
 use native.Mathlib.Omega.{arith}
-use Rattle.map.proofs.Lanes.{lane-room}
+use Rattle.row_tests.proofs.Lanes.{lane-room}
 use Rattle.topology.proofs.Neighbors.{slot-room, clear-search, clear-within, cleared}
 
 neighbor-requires : tie.Need-neighbor-requires

@@ -4,7 +4,7 @@ use Rattle.topology.proofs.free_answer.Statement.{statement}
 use Rattle.topology.proofs.free_answer.Tie as tie
 use native.Mathlib.Omega.{arith}
 use mathlib.Core.Path.{sym, ap, _∙_}
-use Rattle.map.proofs.Lanes.{lane-room}
+use Rattle.row_tests.proofs.Lanes.{lane-room}
 use Rattle.lookup.proofs.Laws.{searchable-sorted}
 use Rattle.topology.specs.Topology.{slotPlace}
 use Rattle.topology.proofs.Neighbors.{slot-room, found-row, freed-none, freed-lost, freed-at}

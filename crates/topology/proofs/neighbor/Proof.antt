@@ -3,7 +3,7 @@ use borrow.Author.Needs.{needs}
 use Rattle.topology.proofs.neighbor.Statement.{statement}
 use Rattle.topology.proofs.neighbor.Tie as tie
 use native.Mathlib.Omega.{arith}
-use Rattle.map.proofs.Lanes.{lane-room}
+use Rattle.row_tests.proofs.Lanes.{lane-room}
 use Rattle.topology.proofs.Neighbors.{slot-room, held-none, held-same, held-opposite}
 
 mul-at : tie.Need-mul-at

@@ -5,7 +5,7 @@ use Rattle.topology.proofs.put_slot.Tie as tie
 use native.Mathlib.Omega.{arith}
 use Prim.Native.Nat.{_+_, _*_}
 use lib.ListN.{length-set}
-use Rattle.map.proofs.Lanes.{lane-room}
+use Rattle.row_tests.proofs.Lanes.{lane-room}
 use Rattle.topology.proofs.Neighbors.{slot-room, slot-put}
 
 mul-at : tie.Need-mul-at

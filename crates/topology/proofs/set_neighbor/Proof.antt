@@ -3,7 +3,7 @@ use borrow.Author.Needs.{needs}
 use Rattle.topology.proofs.set_neighbor.Statement.{statement}
 use Rattle.topology.proofs.set_neighbor.Tie as tie
 use native.Mathlib.Omega.{arith}
-use Rattle.map.proofs.Lanes.{lane-room}
+use Rattle.row_tests.proofs.Lanes.{lane-room}
 use Rattle.topology.proofs.Neighbors.{set-search1, set-may2, set-may3, set-both}
 
 reciprocal-side-requires : tie.Need-reciprocal-side-requires

@@ -4,7 +4,7 @@ use Rattle.relink.proofs.links.gapped.Statement.{statement}
 use Rattle.relink.proofs.links.gapped.Tie as tie
 use Rattle.lookup.specs.Lookup.{drawn}
 use Rattle.tables.specs.View.{laneOf}
-use Rattle.map.specs.Returned.{laneAt}
+use Rattle.row_tests.specs.Returned.{laneAt}
 use Rattle.relink.proofs.Gap.{gap-none, gap-left, gap-right}
 
 oriented-last-requires : tie.Need-oriented-last-requires

@@ -6,7 +6,7 @@ use native.Mathlib.Omega.{arith}
 use mathlib.Core.Path.{refl, ap, _∙_}
 use mathlib.Core.Logic.{inr}
 use Rattle.lists.specs.Select.{has}
-use Rattle.map.proofs.Lanes.{lane-room, links-within, ids-at}
+use Rattle.row_tests.proofs.Lanes.{lane-room, links-within, ids-at}
 
 mul-at : tie.Need-mul-at
 mul-at c = omega (arith, lane-room (c .before .args .lanes .now) (c .before .pre .0) (c .before .args .i) (c .before .pre .1), links-within (c .before .args .lanes .now) (c .before .pre .0) (c .before .args .i) (c .before .pre .1) 35 (inr refl))

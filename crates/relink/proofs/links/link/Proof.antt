@@ -5,7 +5,7 @@ use Rattle.relink.proofs.links.link.Tie as tie
 use native.Mathlib.Omega.{arith}
 use lib.ListN.{length, getD}
 use Prim.Native.Nat.{_+_, _*_}
-use Rattle.map.proofs.Lanes.{lane-room}
+use Rattle.row_tests.proofs.Lanes.{lane-room}
 use Rattle.relink.proofs.Reported.{pair-few, link-counted, link-fits, link-room, link-done, link-full}
 
 mul-from : tie.Need-mul-from

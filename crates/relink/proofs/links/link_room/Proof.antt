@@ -3,7 +3,7 @@ use borrow.Author.Needs.{needs}
 use Rattle.relink.proofs.links.link_room.Statement.{statement}
 use Rattle.relink.proofs.links.link_room.Tie as tie
 use native.Mathlib.Omega.{arith}
-use Rattle.map.proofs.Lanes.{lane-room}
+use Rattle.row_tests.proofs.Lanes.{lane-room}
 use Rattle.relink.proofs.Linking.{room-by-counts}
 
 returns : tie.Need-returns

@@ -6,7 +6,7 @@ use native.Mathlib.Omega.{arith}
 use mathlib.Core.Bool.{not}
 use lib.ListN.{length, getD}
 use Prim.Native.Nat.{_+_, _*_}
-use Rattle.map.proofs.Lanes.{lane-room}
+use Rattle.row_tests.proofs.Lanes.{lane-room}
 use Rattle.relink.proofs.Reported.{pair-few, unlink-counted, unlink-fits, unlink-done, unlink-full}
 
 mul-from : tie.Need-mul-from
