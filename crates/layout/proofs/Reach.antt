@@ -18,7 +18,7 @@ use Rattle.tables.specs.View.{Tables, word}
 use Rattle.tables.specs.Formed.{Span, spans}
 use Rattle.apart.specs.Marks.{within}
 use Rattle.apart.proofs.Marks.{within-cases}
-use Rattle.layout.specs.Layout.{Column, centerlines, lineOf, columnLines, lineTables, countedLines, linesFormed, endOf, farthest, boundaryLines, stopLines, leftEdges, rightEdges}
+use Rattle.layout.specs.Layout.{Column, centerlines, lineOf, columnLines, lineTables, countedLines, linesFormed, endOf, lastPoint, boundaryLines, stopLines, leftEdges, rightEdges}
 use Rattle.layout.proofs.Column.{linesIn, lines-in, lines-more, lines-none, row-line}
 use Rattle.layout.proofs.Room.{all-within-more, lines-facts}
 use Rattle.layout.proofs.Stages.{spans-columns}
@@ -40,34 +40,34 @@ module _ (s : Span) (most : ℕ) where
 
 -- ---- lines
 
-pub reach-append : (a b : List Span) → farthest (a ++ b) ≡ max (farthest a) (farthest b)
-unfolding farthest
+pub reach-append : (a b : List Span) → lastPoint (a ++ b) ≡ max (lastPoint a) (lastPoint b)
+unfolding lastPoint
 reach-append [] b = omega arith
 reach-append (s ∷ a) b = rw (reach-append a b) (omega arith)
 
 -- some lines, and then the rest
-reach-on : (m n : ℕ) (a b : List Span) → n ≡ max m (farthest a) → max m (farthest (a ++ b)) ≡ max n (farthest b)
+reach-on : (m n : ℕ) (a b : List Span) → n ≡ max m (lastPoint a) → max m (lastPoint (a ++ b)) ≡ max n (lastPoint b)
 reach-on m n a b e = rw (reach-append a b, e) (omega arith)
 
-reach-one : (s : Span) → farthest (s ∷ []) ≡ endOf s
-unfolding farthest
+reach-one : (s : Span) → lastPoint (s ∷ []) ≡ endOf s
+unfolding lastPoint
 reach-one s = omega arith
 
 -- lines lie within their reach
-pub within-reach : (ss : List Span) → all (within (farthest ss)) ss ≡ true
-unfolding farthest
+pub within-reach : (ss : List Span) → all (within (lastPoint ss)) ss ≡ true
+unfolding lastPoint
 within-reach [] = all-nil (within 0)
 within-reach (s ∷ ss) =
-    let m = max (endOf s) (farthest ss) in
-    all-cons (within m) s ss (first (eqb (s .size) 0) refl) (all-within-more (farthest ss) m ss (omega arith) (within-reach ss))
+    let m = max (endOf s) (lastPoint ss) in
+    all-cons (within m) s ss (first (eqb (s .size) 0) refl) (all-within-more (lastPoint ss) m ss (omega arith) (within-reach ss))
   where
-    first : (b : Bool) → eqb (s .size) 0 ≡ b → (b || leb (s .start + s .size) (max (cond b 0 (s .start + s .size)) (farthest ss))) ≡ true
+    first : (b : Bool) → eqb (s .size) 0 ≡ b → (b || leb (s .start + s .size) (max (cond b 0 (s .start + s .size)) (lastPoint ss))) ≡ true
     first true e = refl
-    first false e = le-leb (s .start + s .size) (max (s .start + s .size) (farthest ss)) (omega arith)
+    first false e = le-leb (s .start + s .size) (max (s .start + s .size) (lastPoint ss)) (omega arith)
 
 -- and reach no farther than the points among which they lie
-pub reach-least : (n : ℕ) (ss : List Span) → all (within n) ss ≡ true → farthest ss ≤ n
-unfolding farthest
+pub reach-least : (n : ℕ) (ss : List Span) → all (within n) ss ≡ true → lastPoint ss ≤ n
+unfolding lastPoint
 reach-least n [] h = omega arith
 reach-least n (s ∷ ss) h =
     let a = reach-least n ss (all-tail (within n) s ss h) in
@@ -97,11 +97,11 @@ module _ (k : Column) (t : List ℕ) (a : ℕ) (p : k .start + 2 ≤ k .words) (
   pub row-within-n : (n : ℕ) → all (within n) (lineOf k (take (k .words) (drop a t))) ≡ true → within n line ≡ true
   row-within-n n f = all-head (within n) line [] (rw one at f)
 
-  pub row-reach : (most r : ℕ) → r ≡ max most (endOf line) → r ≡ max most (farthest (lineOf k (take (k .words) (drop a t))))
-  row-reach most r e = e ∙ ap (max most) (sym (ap farthest one ∙ reach-one line))
+  pub row-reach : (most r : ℕ) → r ≡ max most (endOf line) → r ≡ max most (lastPoint (lineOf k (take (k .words) (drop a t))))
+  row-reach most r e = e ∙ ap (max most) (sym (ap lastPoint one ∙ reach-one line))
 
-pub row-nowhere : (k : Column) (t : List ℕ) (a most : ℕ) → k .has (take (k .words) (drop a t)) ≡ false → most ≡ max most (farthest (lineOf k (take (k .words) (drop a t))))
-unfolding farthest
+pub row-nowhere : (k : Column) (t : List ℕ) (a most : ℕ) → k .has (take (k .words) (drop a t)) ≡ false → most ≡ max most (lastPoint (lineOf k (take (k .words) (drop a t))))
+unfolding lastPoint
 row-nowhere k t a most h = rw h (omega arith)
 
 -- ---- a walk over a column
@@ -109,7 +109,7 @@ row-nowhere k t a most h = rw h (omega arith)
 -- of the column's lines those from row i on are left
 pub record Far (k : Column) (t : List ℕ) (most n i far : ℕ) : Type 0 where
   pub fits : all (within 65536) (linesIn k (n - i) (drop (1 + i * k .words) t)) ≡ true
-  pub whole : max most (farthest (columnLines k t)) ≡ max far (farthest (linesIn k (n - i) (drop (1 + i * k .words) t)))
+  pub whole : max most (lastPoint (columnLines k t)) ≡ max far (lastPoint (linesIn k (n - i) (drop (1 + i * k .words) t)))
 
 pub far-start : (k : Column) (t : List ℕ) (most : ℕ) → all (within 65536) (columnLines k t) ≡ true → Far k t most (word 0 t) 0 most
 far-start k t most h =
@@ -137,21 +137,21 @@ module _ (k : Column) (t : List ℕ) (most n i far : ℕ) (l : Far k t most n i 
     pub far-fits : all (within 65536) (lineOf k row) ≡ true
     far-fits = and-fst (all (within 65536) (lineOf k row)) (all (within 65536) rest) both
 
-    pub far-turn : (far₁ : ℕ) → far₁ ≡ max far (farthest (lineOf k row)) → Far k t most n (i + 1) far₁
+    pub far-turn : (far₁ : ℕ) → far₁ ≡ max far (lastPoint (lineOf k row)) → Far k t most n (i + 1) far₁
     far-turn far₁ e =
         record {
           fits = and-snd (all (within 65536) (lineOf k row)) (all (within 65536) rest) both;
           whole = l .whole ∙ rw (more, reach-append (lineOf k row) rest, e) (omega arith);
         }
 
-  pub far-done : n ≤ i → far ≡ max most (farthest (columnLines k t))
+  pub far-done : n ≤ i → far ≡ max most (lastPoint (columnLines k t))
   far-done h =
       let e : n - i ≡ 0 = omega arith in
       let z : linesIn k (n - i) (drop (1 + i * k .words) t) ≡ [] = rw e (lines-none k (drop (1 + i * k .words) t)) in
-      sym (l .whole ∙ ap (λ v. max far (farthest v)) z ∙ nothing)
+      sym (l .whole ∙ ap (λ v. max far (lastPoint v)) z ∙ nothing)
     where
-      nothing : max far (farthest []) ≡ far
-      nothing = unfold farthest in omega arith
+      nothing : max far (lastPoint []) ≡ far
+      nothing = unfold lastPoint in omega arith
 
 -- ---- all columns
 
@@ -177,23 +177,23 @@ module _ (t : Tables) where
       pair f a b h = let e = sym (all-split f a b) ∙ h in (and-fst (all f a) (all f b) e, and-snd (all f a) (all f b) e)
 
   -- column by column
-  pub columns-reach : (a b c d r : ℕ) → a ≡ max 0 (farthest (columnLines boundaryLines (t .boundaries))) → b ≡ max a (farthest (columnLines centerlines (t .lanes)))
-      → c ≡ max b (farthest (columnLines stopLines (t .stop-lines))) → d ≡ max c (farthest (columnLines leftEdges (t .crosswalks))) → r ≡ max d (farthest (columnLines rightEdges (t .crosswalks)))
-      → r ≡ farthest (spans t)
+  pub columns-reach : (a b c d r : ℕ) → a ≡ max 0 (lastPoint (columnLines boundaryLines (t .boundaries))) → b ≡ max a (lastPoint (columnLines centerlines (t .lanes)))
+      → c ≡ max b (lastPoint (columnLines stopLines (t .stop-lines))) → d ≡ max c (lastPoint (columnLines leftEdges (t .crosswalks))) → r ≡ max d (lastPoint (columnLines rightEdges (t .crosswalks)))
+      → r ≡ lastPoint (spans t)
   columns-reach a b c d r p q u v w =
       let bs = columnLines boundaryLines (t .boundaries) in
       let cs = columnLines centerlines (t .lanes) in
       let ss = columnLines stopLines (t .stop-lines) in
       let ls = columnLines leftEdges (t .crosswalks) in
       let rs = columnLines rightEdges (t .crosswalks) in
-      let e : max 0 (farthest (spans t)) ≡ r =
-      ap (λ x. max 0 (farthest x)) (spans-columns t)
+      let e : max 0 (lastPoint (spans t)) ≡ r =
+      ap (λ x. max 0 (lastPoint x)) (spans-columns t)
       ∙ reach-on 0 a bs (cs ++ (ss ++ (ls ++ rs))) p
       ∙ reach-on a b cs (ss ++ (ls ++ rs)) q
       ∙ reach-on b c ss (ls ++ rs) u
       ∙ reach-on c d ls rs v
       ∙ sym w in
-      last (farthest (spans t)) e
+      last (lastPoint (spans t)) e
     where
       last : (n : ℕ) → max 0 n ≡ r → r ≡ n
       last n e = omega arith
@@ -216,11 +216,11 @@ module _ (l b s x : List ℕ) (c : List Float) (h : linesFormed (lineTables l b 
       (counts-any l b s x [] c ∙ f .counts, rw (spans-any l b s x [] c) (all-within-more (min 65536 (length c / 3)) 65536 (spans (lineTables l b s x c)) (omega arith) (f .fits)))
 
   -- lines that reach no farther than n lie among n points, and all lie among 65,536
-  pub reach-within : (n r : ℕ) → r ≡ farthest (spans (lineTables l b s x [])) → r ≤ n → all (within n) (spans (lineTables l b s x c)) ≡ true
+  pub reach-within : (n r : ℕ) → r ≡ lastPoint (spans (lineTables l b s x [])) → r ≤ n → all (within n) (spans (lineTables l b s x c)) ≡ true
   reach-within n r e g =
       let u = spans (lineTables l b s x c) in
-      let k : farthest u ≤ n = omega (arith, ap farthest (spans-any l b s x c [])) in
-      all-within-more (farthest u) n u k (within-reach u)
+      let k : lastPoint u ≤ n = omega (arith, ap lastPoint (spans-any l b s x c [])) in
+      all-within-more (lastPoint u) n u k (within-reach u)
 
   pub all-stored : all (within 65536) (spans (lineTables l b s x c)) ≡ true
   all-stored = rw (spans-any l b s x c []) (formed-reach .1)

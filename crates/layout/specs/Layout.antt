@@ -141,6 +141,6 @@ abbrev pub endOf : Span → ℕ
 endOf s = cond (eqb (s .size) 0) 0 (s .start + s .size)
 
 -- the point behind the last that a line has
-unfoldable pub farthest : List Span → ℕ
-farthest [] = 0
-farthest (s ∷ ss) = max (endOf s) (farthest ss)
+unfoldable pub lastPoint : List Span → ℕ
+lastPoint [] = 0
+lastPoint (s ∷ ss) = max (endOf s) (lastPoint ss)

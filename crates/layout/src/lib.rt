@@ -3,14 +3,14 @@
 ghost use mathlib.Core.Path.{_≡_};
 ghost use mathlib.Core.Bool.{true};
 ghost use mathlib.Core.List.{[]};
-ghost use Prim.Native.Nat.{suc, _+_, _*_, _/_, _≤_, _<_, min, max};
+ghost use Prim.Native.Nat.{suc, _+_, _*_, _/_, _≤_, max};
 ghost use lib.ListN.{length, set, take, drop};
 ghost use Rattle.lists.specs.Every.{all};
 ghost use Rattle.lists.specs.Rows.{over};
 ghost use Rattle.tables.specs.View.{word, part};
 ghost use Rattle.tables.specs.Formed.{spanAt, spans, counted};
 ghost use Rattle.apart.specs.Marks.{within};
-ghost use Rattle.layout.specs.Layout.{lineFloats, pointsIn, plain, centerlines, lineOf, columnLines, moved, laidFrom, gathered, laidOut, lineTables, Gatherable, countedLines, linesFormed, endOf, farthest};
+ghost use Rattle.layout.specs.Layout.{lineFloats, pointsIn, plain, centerlines, lineOf, columnLines, moved, laidFrom, gathered, lineTables, Gatherable, countedLines, endOf, lastPoint};
 use tables::BOUNDARY;
 use tables::BOUNDARY_START;
 use tables::CROSSWALK;
@@ -23,15 +23,8 @@ use tables::POINT;
 use tables::STOP_LINE;
 use tables::STOP_LINE_START;
 
-// How many points the arrays of work have.
-const SMALL: usize = 1024;
-
-const MEDIUM: usize = 8192;
-
-const LARGE: usize = 65536;
-
 // n floats from place `start` on, written from place `at` on.
-fn copy(from: &[f64], start: usize, n: usize, out: &mut [f64], at: usize)
+pub fn copy(from: &[f64], start: usize, n: usize, out: &mut [f64], at: usize)
     requires { ⌜ (start + n ≤ length (now from)) × (at + n ≤ length (now out)) ⌝ }
     ensures { λ _. ⌜ now (out .exit) ≡ over (now (out .entry)) at (take n (drop start (now (from .entry)))) ⌝ }
 {
@@ -184,7 +177,7 @@ fn line_reach(start: u64, size: u64, most: usize) -> usize
 // The same of the lines of a column.
 fn column_reach(t: &[u64], stride: usize, offset: usize, most: usize) -> usize
     requires { ⌜ (offset + 2 ≤ stride) × ((stride ≤ 512) × ((counted 4096 stride (now t) ≡ true) × (all (within 65536) (columnLines (plain stride offset) (now t)) ≡ true))) ⌝ }
-    ensures { λ r. ⌜ r ≡ max most (farthest (columnLines (plain stride offset) (now (t .entry)))) ⌝ }
+    ensures { λ r. ⌜ r ≡ max most (lastPoint (columnLines (plain stride offset) (now (t .entry)))) ⌝ }
 {
     let n = t[0] as usize;
     let mut far = most;
@@ -200,7 +193,7 @@ fn column_reach(t: &[u64], stride: usize, offset: usize, most: usize) -> usize
 // The same of a lane's explicit centreline, where its mark says that there is one.
 fn center_reach(lanes: &[u64], row: usize, most: usize) -> usize
     requires { ⌜ (row + 52 ≤ length (now lanes)) × (all (within 65536) (lineOf centerlines (take 52 (drop row (now lanes)))) ≡ true) ⌝ }
-    ensures { λ r. ⌜ r ≡ max most (farthest (lineOf centerlines (take 52 (drop row (now (lanes .entry)))))) ⌝ }
+    ensures { λ r. ⌜ r ≡ max most (lastPoint (lineOf centerlines (take 52 (drop row (now (lanes .entry)))))) ⌝ }
 {
     if lanes[row + LANE_CENTERLINE] == 0 {
         return most;
@@ -212,7 +205,7 @@ fn center_reach(lanes: &[u64], row: usize, most: usize) -> usize
 // The same of the explicit centrelines of the lanes.
 fn centers_reach(lanes: &[u64], most: usize) -> usize
     requires { ⌜ (counted 1024 52 (now lanes) ≡ true) × (all (within 65536) (columnLines centerlines (now lanes)) ≡ true) ⌝ }
-    ensures { λ r. ⌜ r ≡ max most (farthest (columnLines centerlines (now (lanes .entry)))) ⌝ }
+    ensures { λ r. ⌜ r ≡ max most (lastPoint (columnLines centerlines (now (lanes .entry)))) ⌝ }
 {
     let n = lanes[0] as usize;
     let mut far = most;
@@ -232,127 +225,11 @@ pub fn lines_reach(
     crosswalks: &[u64],
 ) -> usize
     requires { ⌜ (countedLines (lineTables (now lanes) (now boundaries) (now «stop_lines») (now crosswalks) []) ≡ true) × (all (within 65536) (spans (lineTables (now lanes) (now boundaries) (now «stop_lines») (now crosswalks) [])) ≡ true) ⌝ }
-    ensures { λ r. ⌜ r ≡ farthest (spans (lineTables (now (lanes .entry)) (now (boundaries .entry)) (now («stop_lines» .entry)) (now (crosswalks .entry)) [])) ⌝ }
+    ensures { λ r. ⌜ r ≡ lastPoint (spans (lineTables (now (lanes .entry)) (now (boundaries .entry)) (now («stop_lines» .entry)) (now (crosswalks .entry)) [])) ⌝ }
 {
     let centers = column_reach(boundaries, BOUNDARY, BOUNDARY_START, 0);
     let stops = centers_reach(lanes, centers);
     let lefts = column_reach(stop_lines, STOP_LINE, STOP_LINE_START, stops);
     let rights = column_reach(crosswalks, CROSSWALK, CROSSWALK_LEFT_START, lefts);
     column_reach(crosswalks, CROSSWALK, CROSSWALK_RIGHT_START, rights)
-}
-
-fn smaller(a: usize, b: usize) -> usize
-    ensures { λ r. ⌜ r ≡ min a b ⌝ }
-{
-    if a < b { a } else { b }
-}
-
-// As much as fits of one list, written to the front of another.
-fn fill(from: &[f64], out: &mut [f64])
-    ensures { λ _. ⌜ now (out .exit) ≡ over (now (out .entry)) 0 (take (min (length (now (out .entry))) (length (now (from .entry)))) (now (from .entry))) ⌝ }
-{
-    copy(from, 0, smaller(out.len(), from.len()), out, 0);
-}
-
-// The lines laid out anew from where they lie, by way of an array in which all of them fit.
-fn lay_out_in(
-    lanes: &mut [u64],
-    boundaries: &mut [u64],
-    stop_lines: &mut [u64],
-    crosswalks: &mut [u64],
-    coordinates: &mut [f64],
-    work: &mut [f64],
-)
-    requires { ⌜ (linesFormed (lineTables (now lanes) (now boundaries) (now «stop_lines») (now crosswalks) (now coordinates)) ≡ true) × (all (within (length (now work) / 3)) (spans (lineTables (now lanes) (now boundaries) (now «stop_lines») (now crosswalks) (now coordinates))) ≡ true) ⌝ }
-    ensures { λ _. ⌜ (lineTables (now (lanes .exit)) (now (boundaries .exit)) (now («stop_lines» .exit)) (now (crosswalks .exit)) (now (coordinates .exit)) ≡ laidOut (lineTables (now (lanes .entry)) (now (boundaries .entry)) (now («stop_lines» .entry)) (now (crosswalks .entry)) (now (coordinates .entry)))) × (now (work .exit) ≡ over (now (work .entry)) 0 (take (min (length (now (work .entry))) (length (now (coordinates .entry)))) (now (coordinates .entry)))) ⌝ }
-{
-    fill(coordinates, work);
-    gather_all(lanes, boundaries, stop_lines, crosswalks, work, coordinates);
-}
-
-// The same with an array of its own, so that few points take little stack: 24 KB here, then 192 KB and 1.5 MB.
-fn lay_out_small(
-    lanes: &mut [u64],
-    boundaries: &mut [u64],
-    stop_lines: &mut [u64],
-    crosswalks: &mut [u64],
-    coordinates: &mut [f64],
-)
-    requires { ⌜ (linesFormed (lineTables (now lanes) (now boundaries) (now «stop_lines») (now crosswalks) (now coordinates)) ≡ true) × (all (within 1024) (spans (lineTables (now lanes) (now boundaries) (now «stop_lines») (now crosswalks) (now coordinates))) ≡ true) ⌝ }
-    ensures { λ _. ⌜ lineTables (now (lanes .exit)) (now (boundaries .exit)) (now («stop_lines» .exit)) (now (crosswalks .exit)) (now (coordinates .exit)) ≡ laidOut (lineTables (now (lanes .entry)) (now (boundaries .entry)) (now («stop_lines» .entry)) (now (crosswalks .entry)) (now (coordinates .entry))) ⌝ }
-{
-    let mut work = [0.0; SMALL * POINT];
-    lay_out_in(
-        lanes,
-        boundaries,
-        stop_lines,
-        crosswalks,
-        coordinates,
-        &mut work,
-    );
-}
-
-fn lay_out_medium(
-    lanes: &mut [u64],
-    boundaries: &mut [u64],
-    stop_lines: &mut [u64],
-    crosswalks: &mut [u64],
-    coordinates: &mut [f64],
-)
-    requires { ⌜ (linesFormed (lineTables (now lanes) (now boundaries) (now «stop_lines») (now crosswalks) (now coordinates)) ≡ true) × (all (within 8192) (spans (lineTables (now lanes) (now boundaries) (now «stop_lines») (now crosswalks) (now coordinates))) ≡ true) ⌝ }
-    ensures { λ _. ⌜ lineTables (now (lanes .exit)) (now (boundaries .exit)) (now («stop_lines» .exit)) (now (crosswalks .exit)) (now (coordinates .exit)) ≡ laidOut (lineTables (now (lanes .entry)) (now (boundaries .entry)) (now («stop_lines» .entry)) (now (crosswalks .entry)) (now (coordinates .entry))) ⌝ }
-{
-    let mut work = [0.0; MEDIUM * POINT];
-    lay_out_in(
-        lanes,
-        boundaries,
-        stop_lines,
-        crosswalks,
-        coordinates,
-        &mut work,
-    );
-}
-
-fn lay_out_large(
-    lanes: &mut [u64],
-    boundaries: &mut [u64],
-    stop_lines: &mut [u64],
-    crosswalks: &mut [u64],
-    coordinates: &mut [f64],
-)
-    requires { ⌜ (linesFormed (lineTables (now lanes) (now boundaries) (now «stop_lines») (now crosswalks) (now coordinates)) ≡ true) × (all (within 65536) (spans (lineTables (now lanes) (now boundaries) (now «stop_lines») (now crosswalks) (now coordinates))) ≡ true) ⌝ }
-    ensures { λ _. ⌜ lineTables (now (lanes .exit)) (now (boundaries .exit)) (now («stop_lines» .exit)) (now (crosswalks .exit)) (now (coordinates .exit)) ≡ laidOut (lineTables (now (lanes .entry)) (now (boundaries .entry)) (now («stop_lines» .entry)) (now (crosswalks .entry)) (now (coordinates .entry))) ⌝ }
-{
-    let mut work = [0.0; LARGE * POINT];
-    lay_out_in(
-        lanes,
-        boundaries,
-        stop_lines,
-        crosswalks,
-        coordinates,
-        &mut work,
-    );
-}
-
-// The lines laid out anew from where they lie, one after another from point 0.
-pub fn lay_out(
-    lanes: &mut [u64],
-    boundaries: &mut [u64],
-    stop_lines: &mut [u64],
-    crosswalks: &mut [u64],
-    coordinates: &mut [f64],
-)
-    requires { ⌜ linesFormed (lineTables (now lanes) (now boundaries) (now «stop_lines») (now crosswalks) (now coordinates)) ≡ true ⌝ }
-    ensures { λ _. ⌜ lineTables (now (lanes .exit)) (now (boundaries .exit)) (now («stop_lines» .exit)) (now (crosswalks .exit)) (now (coordinates .exit)) ≡ laidOut (lineTables (now (lanes .entry)) (now (boundaries .entry)) (now («stop_lines» .entry)) (now (crosswalks .entry)) (now (coordinates .entry))) ⌝ }
-{
-    let used = lines_reach(lanes, boundaries, stop_lines, crosswalks);
-    if used <= SMALL {
-        lay_out_small(lanes, boundaries, stop_lines, crosswalks, coordinates);
-        return;
-    }
-    if used <= MEDIUM {
-        lay_out_medium(lanes, boundaries, stop_lines, crosswalks, coordinates);
-        return;
-    }
-    lay_out_large(lanes, boundaries, stop_lines, crosswalks, coordinates);
 }

@@ -44,7 +44,10 @@ fn all_counted(
     );
     let c = both(b, row_tests::sound::counted(rules, RULES, RULE));
     both(
-        both(c, row_tests::sound::counted(stop_lines, STOP_LINES, STOP_LINE)),
+        both(
+            c,
+            row_tests::sound::counted(stop_lines, STOP_LINES, STOP_LINE),
+        ),
         row_tests::sound::counted(crosswalks, CROSSWALKS, CROSSWALK),
     )
 }
