@@ -1,12 +1,13 @@
--- Rows of a table that name a lane, in words: which they are, and what they become when it goes. Nothing that a host calls rests on this page.
+-- Rows of a table that name a lane, in words: which they are, and what they become when it goes or reads as another. Nothing that a host calls rests on this page.
 use Prim.Native.Nat.{ℕ, suc}
-use mathlib.Core.Bool.{Bool, true, false, not, _&&_, _||_, cond}
+use mathlib.Core.Bool.{Bool, not, _&&_, _||_, cond}
 use mathlib.Core.List.{List, map}
 use mathlib.Core.Option.{none}
 use lib.Dec.{eqb, leb}
 use lib.ListN.{length}
 use Rattle.lists.specs.Select.{keep, has, without}
 use Rattle.rules.specs.Names.{EntityKind, LaneKind, RoadKind, JunctionKind, RuleKind}
+use Rattle.rules.specs.Merge.{replace-lane}
 use Rattle.tables.specs.View.{word, mark, idsAt, rows}
 use Rattle.tables.specs.Formed.{counted, laneFormed, ruleFormed}
 use Rattle.map.specs.Good.{allRows}
@@ -71,10 +72,19 @@ namesLane Orphans a w = ruleNames a w && eqb (length (without a (idsAt 5 w))) 0
 unfoldable pub naming : Rows → ℕ → List ℕ → List ℕ
 naming k a t = map (word 0) (keep (namesLane k a) (rows (rowWords k) (λ w. w) t))
 
+-- ---- a row with a list changed
+
+abbrev pub changeAt : (List ℕ → List ℕ) → ℕ → List ℕ → List ℕ
+changeAt f k w = setList k (f (idsAt k w)) w
+
+-- a rule's own lanes changed by f; of a right of way those that have priority and those that yield by g
+abbrev pub ruleChanges : (List ℕ → List ℕ) → (List ℕ → List ℕ) → List ℕ → List ℕ
+ruleChanges f g w = cond (eqb (word 1 w) 3) (changeAt g 265 (changeAt g 200 (changeAt f 5 w))) (changeAt f 5 w)
+
 -- ---- a row without lane a
 
 abbrev pub forgetAt : ℕ → ℕ → List ℕ → List ℕ
-forgetAt a k w = setList k (without a (idsAt k w)) w
+forgetAt a k w = changeAt (without a) k w
 
 abbrev pub freeAt : ℕ → ℕ → List ℕ → List ℕ
 freeAt a k w = cond (slotNames a k w) (setSlot k none w) w
@@ -83,7 +93,7 @@ abbrev pub laneForgets : ℕ → List ℕ → List ℕ
 laneForgets a w = freeAt a 14 (freeAt a 16 (forgetAt a 18 (forgetAt a 35 w)))
 
 abbrev pub ruleForgets : ℕ → List ℕ → List ℕ
-ruleForgets a w = cond (eqb (word 1 w) 3) (forgetAt a 265 (forgetAt a 200 (forgetAt a 5 w))) (forgetAt a 5 w)
+ruleForgets a w = ruleChanges (without a) (without a) w
 
 unfoldable pub forgets : Rows → ℕ → List ℕ → List ℕ
 forgets Lanes a w = laneForgets a w
@@ -91,3 +101,11 @@ forgets Roads a w = forgetAt a 3 w
 forgets Junctions a w = forgetAt a 4 w
 forgets Rules a w = ruleForgets a w
 forgets Orphans a w = ruleForgets a w
+
+-- ---- a rule in which lane b reads as lane a
+
+abbrev pub replaceAt : ℕ → ℕ → ℕ → List ℕ → List ℕ
+replaceAt a b k w = changeAt (replace-lane a b) k w
+
+unfoldable pub ruleReplaces : ℕ → ℕ → List ℕ → List ℕ
+ruleReplaces a b w = ruleChanges (replace-lane a b) (replace-lane a b) w
