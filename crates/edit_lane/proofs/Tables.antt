@@ -1,20 +1,16 @@
 -- The tables of a removal: rows that stay, and rows that forget the lane. Assumes nothing.
 use mathlib.Core.Path.{_≡_, refl, sym, ap, _∙_}
-use Prim.Native.Nat.{ℕ, zero, suc, _+_, _*_, _≤_}
-use native.Mathlib.Omega.{arith}
-use mathlib.Core.Bool.{Bool, true, false, not, cond, _&&_, _||_}
-use mathlib.Core.List.{List, [], _∷_, _++_, map}
+use Prim.Native.Nat.{ℕ}
+use mathlib.Core.Bool.{Bool, true, false, not, _&&_, _||_}
+use mathlib.Core.List.{List, _∷_, map}
 use lib.Dec.{eqb, leb}
 use lib.Ieee.{Float}
-use lib.ListN.{length, getD, take, drop, length-drop}
-use lib.Seq.{length-take-le}
-use Rattle.lists.specs.Every.{all}
+use lib.ListN.{length, getD, drop}
 use Rattle.lists.specs.Rows.{reads, over, keys}
-use Rattle.lists.specs.Select.{keep, each, has, without}
-use Rattle.lists.proofs.Booleans.{and-fst, and-snd}
+use Rattle.lists.specs.Select.{each, has, without}
 use Rattle.lists.proofs.Rows.{mapped-reads}
 use Rattle.lists.proofs.Select.{has-keep}
-use Rattle.entities.specs.Records.{Lane, Map}
+use Rattle.entities.specs.Records.{Lane}
 use Rattle.rules.specs.Lane.{forgetting, roadLanes, junctionLanes, ruleLanes}
 use Rattle.tables.specs.View.{Tables, word, rows, view, laneOf, roadOf, junctionOf, ruleOf}
 use Rattle.tables.specs.Formed.{formed, laneFormed, ruleFormed}
@@ -23,35 +19,19 @@ use Rattle.row_tests.specs.Returned.{laneAt}
 use Rattle.soundness.proofs.Back.{formed-parts}
 use Rattle.lookup.specs.Lookup.{usedBesides}
 use Rattle.store.specs.Store.{laneOnto, roadOnto, junctionOnto, ruleOnto, store}
-use Rattle.store.specs.Rows.{mapRows, onRows, stays, keptRows}
-use Rattle.store.proofs.Rows.{passing}
+use Rattle.store.specs.Rows.{onRows, stays, keptRows}
+use Rattle.store.proofs.Rows.{table-agree}
 use Rattle.store.proofs.Whole.{all-keyed}
 use Rattle.store.proofs.Packing.{kept-passing, kept-room}
 use Rattle.sound_facts.proofs.Stored.{formed-counts, rows-room, five-same}
-use Rattle.sound_facts.proofs.Thinned.{thinned, thinnedTables, Keeping, store-thinned}
+use Rattle.sound_facts.proofs.Thinned.{Keeping, store-thinned}
 use Rattle.laws.proofs.KeptRows.{keep-on}
 use Rattle.laws.proofs.Remove.{removed}
 use Rattle.mentions.specs.declared.Rows.the-variants.{Lanes, Roads, Junctions, Rules}
 use Rattle.mentions.specs.Naming.{forgets}
+use Rattle.mentions.proofs.Records.{lane-forgets, road-forgets, junction-forgets, rule-forgets}
 use Rattle.edit_lane.specs.Parts.{goneWith}
-use Rattle.edit_lane.proofs.Rows.{lane-forgets, road-forgets, junction-forgets, rule-forgets}
 use Rattle.edit_lane.proofs.Lists.{goes, goes-alone}
-
--- ---- two changes that agree on rows that pass
-
-module _ (s : ℕ) (good : List ℕ → Bool) (g h : List ℕ → List ℕ) (same : (w : List ℕ) → length w ≡ s → good w ≡ true → g w ≡ h w) where
-  rows-alike : (n : ℕ) (w : List ℕ) → n * s ≤ length w → passing s good n w → mapRows s g n w ≡ mapRows s h n w
-  unfolding mapRows reads all
-  rows-alike zero w l a = refl
-  rows-alike (suc n) w l a =
-      let i : s ≤ length w = omega arith in
-      let j : n * s ≤ length (drop s w) = rw length-drop (omega arith) in
-      let b = all (λ b. b) (reads s good n (drop s w)) in
-      rw (same (take s w) (length-take-le s w i) (and-fst (good (take s w)) b a), rows-alike n (drop s w) j (and-snd (good (take s w)) b a))
-
-  table-alike : (t : List ℕ) → word 0 t * s ≤ length (drop 1 t) → passing s good (word 0 t) (drop 1 t) → onRows s g t ≡ onRows s h t
-  unfolding onRows
-  table-alike t l a = ap (λ z. word 0 t ∷ z) (rows-alike (word 0 t) (drop 1 t) l a)
 
 -- ---- rows that stay
 
@@ -96,25 +76,25 @@ module _ (t : Tables) (h : formed t ≡ true) (a i : ℕ) (own : word 0 (laneAt 
   unfolding forgets rows allRows
   lanes-forget =
       let room = rows-room 1024 52 (t .lanes) (formed-counts t h .lanes) in
-      table-alike 52 laneFormed (λ w. laneOnto w (forgetting a (laneOf c w))) (forgets Lanes a) (lane-forgets a c) (keptRows 52 (stays a a) (t .lanes))
+      table-agree 52 laneFormed (λ w. laneOnto w (forgetting a (laneOf c w))) (forgets Lanes a) (lane-forgets a c) (keptRows 52 (stays a a) (t .lanes))
       (kept-room 52 (stays a a) (t .lanes) room) (kept-passing 52 (stays a a) (t .lanes) room laneFormed (formed-parts t h .lanes))
 
   roads-forget : onRows 68 (λ w. roadOnto w (roadLanes (without a) (roadOf w))) (t .roads) ≡ onRows 68 (forgets Roads a) (t .roads)
   unfolding forgets rows allRows
   roads-forget =
-      table-alike 68 (λ w. leb (word 3 w) 64) (λ w. roadOnto w (roadLanes (without a) (roadOf w))) (forgets Roads a) (road-forgets a) (t .roads)
+      table-agree 68 (λ w. leb (word 3 w) 64) (λ w. roadOnto w (roadLanes (without a) (roadOf w))) (forgets Roads a) (road-forgets a) (t .roads)
       (rows-room 256 68 (t .roads) (formed-counts t h .roads)) (formed-parts t h .roads)
 
   junctions-forget : onRows 69 (λ w. junctionOnto w (junctionLanes (without a) (junctionOf w))) (t .junctions) ≡ onRows 69 (forgets Junctions a) (t .junctions)
   unfolding forgets rows allRows
   junctions-forget =
-      table-alike 69 (λ w. leb (word 4 w) 64) (λ w. junctionOnto w (junctionLanes (without a) (junctionOf w))) (forgets Junctions a) (junction-forgets a) (t .junctions)
+      table-agree 69 (λ w. leb (word 4 w) 64) (λ w. junctionOnto w (junctionLanes (without a) (junctionOf w))) (forgets Junctions a) (junction-forgets a) (t .junctions)
       (rows-room 256 69 (t .junctions) (formed-counts t h .junctions)) (formed-parts t h .junctions)
 
   rules-forget : onRows 330 (λ w. ruleOnto w (ruleLanes (without a) (without a) (ruleOf w))) (t .rules) ≡ onRows 330 (forgets Rules a) (t .rules)
   unfolding forgets rows allRows
   rules-forget =
-      table-alike 330 ruleFormed (λ w. ruleOnto w (ruleLanes (without a) (without a) (ruleOf w))) (forgets Rules a) (rule-forgets a) (t .rules)
+      table-agree 330 ruleFormed (λ w. ruleOnto w (ruleLanes (without a) (without a) (ruleOf w))) (forgets Rules a) (rule-forgets a) (t .rules)
       (rows-room 512 330 (t .rules) (formed-counts t h .rules)) (formed-parts t h .rules)
 
   -- the five tables that a removal changes

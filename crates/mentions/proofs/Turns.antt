@@ -1,7 +1,7 @@
 -- The rows that name a lane, row by row: how many there are, and their list. Assumes nothing.
 use mathlib.Core.Path.{_≡_, refl, sym, ap, _∙_}
 use Prim.Native.Nat.{ℕ, zero, suc, _+_, _-_, _*_, _≤_, _<_}
-use native.Mathlib.Nat.{add-zero, zero-mul}
+use native.Mathlib.Nat.{add-zero}
 use native.Mathlib.Omega.{arith}
 use mathlib.Core.Bool.{Bool, true, false}
 use mathlib.Core.List.{List, [], _∷_, _++_, map, map-append}
@@ -11,15 +11,14 @@ use Rattle.lists.specs.Rows.{reads, over}
 use Rattle.lists.specs.Select.{keep, each}
 use Rattle.lists.proofs.Every.{all-getD}
 use Rattle.lists.proofs.Rows.{length-reads, getD-reads, over-nil, over-over, length-over, store-behind}
-use Rattle.lists.proofs.Select.{keep-append, each-append, length-keep}
+use Rattle.lists.proofs.Select.{keep-append, length-keep}
 use Rattle.lists.proofs.Booleans.{and-fst, and-snd}
 use Rattle.store.proofs.Turns.{reads-more}
 use Rattle.entities.specs.Types.{kindNumber}
-use Rattle.rules.specs.Names.{EntityKind}
-use Rattle.rules.specs.Edit.{refs, when}
+use Rattle.rules.specs.Edit.{when}
 use Rattle.tables.specs.View.{word, rows}
 use Rattle.tables.specs.Formed.{counted}
-use Rattle.report.specs.Report.{entityWords}
+use Rattle.report.proofs.Laws.{pairs, pairs-are, length-pairs, pairs-append}
 use Rattle.row_tests.specs.Good.{allRows}
 use Rattle.row_tests.proofs.Tables.{rowOf, table-some, table-few, table-room, row-room, row-length}
 use Rattle.mentions.specs.declared.Rows.{Rows}
@@ -175,24 +174,6 @@ module _ (w : List ℕ) (at x id : ℕ) (b : Bool) (room : (at + length (when b 
 
 -- ---- the list
 
--- entities of one kind, in words
-abbrev pub pairs : EntityKind → List ℕ → List ℕ
-pairs q ids = each entityWords (refs q ids)
-
-length-pairs : (q : EntityKind) (ids : List ℕ) → length (pairs q ids) ≡ length ids * 2
-unfolding each
-length-pairs q [] = refl
-length-pairs q (x ∷ ids) = let r = length-pairs q ids in omega arith
-
-pairs-append : (q : EntityKind) (xs ys : List ℕ) → pairs q (xs ++ ys) ≡ pairs q xs ++ pairs q ys
-pairs-append q xs ys =
-    ap (each entityWords) (map-append (λ i. record { kind = q; id = i }) xs ys) ∙ each-append entityWords (refs q xs) (refs q ys)
-
-pairs-when : (q : EntityKind) (x y : ℕ) (b : Bool) → x ≡ kindNumber q → each (λ i. x ∷ i ∷ []) (when b y) ≡ pairs q (when b y)
-unfolding each
-pairs-when q x y true e = ap (λ z. z ∷ y ∷ []) e
-pairs-when q x y false e = refl
-
 -- the ids of the first i rows stand in `out`, from place `at` on
 pub record Listed (k : Rows) (a : ℕ) (t out₀ : List ℕ) (at : ℕ) (out : List ℕ) (i behind : ℕ) : Type 0 where
   pub upto : i ≤ word 0 t
@@ -233,7 +214,7 @@ module _ (k : Rows) (a : ℕ) (t out₀ : List ℕ) (at : ℕ) (room : (at + len
             many = omega (arith, m .many, named-count k a t s e i b be);
             words =
                 ve
-                ∙ (ap (over out (behind * 2)) (pairs-when q x (word (1 + i * s) t) b xe)
+                ∙ (ap (over out (behind * 2)) (pairs-are q x new xe)
                 ∙ (ap (λ z. over z (behind * 2) (pairs q new)) (m .words)
                 ∙ (over-over out₀ (at * 2) (behind * 2) (pairs q ids) (pairs q new) f g
                 ∙ ap (over out₀ (at * 2)) (sym (pairs-append q ids new) ∙ ap (pairs q) (sym (named-more k a t s e i b be))))));

@@ -1,10 +1,10 @@
--- A table whose rows forget a lane one after the other: one turn, and the end. Assumes nothing.
+-- A table whose rows are changed one after the other: one turn, and the end. Assumes nothing.
 use mathlib.Core.Path.{_≡_, refl, sym, ap, _∙_, subst}
 use Prim.Native.Nat.{ℕ, zero, suc, _+_, _-_, _*_, _≤_, _<_}
 use native.Mathlib.Nat.{zero-mul, mul-le-mul-right}
 use native.Mathlib.Omega.{arith}
 use mathlib.Core.Bool.{true}
-use mathlib.Core.List.{List, [], _∷_, _++_}
+use mathlib.Core.List.{List, _∷_, _++_}
 use lib.ListN.{length, take, drop, length-append, length-drop}
 use lib.Seq.{drop-drop, drop-at, take-at, drop-cons}
 use borrow.Rule.Slice.PartMut.{putMid}
@@ -17,9 +17,8 @@ use Rattle.store.specs.Rows.{mapRows, onRows}
 use Rattle.store.proofs.Rows.{front-over}
 use Rattle.store.proofs.Lists.{put-over}
 use Rattle.mentions.specs.declared.Rows.{Rows}
-use Rattle.mentions.specs.Naming.{rowWords, rowFormed, tableFormed, forgets}
+use Rattle.mentions.specs.Naming.{rowWords, rowFormed, tableFormed}
 use Rattle.mentions.proofs.Turns.{row-there, formed-some, formed-room, lent-room, lent-formed}
-use Rattle.mentions.proofs.Going.{forgets-length}
 
 -- ---- general
 
@@ -79,59 +78,62 @@ module _ (s : ℕ) (g : List ℕ → List ℕ) where
 
 -- ---- the loop
 
--- the first i rows of the table t have forgotten lane a
-pub record Gone (k : Rows) (a : ℕ) (t₀ t : List ℕ) (i : ℕ) : Type 0 where
+-- the first i rows of the table t are changed by g
+pub record Changed (k : Rows) (g : List ℕ → List ℕ) (t₀ t : List ℕ) (i : ℕ) : Type 0 where
   pub upto : i ≤ word 0 t₀
-  pub words : t ≡ word 0 t₀ ∷ mapRows (rowWords k) (forgets k a) i (drop 1 t₀)
+  pub words : t ≡ word 0 t₀ ∷ mapRows (rowWords k) g i (drop 1 t₀)
 
-module _ (k : Rows) (a : ℕ) (t₀ : List ℕ) (h : tableFormed k t₀ ≡ true) where
-  pub gone-none : Gone k a t₀ t₀ 0
+-- a change that keeps the length of a row
+abbrev pub Keeps : Rows → (List ℕ → List ℕ) → Type 0
+Keeps k g = (w : List ℕ) → (length w ≡ rowWords k) × (rowFormed k w ≡ true) → length (g w) ≡ rowWords k
+
+module _ (k : Rows) (g : List ℕ → List ℕ) (same : Keeps k g) (t₀ : List ℕ) (h : tableFormed k t₀ ≡ true) where
+  pub changed-none : Changed k g t₀ t₀ 0
   unfolding mapRows
-  gone-none = record { upto = omega arith; words = drop-cons t₀ 0 0 (formed-some k t₀ h) }
+  changed-none = record { upto = omega arith; words = drop-cons t₀ 0 0 (formed-some k t₀ h) }
 
   -- row j, among the rows
   row-among : (j : ℕ) → rowOf (rowWords k) t₀ j ≡ take (rowWords k) (drop (j * rowWords k) (drop 1 t₀))
   row-among j = row-there (rowWords k) t₀ j ∙ ap (take (rowWords k)) (sym (drop-drop (j * rowWords k) 1 t₀))
 
-  all-kept : (i : ℕ) → i ≤ word 0 t₀ → kept (rowWords k) (forgets k a) i (drop 1 t₀)
+  all-kept : (i : ℕ) → i ≤ word 0 t₀ → kept (rowWords k) g i (drop 1 t₀)
   all-kept i u j l =
       let m : j < word 0 t₀ = omega arith in
-      ap (λ x. length (forgets k a x)) (sym (row-among j)) ∙ forgets-length k (rowOf (rowWords k) t₀ j) a (lent-formed k t₀ h (rowWords k) refl j m)
+      ap (λ x. length (g x)) (sym (row-among j)) ∙ same (rowOf (rowWords k) t₀ j) (lent-formed k t₀ h (rowWords k) refl j m)
 
-  module _ (t : List ℕ) (i : ℕ) (m : Gone k a t₀ t i) where
-    pub gone-length : length t ≡ length t₀
-    gone-length =
+  module _ (t : List ℕ) (i : ℕ) (m : Changed k g t₀ t i) where
+    pub changed-length : length t ≡ length t₀
+    changed-length =
         let r : i * rowWords k ≤ length (drop 1 t₀) = rw length-drop (omega (arith, mul-le-mul-right (rowWords k) (m .upto), formed-room k t₀ h (rowWords k) refl)) in
         ap length (m .words)
-        ∙ (ap suc (rows-long (rowWords k) (forgets k a) i (drop 1 t₀) r (all-kept i (m .upto))) ∙ sym (ap length (drop-cons t₀ 0 0 (formed-some k t₀ h))))
+        ∙ (ap suc (rows-long (rowWords k) g i (drop 1 t₀) r (all-kept i (m .upto))) ∙ sym (ap length (drop-cons t₀ 0 0 (formed-some k t₀ h))))
 
-    pub gone-row : (s : ℕ) → s ≡ rowWords k → rowOf s t i ≡ rowOf s t₀ i
-    gone-row s e =
+    pub changed-row : (s : ℕ) → s ≡ rowWords k → rowOf s t i ≡ rowOf s t₀ i
+    changed-row s e =
         rw e (row-there (rowWords k) t i ∙ (ap (take (rowWords k)) (behind ∙ drop-drop (i * rowWords k) 1 t₀) ∙ sym (row-there (rowWords k) t₀ i)))
       where
         behind : drop (1 + i * rowWords k) t ≡ drop (i * rowWords k) (drop 1 t₀)
         behind =
             sym (drop-drop (i * rowWords k) 1 t)
-            ∙ (ap (λ x. drop (i * rowWords k) (drop 1 x)) (m .words) ∙ rows-behind (rowWords k) (forgets k a) i (drop 1 t₀) (all-kept i (m .upto)))
+            ∙ (ap (λ x. drop (i * rowWords k) (drop 1 x)) (m .words) ∙ rows-behind (rowWords k) g i (drop 1 t₀) (all-kept i (m .upto)))
 
     module _ (s : ℕ) (e : s ≡ rowWords k) (l : i < word 0 t₀) where
-      pub gone-room : 1 + i * s + s ≤ length t
-      gone-room = omega (arith, gone-length, lent-room k t₀ h s e i l)
+      pub changed-room : 1 + i * s + s ≤ length t
+      changed-room = omega (arith, changed-length, lent-room k t₀ h s e i l)
 
-      pub gone-formed : (length (rowOf s t i) ≡ rowWords k) × (rowFormed k (rowOf s t i) ≡ true)
-      gone-formed = let f = lent-formed k t₀ h s e i l in let r = gone-row s e in (ap length r ∙ f .0, ap (rowFormed k) r ∙ f .1)
+      pub changed-formed : (length (rowOf s t i) ≡ rowWords k) × (rowFormed k (rowOf s t i) ≡ true)
+      changed-formed = let f = lent-formed k t₀ h s e i l in let r = changed-row s e in (ap length r ∙ f .0, ap (rowFormed k) r ∙ f .1)
 
     -- one turn
-    turn : i < word 0 t₀ → (v : List ℕ) → v ≡ forgets k a (rowOf (rowWords k) t i)
-        → Gone k a t₀ (putMid (1 + i * rowWords k) (1 + i * rowWords k + rowWords k - (1 + i * rowWords k)) t v) (i + 1)
+    turn : i < word 0 t₀ → (v : List ℕ) → v ≡ g (rowOf (rowWords k) t i)
+        → Changed k g t₀ (putMid (1 + i * rowWords k) (1 + i * rowWords k + rowWords k - (1 + i * rowWords k)) t v) (i + 1)
     turn l v ve =
         let s = rowWords k in
         let w = drop 1 t₀ in
-        let g = forgets k a in
-        let n : length v ≡ s = ap length ve ∙ forgets-length k (rowOf s t i) a (gone-formed s refl l) in
+        let n : length v ≡ s = ap length ve ∙ same (rowOf s t i) (changed-formed s refl l) in
         let q : 1 + i * s + length v ≡ 1 + i * s + s = omega arith in
         let p : putMid (1 + i * s) (1 + i * s + s - (1 + i * s)) t v ≡ over t (1 + i * s) v = put-over t v (1 + i * s) (1 + i * s + s) q (omega arith) in
-        let r : v ≡ g (take s (drop (i * s) w)) = ve ∙ ap g (gone-row s refl ∙ row-among i) in
+        let r : v ≡ g (take s (drop (i * s) w)) = ve ∙ ap g (changed-row s refl ∙ row-among i) in
         record {
           upto = omega arith;
           words =
@@ -141,12 +143,12 @@ module _ (k : Rows) (a : ℕ) (t₀ : List ℕ) (h : tableFormed k t₀ ≡ true
               ∙ ap (λ x. word 0 t₀ ∷ x) (ap (over (mapRows s g i w) (i * s)) r ∙ rows-put s g i w (all-kept (i + 1) (omega arith)))));
         }
 
-    pub gone-turn : (s : ℕ) → s ≡ rowWords k → i < word 0 t₀ → (v : List ℕ) → v ≡ forgets k a (rowOf s t i)
-        → Gone k a t₀ (putMid (1 + i * s) (1 + i * s + s - (1 + i * s)) t v) (i + 1)
-    gone-turn s e l = subst (λ n. (v : List ℕ) → v ≡ forgets k a (rowOf n t i) → Gone k a t₀ (putMid (1 + i * n) (1 + i * n + n - (1 + i * n)) t v) (i + 1)) (sym e) (turn l)
+    pub changed-turn : (s : ℕ) → s ≡ rowWords k → i < word 0 t₀ → (v : List ℕ) → v ≡ g (rowOf s t i)
+        → Changed k g t₀ (putMid (1 + i * s) (1 + i * s + s - (1 + i * s)) t v) (i + 1)
+    changed-turn s e l = subst (λ n. (v : List ℕ) → v ≡ g (rowOf n t i) → Changed k g t₀ (putMid (1 + i * n) (1 + i * n + n - (1 + i * n)) t v) (i + 1)) (sym e) (turn l)
 
-    pub gone-all : word 0 t₀ ≤ i → t ≡ onRows (rowWords k) (forgets k a) t₀
+    pub changed-all : word 0 t₀ ≤ i → t ≡ onRows (rowWords k) g t₀
     unfolding onRows
-    gone-all l =
+    changed-all l =
         let e : i ≡ word 0 t₀ = omega (arith, m .upto) in
-        m .words ∙ ap (λ n. word 0 t₀ ∷ mapRows (rowWords k) (forgets k a) n (drop 1 t₀)) e
+        m .words ∙ ap (λ n. word 0 t₀ ∷ mapRows (rowWords k) g n (drop 1 t₀)) e

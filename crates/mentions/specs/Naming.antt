@@ -1,12 +1,13 @@
--- Rows of a table that name a lane, in words: which they are, and what they become when it goes. Nothing that a host calls rests on this page.
+-- Rows of a table that name a lane, in words: which they are, and what they become when it goes or reads as another. Nothing that a host calls rests on this page.
 use Prim.Native.Nat.{ℕ, suc}
-use mathlib.Core.Bool.{Bool, true, false, not, _&&_, _||_, cond}
+use mathlib.Core.Bool.{Bool, not, _&&_, _||_, cond}
 use mathlib.Core.List.{List, map}
 use mathlib.Core.Option.{none}
 use lib.Dec.{eqb, leb}
 use lib.ListN.{length}
 use Rattle.lists.specs.Select.{keep, has, without}
 use Rattle.rules.specs.Names.{EntityKind, LaneKind, RoadKind, JunctionKind, RuleKind}
+use Rattle.rules.specs.Merge.{replace-lane}
 use Rattle.tables.specs.View.{word, mark, idsAt, rows}
 use Rattle.tables.specs.Formed.{counted, laneFormed, ruleFormed}
 use Rattle.row_tests.specs.Good.{allRows}
@@ -73,10 +74,19 @@ namesLane Orphans a w = ruleRowNames a w && eqb (length (without a (idsAt ruleLa
 unfoldable pub naming : Rows → ℕ → List ℕ → List ℕ
 naming k a t = map (word rowId) (keep (namesLane k a) (rows (rowWords k) (λ w. w) t))
 
+-- ---- a row with a list changed
+
+abbrev pub changeAt : (List ℕ → List ℕ) → ℕ → List ℕ → List ℕ
+changeAt f k w = setList k (f (idsAt k w)) w
+
+-- a rule's own lanes changed by f; of a right of way those that have priority and those that yield by g
+abbrev pub ruleChanges : (List ℕ → List ℕ) → (List ℕ → List ℕ) → List ℕ → List ℕ
+ruleChanges f g w = cond (eqb (word ruleKind w) rightOfWay) (changeAt g 265 (changeAt g 200 (changeAt f 5 w))) (changeAt f 5 w)
+
 -- ---- a row without lane a
 
 abbrev pub forgetAt : ℕ → ℕ → List ℕ → List ℕ
-forgetAt a k w = setList k (without a (idsAt k w)) w
+forgetAt a k w = changeAt (without a) k w
 
 abbrev pub freeAt : ℕ → ℕ → List ℕ → List ℕ
 freeAt a k w = cond (slotNames a k w) (setSlot k none w) w
@@ -85,7 +95,7 @@ abbrev pub laneForgets : ℕ → List ℕ → List ℕ
 laneForgets a w = freeAt a leftSlot (freeAt a rightSlot (forgetAt a predecessorsAt (forgetAt a successorsAt w)))
 
 abbrev pub ruleForgets : ℕ → List ℕ → List ℕ
-ruleForgets a w = cond (eqb (word ruleKind w) rightOfWay) (forgetAt a ruleYieldingAt (forgetAt a rulePriorityAt (forgetAt a ruleLanesAt w))) (forgetAt a ruleLanesAt w)
+ruleForgets a w = ruleChanges (without a) (without a) w
 
 unfoldable pub forgets : Rows → ℕ → List ℕ → List ℕ
 forgets Lanes a w = laneForgets a w
@@ -93,3 +103,11 @@ forgets Roads a w = forgetAt a roadLanesAt w
 forgets Junctions a w = forgetAt a junctionLanesAt w
 forgets Rules a w = ruleForgets a w
 forgets Orphans a w = ruleForgets a w
+
+-- ---- a rule in which lane b reads as lane a
+
+abbrev pub replaceAt : ℕ → ℕ → ℕ → List ℕ → List ℕ
+replaceAt a b k w = changeAt (replace-lane a b) k w
+
+unfoldable pub ruleReplaces : ℕ → ℕ → List ℕ → List ℕ
+ruleReplaces a b w = ruleChanges (replace-lane a b) (replace-lane a b) w

@@ -1,4 +1,4 @@
-// Rows of a table that name a lane: how many there are, their list, and what they become when the lane goes.
+// Rows of a table that name a lane: how many there are, their list, and what they become when the lane goes or reads as another.
 ghost use mathlib.Core.Path.{_≡_};
 ghost use mathlib.Core.Bool.{true};
 ghost use mathlib.Core.List.{[], _∷_};
@@ -12,7 +12,7 @@ ghost use Rattle.tables.specs.Formed.{laneFormed, ruleFormed};
 ghost use Rattle.store.specs.Rows.{onRows};
 ghost use Rattle.report.specs.Report.{entityWords};
 ghost use Rattle.mentions.specs.Naming as N;
-ghost use Rattle.mentions.specs.declared.Rows.the-variants.{Orphans};
+ghost use Rattle.mentions.specs.declared.Rows.the-variants.{Rules, Orphans};
 use entities::EntityKind;
 use report::ENTITY;
 use tables::JUNCTION;
@@ -277,6 +277,50 @@ pub fn forget(t: &mut [u64], rows: Rows, id: u64)
         let at = 1 + i * s;
         let end = at + s;
         forget_row(&mut t[at..end], rows, id);
+        i += 1;
+    }
+}
+
+// ---- a lane reads as another
+
+// In the list at place k of a row every `from` reads `to`, or goes where `to` stands already.
+fn replace_list(row: &mut [u64], k: usize, to: u64, from: u64)
+    requires { ⌜ k + 1 + word k (now row) ≤ length (now row) ⌝ }
+    ensures { λ _. ⌜ now (row .exit) ≡ N.replaceAt to from k (now (row .entry)) ⌝ }
+{
+    if lists_lane(row, k, to) {
+        store::forget(row, k, from);
+        return;
+    }
+    let start = k + 1;
+    let end = start + row[k] as usize;
+    lists::replace(&mut row[start..end], from, to);
+}
+
+fn replace_rule(row: &mut [u64], to: u64, from: u64)
+    requires { ⌜ (length (now row) ≡ 330) × (ruleFormed (now row) ≡ true) ⌝ }
+    ensures { λ _. ⌜ now (row .exit) ≡ N.ruleReplaces to from (now (row .entry)) ⌝ }
+{
+    let kind = row[RULE_KIND];
+    replace_list(row, RULE_LANES, to, from);
+    if kind != RIGHT_OF_WAY {
+        return;
+    }
+    replace_list(row, RULE_PRIORITY, to, from);
+    replace_list(row, RULE_YIELDING, to, from);
+}
+
+// In the lists of every rule.
+pub fn replace(rules: &mut [u64], to: u64, from: u64)
+    requires { ⌜ N.tableFormed Rules (now rules) ≡ true ⌝ }
+    ensures { λ _. ⌜ now (rules .exit) ≡ onRows 330 (N.ruleReplaces to from) (now (rules .entry)) ⌝ }
+{
+    let n = rules[0] as usize;
+    let mut i = 0;
+    while i < n {
+        let at = 1 + i * RULE;
+        let end = at + RULE;
+        replace_rule(&mut rules[at..end], to, from);
         i += 1;
     }
 }

@@ -18,7 +18,7 @@ use Rattle.lists.proofs.Rows.{length-over}
 use Rattle.entities.specs.Types.{kindNumber, severityNumber, codeNumber, laneEntity, boundaryEntity}
 use Rattle.entities.specs.Records.{Issue}
 use Rattle.rules.specs.Names.{EntityKind, LaneKind, BoundaryKind, Severity, Warning, IssueCode, BoundaryUnshared}
-use Rattle.rules.specs.Edit.{warning, no-op}
+use Rattle.rules.specs.Edit.{warning}
 use Rattle.store.specs.Store.{flag, writes}
 use Rattle.report.specs.declared.Notice.{Notice}
 use Rattle.report.specs.declared.Notice.the-variants.{Nothing, NoOp as NoOpNotice, Pair, Unshared, Pieces}

@@ -1,18 +1,17 @@
 -- A counted list in a row, written: its slots lent as a part, and its count stored. Assumes nothing.
-use mathlib.Core.Path.{_≡_, refl, sym, ap, _∙_}
+use mathlib.Core.Path.{_≡_, sym, ap, _∙_}
 use Prim.Native.Nat.{ℕ, suc, _+_, _-_, _≤_, _<_}
 use native.Mathlib.Omega.{arith}
-use mathlib.Core.Bool.{Bool, true, false, not}
-use mathlib.Core.List.{List, [], _∷_, _++_, append-assoc}
-use lib.Dec.{eqb}
-use lib.ListN.{length, getD, set, take, drop, length-drop, take-append-drop}
+use mathlib.Core.Bool.{Bool, true, false}
+use mathlib.Core.List.{List, _∷_, _++_, append-assoc}
+use lib.ListN.{length, set, take, drop, length-drop, take-append-drop}
 use lib.Seq.{drop-drop, length-take-le, take-take}
 use borrow.Rule.Slice.PartMut.{midOf, putMid, post-is}
 use Rattle.lists.specs.Rows.{over}
 use Rattle.lists.specs.Select.{has, place, without, ascending}
 use Rattle.lists.proofs.Rows.{drop-front, length-over, store-before, over-part, over-itself, over-kept}
 use Rattle.lists.proofs.Place.{place-present, length-place}
-use Rattle.lists.proofs.Select.{length-keep, length-without}
+use Rattle.lists.proofs.Select.{length-without}
 use Rattle.tables.specs.View.{word, idsAt}
 use Rattle.store.specs.Rows.{setList}
 
@@ -121,6 +120,12 @@ module _ (t : List ℕ) (k : ℕ) (room : k + 1 + word k t ≤ length t) where
           let ids = place id (idsAt k t) in
           let l : length ids ≡ word k t + 1 = omega (arith, length-place id (idsAt k t) lacks, ids-many) in
           list-put t v ids k (word k t + 1) place-room (omega arith) (q ∙ ap (λ x. over slots 0 (place id x)) same) (word k t + 1) ∙ ap (λ x. over t k (x ∷ ids)) (sym l)
+
+-- as many ids put back in the part that was lent
+pub list-again : (t v : List ℕ) (k : ℕ) → k + 1 + word k t ≤ length t → length v ≡ word k t → putMid (k + 1) (k + 1 + word k t - (k + 1)) t v ≡ setList k v t
+unfolding setList
+list-again t v k room n =
+    put-over t v (k + 1) (k + 1 + word k t) (omega arith) (omega arith) ∙ (over-kept t k v 0 (omega arith) ∙ ap (λ x. over t k (x ∷ v)) (sym n))
 
 -- ids written behind their count
 pub list-copied : (t ids : List ℕ) (k : ℕ) → k + 1 + length ids ≤ length t → (v : List ℕ) → v ≡ over t (k + 1) ids → set v k (length ids) ≡ setList k ids t

@@ -13,8 +13,9 @@ use Rattle.lists.specs.Rows.{reads, over}
 use Rattle.lists.proofs.Booleans.{and-fst, and-snd}
 use Rattle.lists.specs.Every.{all}
 use Rattle.lists.proofs.Rows.{over-part}
+use Rattle.tables.specs.View.{word}
 use Rattle.store.specs.Store.{writes}
-use Rattle.store.specs.Rows.{mapRows, keyed}
+use Rattle.store.specs.Rows.{mapRows, onRows, keyed}
 
 -- ---- rows
 
@@ -45,6 +46,11 @@ module _ (s : ℕ) where
     rows-agree g h e zero w l a = refl
     rows-agree g h e (suc n) w l a =
         rw (e (take s w) (first n w l) (good-first n w a), rows-agree g h e n (drop s w) (rest n w l) (good-rest n w a))
+
+    pub table-agree : (g h : List ℕ → List ℕ) → ((r : List ℕ) → length r ≡ s → good r ≡ true → g r ≡ h r)
+        → (t : List ℕ) → word 0 t * s ≤ length (drop 1 t) → passing s good (word 0 t) (drop 1 t) → onRows s g t ≡ onRows s h t
+    unfolding onRows
+    table-agree g h e t l a = ap (λ z. word 0 t ∷ z) (rows-agree g h e (word 0 t) (drop 1 t) l a)
 
     -- rows that a change leaves
     pub rows-stay : (g : List ℕ → List ℕ) → ((r : List ℕ) → length r ≡ s → good r ≡ true → g r ≡ r)

@@ -7,10 +7,12 @@ use native.Mathlib.Omega.{arith}
 use borrow.Author.Needs.{needs}
 use lib.ListN.{length}
 use Rattle.mentions.proofs.Turns.{formed-some, formed-few, lent-room}
-use Rattle.mentions.proofs.Whole.{Gone, gone-none, gone-length, gone-room, gone-formed, gone-turn, gone-all}
+use Rattle.mentions.specs.Naming.{forgets}
+use Rattle.mentions.proofs.Going.{forgets-length}
+use Rattle.mentions.proofs.Whole.{Changed, changed-none, changed-length, changed-room, changed-formed, changed-turn, changed-all}
 
 abbrev Inv-loop : tie.InvT-loop
-Inv-loop t₀ rows id s n i₀ t i = Gone rows id t₀ t i
+Inv-loop t₀ rows id s n i₀ t i = Changed rows (forgets rows id) t₀ t i
 
 abbrev μ-loop : tie.MeasureT-loop
 μ-loop t₀ rows id s n i₀ t i = n - i
@@ -27,7 +29,7 @@ row c =
     let a = c .before .before .before .before .before .args in
     let l = c .before .loop in
     let s = c .before .before .before .row-words in
-    gone-room (a .rows) (a .id) (a .t .now) (c .before .before .before .before .before .pre) (l .t) (l .i) (l .inv) (s .result) (s .ensures) (c .loop-test .taken)
+    changed-room (a .rows) (forgets (a .rows) (a .id)) (forgets-length (a .rows) (a .id)) (a .t .now) (c .before .before .before .before .before .pre) (l .t) (l .i) (l .inv) (s .result) (s .ensures) (c .loop-test .taken)
 
 row-words-requires : tie.Need-row-words-requires Inv-loop μ-loop
 row-words-requires c κs = search needs
@@ -36,7 +38,7 @@ slice-read-n : tie.Need-slice-read-n Inv-loop μ-loop
 slice-read-n c = omega (arith, formed-some (c .before .before .before .args .rows) (c .before .before .before .args .t .now) (c .before .before .before .pre))
 
 loop-holds : tie.Need-loop-holds Inv-loop μ-loop
-loop-holds c = gone-none (c .before .before .before .args .rows) (c .before .before .before .args .id) (c .before .before .before .args .t .now) (c .before .before .before .pre)
+loop-holds c = changed-none (c .before .before .before .args .rows) (forgets (c .before .before .before .args .rows) (c .before .before .before .args .id)) (forgets-length (c .before .before .before .args .rows) (c .before .before .before .args .id)) (c .before .before .before .args .t .now) (c .before .before .before .pre)
 
 mul-at : tie.Need-mul-at Inv-loop μ-loop
 mul-at c = omega (arith, room c)
@@ -64,7 +66,7 @@ forget-row-requires c κs =
     let a = c .before .before .before .before .before .before .args in
     let l = c .before .before .loop in
     let s = c .before .before .before .before .row-words in
-    gone-formed (a .rows) (a .id) (a .t .now) (c .before .before .before .before .before .before .pre) (l .t) (l .i) (l .inv) (s .result) (s .ensures) (c .before .loop-test .taken)
+    changed-formed (a .rows) (forgets (a .rows) (a .id)) (forgets-length (a .rows) (a .id)) (a .t .now) (c .before .before .before .before .before .before .pre) (l .t) (l .i) (l .inv) (s .result) (s .ensures) (c .before .loop-test .taken)
 
 add-i : tie.Need-add-i Inv-loop μ-loop
 add-i c = omega (arith, c .before .before .before .before .loop-test .taken, formed-few (c .before .before .before .before .before .before .before .before .before .args .rows) (c .before .before .before .before .before .before .before .before .before .args .t .now) (c .before .before .before .before .before .before .before .before .before .pre))
@@ -78,19 +80,19 @@ loop-again c =
     let l = c .before .before .before .before .before .loop in
     let s = c .before .before .before .before .before .before .before .row-words in
     let f = c .before .before .forget-row in
-    gone-turn (a .rows) (a .id) (a .t .now) (c .before .before .before .before .before .before .before .before .before .pre) (l .t) (l .i) (l .inv) (s .result) (s .ensures) (c .before .before .before .before .loop-test .taken) (f .last .0) (f .ensures)
+    changed-turn (a .rows) (forgets (a .rows) (a .id)) (forgets-length (a .rows) (a .id)) (a .t .now) (c .before .before .before .before .before .before .before .before .before .pre) (l .t) (l .i) (l .inv) (s .result) (s .ensures) (c .before .before .before .before .loop-test .taken) (f .last .0) (f .ensures)
 
 same-length : tie.Need-same-length Inv-loop μ-loop
 same-length c =
     let a = c .before .before .before .before .before .args in
     let l = c .before .loop in
-    gone-length (a .rows) (a .id) (a .t .now) (c .before .before .before .before .before .pre) (l .t) (l .i) (l .inv)
+    changed-length (a .rows) (forgets (a .rows) (a .id)) (forgets-length (a .rows) (a .id)) (a .t .now) (c .before .before .before .before .before .pre) (l .t) (l .i) (l .inv)
 
 returns : tie.Need-returns Inv-loop μ-loop
 returns c =
     let a = c .before .before .before .before .before .args in
     let l = c .before .loop in
-    gone-all (a .rows) (a .id) (a .t .now) (c .before .before .before .before .before .pre) (l .t) (l .i) (l .inv) (c .loop-test .left)
+    changed-all (a .rows) (forgets (a .rows) (a .id)) (forgets-length (a .rows) (a .id)) (a .t .now) (c .before .before .before .before .before .pre) (l .t) (l .i) (l .inv) (c .loop-test .left)
 
 pub forget-spec : {M : Type 1} → statement M
 forget-spec =

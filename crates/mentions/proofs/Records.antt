@@ -1,16 +1,15 @@
--- A record without a lane, written over its row, is the row that forgets the lane. Assumes nothing.
+-- A record with its lists of lanes changed, written over its row, is the row with those lists changed. Assumes nothing.
 use mathlib.Core.Path.{_≡_, refl, sym, ap, _∙_}
 use Prim.Native.Nat.{ℕ, zero, suc, _+_, _≤_, _<_}
 use native.Mathlib.Omega.{arith}
-use mathlib.Core.Bool.{Bool, true, false, not, cond, _&&_, _||_}
+use mathlib.Core.Bool.{Bool, true, false, not, cond, _&&_}
 use mathlib.Core.List.{List, [], _∷_, _++_, append-assoc, append-nil}
 use mathlib.Core.Option.{Option, none, some}
 use lib.Dec.{eqb, leb}
 use lib.Ieee.{Float}
 use lib.ListN.{length, getD, take, drop, length-append, length-drop, take-append-drop, drop-of-length-le}
 use lib.Seq.{getD-drop, drop-drop, length-take-le, drop-at, drop-cons}
-use borrow.Author.Tests.{leb-true}
-use Rattle.lists.specs.Rows.{over}
+use borrow.Author.Tests.{leb-true, eqb-true}
 use Rattle.lists.specs.Select.{without}
 use Rattle.lists.proofs.Rows.{getD-over-before, length-over}
 use Rattle.lists.proofs.Select.{length-without}
@@ -20,14 +19,16 @@ use Rattle.entities.specs.declared.Neighbor.{Neighbor}
 use Rattle.entities.specs.Types.{same, opposing}
 use Rattle.tables.specs.View.{word, idsAt, idsWhere, slotAt, laneOf, roadOf, junctionOf, ruleOf}
 use Rattle.tables.specs.Formed.{laneFormed, ruleFormed}
+use Rattle.rules.specs.Merge.{replace-lane}
 use Rattle.rules.specs.Sound.{hasContent}
 use Rattle.store.specs.Store.{numberOr, idsOnto, idsOr, laneOnto, roadOnto, junctionOnto, ruleOnto}
 use Rattle.store.specs.Rows.{slotWords, setSlot, setList}
 use Rattle.store.proofs.Marks.{LaneMarks, lane-marks}
-use Rattle.store.proofs.LaneRow.{LaneRow, lane-row, list-written}
+use Rattle.store.proofs.LaneRow.{lane-row, list-written}
 use Rattle.store.proofs.OtherRows.{words, words-front, part-front, part-last, ids-same, or-same, RuleCounts, rule-counts}
 use Rattle.store.proofs.Back.{onto-length, lane-formed, lane-length}
-use Rattle.mentions.specs.Naming.{slotNames, freeAt, forgetAt, laneForgets, ruleForgets}
+use Rattle.mentions.specs.Naming.{slotNames, changeAt, freeAt, forgetAt, laneForgets, ruleChanges, ruleForgets, ruleReplaces}
+use Rattle.mentions.proofs.Going.{shorter, RuleFits, rule-fits, length-replace}
 
 pub few-without : (a m : ℕ) (ids : List ℕ) → length ids ≤ m → length (without a ids) ≤ m
 few-without a m ids h = omega (arith, length-without a ids)
@@ -176,9 +177,6 @@ ids-on p w k e =
 front : (k : ℕ) (w : List ℕ) → k ≤ length w → w ≡ words 0 k w ++ drop k w
 front k w h = let e : 0 + k ≡ k = omega arith in sym (ap (λ j. words 0 k w ++ drop j w) (sym e) ∙ words-front k 0 w (rw e h))
 
-few-at : (a k m : ℕ) (w : List ℕ) → word k w ≤ m → k + suc m ≤ length w → length (without a (idsAt k w)) ≤ m
-few-at a k m w h r = few-without a m (idsAt k w) (omega (arith, length-take-le (word k w) (drop (suc k) w) (rw length-drop (omega arith)), h))
-
 nothing-behind : (w : List ℕ) (k : ℕ) → length w ≡ k → drop k w ≡ []
 nothing-behind w k e = let h : length w ≤ k = omega arith in drop-of-length-le w h
 
@@ -188,91 +186,98 @@ words-length zero j w = refl
 words-length (suc k) j w = ap suc (words-length k (suc j) w)
 
 -- the list at k of a row that ends with its m slots
-last-list : (a k m : ℕ) (w : List ℕ) → length w ≡ k + suc m → word k w ≤ m → words 0 k w ++ idsOnto (take m (drop (suc k) w)) (without a (idsAt k w)) ≡ forgetAt a k w
-last-list a k m w l h =
-    let ids = without a (idsAt k w) in
-    let r : k + suc m ≤ length w = omega arith in
+last-list : (f : List ℕ → List ℕ) (k m : ℕ) (w : List ℕ) → length w ≡ k + suc m → length (f (idsAt k w)) ≤ m → words 0 k w ++ idsOnto (take m (drop (suc k) w)) (f (idsAt k w)) ≡ changeAt f k w
+last-list f k m w l h =
+    let ids = f (idsAt k w) in
     let n : length (words 0 k w) ≡ k = words-length k 0 w in
     ap (λ y. words 0 k w ++ y) (sym (append-nil (idsOnto (take m (drop (suc k) w)) ids)) ∙ ap (λ y. idsOnto (take m (drop (suc k) w)) ids ++ y) (sym (nothing-behind w (k + suc m) l)))
-    ∙ (sym (list-on (words 0 k w) w ids k m n (few-at a k m w h r) r) ∙ ap (setList k ids) (sym (front k w (omega arith))))
+    ∙ (sym (list-on (words 0 k w) w ids k m n h (omega arith)) ∙ ap (setList k ids) (sym (front k w (omega arith))))
+
+pub road-changes : (f : List ℕ → List ℕ) (w : List ℕ) → length w ≡ 68 → length (f (idsAt 3 w)) ≤ 64 → roadOnto w (roadLanes f (roadOf w)) ≡ changeAt f 3 w
+unfolding roadOnto roadOf words
+road-changes f w l h = last-list f 3 64 w l h
+
+pub junction-changes : (f : List ℕ → List ℕ) (w : List ℕ) → length w ≡ 69 → length (f (idsAt 4 w)) ≤ 64 → junctionOnto w (junctionLanes f (junctionOf w)) ≡ changeAt f 4 w
+unfolding junctionOnto junctionOf words
+junction-changes f w l h = last-list f 4 64 w l h
 
 pub road-forgets : (a : ℕ) (w : List ℕ) → length w ≡ 68 → leb (word 3 w) 64 ≡ true → roadOnto w (roadLanes (without a) (roadOf w)) ≡ forgetAt a 3 w
-unfolding roadOnto roadOf words
-road-forgets a w l f = last-list a 3 64 w l (leb-true (word 3 w) 64 f)
+road-forgets a w l f =
+    let n = leb-true (word 3 w) 64 f in
+    road-changes (without a) w l (omega (arith, shorter (without a) (length-without a) w 3 (omega arith)))
 
 pub junction-forgets : (a : ℕ) (w : List ℕ) → length w ≡ 69 → leb (word 4 w) 64 ≡ true → junctionOnto w (junctionLanes (without a) (junctionOf w)) ≡ forgetAt a 4 w
-unfolding junctionOnto junctionOf words
-junction-forgets a w l f = last-list a 4 64 w l (leb-true (word 4 w) 64 f)
+junction-forgets a w l f =
+    let n = leb-true (word 4 w) 64 f in
+    junction-changes (without a) w l (omega (arith, shorter (without a) (length-without a) w 4 (omega arith)))
 
 -- ---- rules
 
-module _ (a : ℕ) (w : List ℕ) (l : length w ≡ 330) (f : ruleFormed w ≡ true) where
-  -- 65 words from place k on, as they are, and with the list forgotten
+module _ (f g : List ℕ → List ℕ) (w : List ℕ) (l : length w ≡ 330) (r : ruleFormed w ≡ true) (fits : RuleFits f g w) where
+  -- 65 words from place k on, as they are, and with the list changed
   abbrev kept : ℕ → List ℕ
   kept k = take 65 (drop k w)
 
-  abbrev less : ℕ → List ℕ
-  less k = idsOnto (take 64 (drop (suc k) w)) (without a (idsAt k w))
+  abbrev new : (List ℕ → List ℕ) → ℕ → List ℕ
+  new h k = idsOnto (take 64 (drop (suc k) w)) (h (idsAt k w))
 
-  less-long : (k : ℕ) → word k w ≤ 64 → k + 65 ≤ 330 → length (less k) ≡ 65
-  less-long k h r = onto-length (take 64 (drop (suc k) w)) (without a (idsAt k w)) 64 (length-take-le 64 (drop (suc k) w) (rw length-drop (omega arith))) (few-at a k 64 w h (omega arith))
+  new-long : (h : List ℕ → List ℕ) (k : ℕ) → length (h (idsAt k w)) ≤ 64 → k + 65 ≤ 330 → length (new h k) ≡ 65
+  new-long h k n i = onto-length (take 64 (drop (suc k) w)) (h (idsAt k w)) 64 (length-take-le 64 (drop (suc k) w) (rw length-drop (omega arith))) n
 
   kept-long : (k : ℕ) → k + 65 ≤ 330 → length (kept k) ≡ 65
-  kept-long k r = length-take-le 65 (drop k w) (rw length-drop (omega arith))
+  kept-long k i = length-take-le 65 (drop k w) (rw length-drop (omega arith))
 
-  -- the list at k forgotten in a row that is w from place k on
-  forget-on : (p : List ℕ) (k : ℕ) → length p ≡ k → word k w ≤ 64 → k + 65 ≤ 330 → forgetAt a k (p ++ drop k w) ≡ p ++ (less k ++ drop (k + 65) w)
-  forget-on p k e h r =
-      ap (λ ids. setList k (without a ids) (p ++ drop k w)) (ids-on p w k e)
-      ∙ list-on p w (without a (idsAt k w)) k 64 e (few-at a k 64 w h (omega arith)) (omega arith)
+  -- the list at k changed in a row that is w from place k on
+  change-on : (h : List ℕ → List ℕ) (p : List ℕ) (k : ℕ) → length p ≡ k → length (h (idsAt k w)) ≤ 64 → k + 65 ≤ 330 → changeAt h k (p ++ drop k w) ≡ p ++ (new h k ++ drop (k + 65) w)
+  change-on h p k e n i = ap (λ ids. setList k (h ids) (p ++ drop k w)) (ids-on p w k e) ∙ list-on p w (h (idsAt k w)) k 64 e n (omega arith)
 
   abbrev head : List ℕ
   head = words 0 5 w
 
   counts : RuleCounts w
-  counts = rule-counts w f
+  counts = rule-counts w r
 
-  first-forgotten : forgetAt a 5 w ≡ head ++ (less 5 ++ drop 70 w)
-  first-forgotten = ap (forgetAt a 5) (front 5 w (omega arith)) ∙ forget-on head 5 (words-length 5 0 w) (counts .lanes) (omega arith)
+  first-changed : changeAt f 5 w ≡ head ++ (new f 5 ++ drop 70 w)
+  first-changed = ap (changeAt f 5) (front 5 w (omega arith)) ∙ change-on f head 5 (words-length 5 0 w) (fits .lanes) (omega arith)
 
   -- a right of way has two lists more
   abbrev before : List ℕ
-  before = head ++ (less 5 ++ (kept 70 ++ kept 135))
+  before = head ++ (new f 5 ++ (kept 70 ++ kept 135))
 
   before-long : length before ≡ 200
   before-long =
-      simp (length-append, words-length 5 0 w, less-long 5 (counts .lanes) (omega arith), kept-long 70 (omega arith), kept-long 135 (omega arith))
+      simp (length-append, words-length 5 0 w, new-long f 5 (fits .lanes) (omega arith), kept-long 70 (omega arith), kept-long 135 (omega arith))
 
-  all-forgotten : eqb (word 1 w) 3 ≡ true → forgetAt a 265 (forgetAt a 200 (forgetAt a 5 w)) ≡ head ++ (less 5 ++ (kept 70 ++ (kept 135 ++ (less 200 ++ less 265))))
-  all-forgotten e =
-      let u : forgetAt a 5 w ≡ before ++ drop 200 w =
-      first-forgotten
-      ∙ (ap (λ z. head ++ (less 5 ++ z)) (sym (part-front 65 70 135 w refl) ∙ ap (λ z. kept 70 ++ z) (sym (part-front 65 135 200 w refl)))
-      ∙ sym (regroup head (less 5) (kept 70) (kept 135) (drop 200 w))) in
-      let v : forgetAt a 200 (before ++ drop 200 w) ≡ (before ++ less 200) ++ drop 265 w =
-      forget-on before 200 before-long (counts .priority e) (omega arith) ∙ sym (append-assoc before (less 200) (drop 265 w)) in
-      let n : length (before ++ less 200) ≡ 265 = omega (arith, length-append before (less 200), before-long, less-long 200 (counts .priority e) (omega arith)) in
-      let x : forgetAt a 265 ((before ++ less 200) ++ drop 265 w) ≡ (before ++ less 200) ++ less 265 =
-      forget-on (before ++ less 200) 265 n (counts .yielding e) (omega arith)
-      ∙ ap (λ z. (before ++ less 200) ++ z) (ap (λ z. less 265 ++ z) (nothing-behind w 330 l) ∙ append-nil (less 265)) in
-      ap (λ z. forgetAt a 265 (forgetAt a 200 z)) u
-      ∙ (ap (forgetAt a 265) v ∙ (x ∙ (append-assoc before (less 200) (less 265) ∙ regroup head (less 5) (kept 70) (kept 135) (less 200 ++ less 265))))
+  all-changed : word 1 w ≡ 3 → changeAt g 265 (changeAt g 200 (changeAt f 5 w)) ≡ head ++ (new f 5 ++ (kept 70 ++ (kept 135 ++ (new g 200 ++ new g 265))))
+  all-changed e =
+      let u : changeAt f 5 w ≡ before ++ drop 200 w =
+      first-changed
+      ∙ (ap (λ z. head ++ (new f 5 ++ z)) (sym (part-front 65 70 135 w refl) ∙ ap (λ z. kept 70 ++ z) (sym (part-front 65 135 200 w refl)))
+      ∙ sym (regroup head (new f 5) (kept 70) (kept 135) (drop 200 w))) in
+      let v : changeAt g 200 (before ++ drop 200 w) ≡ (before ++ new g 200) ++ drop 265 w =
+      change-on g before 200 before-long (fits .priority e) (omega arith) ∙ sym (append-assoc before (new g 200) (drop 265 w)) in
+      let n : length (before ++ new g 200) ≡ 265 = omega (arith, length-append before (new g 200), before-long, new-long g 200 (fits .priority e) (omega arith)) in
+      let x : changeAt g 265 ((before ++ new g 200) ++ drop 265 w) ≡ (before ++ new g 200) ++ new g 265 =
+      change-on g (before ++ new g 200) 265 n (fits .yielding e) (omega arith)
+      ∙ ap (λ z. (before ++ new g 200) ++ z) (ap (λ z. new g 265 ++ z) (nothing-behind w 330 l) ∙ append-nil (new g 265)) in
+      ap (λ z. changeAt g 265 (changeAt g 200 z)) u
+      ∙ (ap (changeAt g 265) v ∙ (x ∙ (append-assoc before (new g 200) (new g 265) ∙ regroup head (new f 5) (kept 70) (kept 135) (new g 200 ++ new g 265))))
     where
       regroup : (p q r s t : List ℕ) → (p ++ (q ++ (r ++ s))) ++ t ≡ p ++ (q ++ (r ++ (s ++ t)))
       regroup p q r s t = rw (append-assoc p (q ++ (r ++ s)) t, append-assoc q (r ++ s) t, append-assoc r s t)
 
   -- the record's row, list by list
   abbrev way : Bool → ℕ → List ℕ
-  way b k = idsOr b (drop k w) (without a (idsWhere b k w))
+  way b k = idsOr b (drop k w) (g (idsWhere b k w))
 
-  parts : (b : Bool) → eqb (word 1 w) 3 ≡ b → ruleOnto w (ruleLanes (without a) (without a) (ruleOf w)) ≡ head ++ (less 5 ++ (kept 70 ++ (kept 135 ++ (way b 200 ++ way b 265))))
+  parts : (b : Bool) → eqb (word 1 w) 3 ≡ b → ruleOnto w (ruleLanes f g (ruleOf w)) ≡ head ++ (new f 5 ++ (kept 70 ++ (kept 135 ++ (way b 200 ++ way b 265))))
   unfolding ruleOnto ruleOf words
   parts b e =
       joined (content (hasContent (word 1 w)) (word 2 w)) (crosswalk (eqb (word 1 w) 4) (word 4 w)) (ids-same 64 70 w (counts .crosswalks) (omega arith))
       (or-same (not (eqb (word 1 w) 5)) 135 w (counts .stops) (omega arith)) (ap (λ x. way x 200) e) (ap (λ x. way x 265) e)
     where
       joined : {x y u v : ℕ} {b c d e p q r s : List ℕ} → x ≡ u → y ≡ v → b ≡ p → c ≡ q → d ≡ r → e ≡ s
-          → word 0 w ∷ word 1 w ∷ x ∷ word 3 w ∷ y ∷ less 5 ++ (b ++ (c ++ (d ++ e))) ≡ word 0 w ∷ word 1 w ∷ u ∷ word 3 w ∷ v ∷ less 5 ++ (p ++ (q ++ (r ++ s)))
+          → word 0 w ∷ word 1 w ∷ x ∷ word 3 w ∷ y ∷ new f 5 ++ (b ++ (c ++ (d ++ e))) ≡ word 0 w ∷ word 1 w ∷ u ∷ word 3 w ∷ v ∷ new f 5 ++ (p ++ (q ++ (r ++ s)))
       joined i j k l m n = rw (i, j, k, l, m, n)
 
       content : (b : Bool) (x : ℕ) → cond b (cond b x 0) x ≡ x
@@ -283,18 +288,26 @@ module _ (a : ℕ) (w : List ℕ) (l : length w ≡ 330) (f : ruleFormed w ≡ t
       crosswalk true x = refl
       crosswalk false x = refl
 
-  way-less : (k : ℕ) → way true k ≡ less k
-  way-less k = let y : k + 1 ≡ suc k = omega arith in ap (λ z. idsOnto (take 64 z) (without a (idsAt k w))) (drop-drop 1 k w ∙ ap (λ j. drop j w) y)
+  way-new : (k : ℕ) → way true k ≡ new g k
+  way-new k = let y : k + 1 ≡ suc k = omega arith in ap (λ z. idsOnto (take 64 z) (g (idsAt k w))) (drop-drop 1 k w ∙ ap (λ j. drop j w) y)
 
   tail-kept : kept 70 ++ (kept 135 ++ (kept 200 ++ kept 265)) ≡ drop 70 w
   tail-kept = rw (part-last 65 265 w l, part-front 65 200 265 w refl, part-front 65 135 200 w refl, part-front 65 70 135 w refl)
 
-  pub rule-forgets : ruleOnto w (ruleLanes (without a) (without a) (ruleOf w)) ≡ ruleForgets a w
-  rule-forgets = go (eqb (word 1 w) 3) refl
+  pub rule-changes : ruleOnto w (ruleLanes f g (ruleOf w)) ≡ ruleChanges f g w
+  rule-changes = go (eqb (word 1 w) 3) refl
     where
-      go : (b : Bool) → eqb (word 1 w) 3 ≡ b → ruleOnto w (ruleLanes (without a) (without a) (ruleOf w)) ≡ cond b (forgetAt a 265 (forgetAt a 200 (forgetAt a 5 w))) (forgetAt a 5 w)
+      go : (b : Bool) → eqb (word 1 w) 3 ≡ b → ruleOnto w (ruleLanes f g (ruleOf w)) ≡ cond b (changeAt g 265 (changeAt g 200 (changeAt f 5 w))) (changeAt f 5 w)
       go true e =
           parts true e
-          ∙ (ap (λ z. head ++ (less 5 ++ (kept 70 ++ (kept 135 ++ (z ++ way true 265))))) (way-less 200)
-          ∙ (ap (λ z. head ++ (less 5 ++ (kept 70 ++ (kept 135 ++ (less 200 ++ z))))) (way-less 265) ∙ sym (all-forgotten e)))
-      go false e = parts false e ∙ (ap (λ z. head ++ (less 5 ++ z)) tail-kept ∙ sym first-forgotten)
+          ∙ (ap (λ z. head ++ (new f 5 ++ (kept 70 ++ (kept 135 ++ (z ++ way true 265))))) (way-new 200)
+          ∙ (ap (λ z. head ++ (new f 5 ++ (kept 70 ++ (kept 135 ++ (new g 200 ++ z))))) (way-new 265) ∙ sym (all-changed (eqb-true (word 1 w) 3 e))))
+      go false e = parts false e ∙ (ap (λ z. head ++ (new f 5 ++ z)) tail-kept ∙ sym first-changed)
+
+pub rule-forgets : (a : ℕ) (w : List ℕ) → length w ≡ 330 → ruleFormed w ≡ true → ruleOnto w (ruleLanes (without a) (without a) (ruleOf w)) ≡ ruleForgets a w
+rule-forgets a w l r = rule-changes (without a) (without a) w l r (rule-fits w (l, r) (without a) (without a) (length-without a) (length-without a))
+
+pub rule-replaces : (a b : ℕ) (w : List ℕ) → length w ≡ 330 → ruleFormed w ≡ true → ruleOnto w (ruleLanes (replace-lane a b) (replace-lane a b) (ruleOf w)) ≡ ruleReplaces a b w
+unfolding ruleReplaces
+rule-replaces a b w l r =
+    rule-changes (replace-lane a b) (replace-lane a b) w l r (rule-fits w (l, r) (replace-lane a b) (replace-lane a b) (length-replace a b) (length-replace a b))
