@@ -9,7 +9,7 @@ use lib.Ieee.{Float}
 use Rattle.entities.specs.declared.OptionNeighbor.the-variants.{Some as ANeighbor}
 use Rattle.entities.specs.Types.{same, opposing}
 use Rattle.entities.specs.Records.{Line, Lane, Road, Rule, StopLine, Crosswalk, Map, Issue}
-use Rattle.rules.specs.Names.{Fraction, Station, Right, EntityRef, RoadKind, RuleKind, Warning, BoundaryUnshared, OrphanRule, AttributeConflict, PositionOutside, NotMergeable, BoundaryAbsent, NoUsableLine, NotCrossing, Unsound, NoRoom, NoIds}
+use Rattle.rules.specs.Names.{Fraction, Station, Right, EntityRef, RoadKind, RuleKind, Warning, BoundaryUnshared, OrphanRule, AttributeConflict, LaneAbsent, PositionOutside, NotMergeable, BoundaryAbsent, NoUsableLine, NotCrossing, Unsound, NoRoom, NoIds}
 use Rattle.rules.specs.Sound.{Room, Lists}
 use Rattle.rules.specs.Ops.{SplitLane, MergeLanes, ConnectLanes, DisconnectLanes, SetNeighbor, RemoveLane, State}
 use Rattle.rules.proofs.Opened.{opened}
@@ -767,10 +767,40 @@ missing-unlisted-holds : Holds missing-unlisted
 unfolding opened
 missing-unlisted-holds = refl
 
+-- a lane that goes is forgotten by those that it led to and came from
+abbrev removed-unlinked : Case
+removed-unlinked =
+    changing
+    (counting 104 (yard (linked [] (2 ∷ []) (plain 1 101 102) ∷ linked (1 ∷ []) (3 ∷ []) (plain 2 101 102) ∷ linked (2 ∷ []) [] (plain 3 101 102) ∷ []) (e101 ∷ e102 ∷ [])))
+    (RemoveLane 2)
+    (yard (plain 1 101 102 ∷ plain 3 101 102 ∷ []) (e101 ∷ e102 ∷ []))
+    104 none
+    (changes [] (theLane 1 ∷ theLane 3 ∷ []) (theLane 2 ∷ []) [])
+
+removed-unlinked-holds : Holds removed-unlinked
+unfolding opened
+removed-unlinked-holds = refl
+
+-- ---- the order of refusals: "lane absent, in the order named", and before a lane as its own successor
+
+abbrev both-absent : Case
+both-absent = refusing one (ConnectLanes 9 8) (LaneAbsent 9)
+
+both-absent-holds : Holds both-absent
+unfolding opened
+both-absent-holds = refl
+
+abbrev absent-itself : Case
+absent-itself = refusing one (ConnectLanes 9 9) (LaneAbsent 9)
+
+absent-itself-holds : Holds absent-itself
+unfolding opened
+absent-itself-holds = refl
+
 -- ---- the table
 
 abbrev pub corners : List Case
-corners = merge-directions ∷ opposite-halves ∷ freed-reported ∷ one-sided ∷ created-short ∷ created-exact ∷ lanes-short ∷ ids-short ∷ ids-exact ∷ spent ∷ counter-zero ∷ counter-kept ∷ nearest-station ∷ neighbour-empty ∷ neighbour-point ∷ boundary-missing ∷ boundary-empty ∷ boundary-short ∷ line-missing ∷ line-before-fraction ∷ own-empty ∷ reversed ∷ both-sides ∷ self-link ∷ self-beside ∷ anchor-past ∷ anchor-before ∷ stop-missing ∷ crosswalk-past ∷ crosswalk-before ∷ own-twice ∷ road-twice ∷ rights ∷ shared-kept ∷ in-place-reversed ∷ fresh-forward ∷ both-in-place ∷ apart-joined ∷ nan-limits ∷ zero-limits ∷ one-centreline ∷ same-lane ∷ absent-left-first ∷ orphan ∷ orphan-before ∷ missing-unlisted ∷ []
+corners = merge-directions ∷ opposite-halves ∷ freed-reported ∷ one-sided ∷ created-short ∷ created-exact ∷ lanes-short ∷ ids-short ∷ ids-exact ∷ spent ∷ counter-zero ∷ counter-kept ∷ nearest-station ∷ neighbour-empty ∷ neighbour-point ∷ boundary-missing ∷ boundary-empty ∷ boundary-short ∷ line-missing ∷ line-before-fraction ∷ own-empty ∷ reversed ∷ both-sides ∷ self-link ∷ self-beside ∷ anchor-past ∷ anchor-before ∷ stop-missing ∷ crosswalk-past ∷ crosswalk-before ∷ own-twice ∷ road-twice ∷ rights ∷ shared-kept ∷ in-place-reversed ∷ fresh-forward ∷ both-in-place ∷ apart-joined ∷ nan-limits ∷ zero-limits ∷ one-centreline ∷ same-lane ∷ absent-left-first ∷ orphan ∷ orphan-before ∷ missing-unlisted ∷ removed-unlinked ∷ both-absent ∷ absent-itself ∷ []
 
 pub corners-hold : AllHold corners
-corners-hold = (merge-directions-holds, (opposite-halves-holds, (freed-reported-holds, (one-sided-holds, (created-short-holds, (created-exact-holds, (lanes-short-holds, (ids-short-holds, (ids-exact-holds, (spent-holds, (counter-zero-holds, (counter-kept-holds, (nearest-station-holds, (neighbour-empty-holds, (neighbour-point-holds, (boundary-missing-holds, (boundary-empty-holds, (boundary-short-holds, (line-missing-holds, (line-before-fraction-holds, (own-empty-holds, (reversed-holds, (both-sides-holds, (self-link-holds, (self-beside-holds, (anchor-past-holds, (anchor-before-holds, (stop-missing-holds, (crosswalk-past-holds, (crosswalk-before-holds, (own-twice-holds, (road-twice-holds, (rights-holds, (shared-kept-holds, (in-place-reversed-holds, (fresh-forward-holds, (both-in-place-holds, (apart-joined-holds, (nan-limits-holds, (zero-limits-holds, (one-centreline-holds, (same-lane-holds, (absent-left-first-holds, (orphan-holds, (orphan-before-holds, (missing-unlisted-holds, tt))))))))))))))))))))))))))))))))))))))))))))))
+corners-hold = (merge-directions-holds, (opposite-halves-holds, (freed-reported-holds, (one-sided-holds, (created-short-holds, (created-exact-holds, (lanes-short-holds, (ids-short-holds, (ids-exact-holds, (spent-holds, (counter-zero-holds, (counter-kept-holds, (nearest-station-holds, (neighbour-empty-holds, (neighbour-point-holds, (boundary-missing-holds, (boundary-empty-holds, (boundary-short-holds, (line-missing-holds, (line-before-fraction-holds, (own-empty-holds, (reversed-holds, (both-sides-holds, (self-link-holds, (self-beside-holds, (anchor-past-holds, (anchor-before-holds, (stop-missing-holds, (crosswalk-past-holds, (crosswalk-before-holds, (own-twice-holds, (road-twice-holds, (rights-holds, (shared-kept-holds, (in-place-reversed-holds, (fresh-forward-holds, (both-in-place-holds, (apart-joined-holds, (nan-limits-holds, (zero-limits-holds, (one-centreline-holds, (same-lane-holds, (absent-left-first-holds, (orphan-holds, (orphan-before-holds, (missing-unlisted-holds, (removed-unlinked-holds, (both-absent-holds, (absent-itself-holds, tt)))))))))))))))))))))))))))))))))))))))))))))))))

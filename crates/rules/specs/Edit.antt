@@ -171,8 +171,8 @@ connect tol a b m = do
 -- "`disconnect` does not" refuse a lane from itself.
 unfoldable pub disconnect : ℕ → ℕ → Map → Res Edited
 disconnect a b m = do
-  from ← require-lane m a
-  to ← require-lane m b
+  first ← require-lane m a
+  second ← require-lane m b
   let linked = leads-to m a b in
       yield
       (relinking (withLanes (map (linkOut a b) (m .lanes)) m) (lanesWhere (λ l. linked && either a b l) (m .lanes)) (when (not linked) (no-op a)))
