@@ -1,4 +1,3 @@
 pub mod Gap
 pub mod Linking
 pub mod Reported
-pub mod Reslot

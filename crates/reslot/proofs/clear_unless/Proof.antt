@@ -1,8 +1,8 @@
 -- `slots::clear_unless` meets its contract. Assumes nothing.
 use borrow.Author.Needs.{needs}
-use Rattle.relink.proofs.slots.clear_unless.Statement.{statement}
-use Rattle.relink.proofs.slots.clear_unless.Tie as tie
-use Rattle.relink.proofs.Reslot.{unless}
+use Rattle.reslot.proofs.clear_unless.Statement.{statement}
+use Rattle.reslot.proofs.clear_unless.Tie as tie
+use Rattle.reslot.proofs.Reslot.{unless}
 
 returns : tie.Need-returns
 returns c = search needs

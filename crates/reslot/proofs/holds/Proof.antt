@@ -1,8 +1,8 @@
 -- `slots::holds` meets its contract: directions are the same where their marks are. Assumes nothing.
 use borrow.Author.Needs.{needs}
-use Rattle.relink.proofs.slots.holds.Statement.{statement}
-use Rattle.relink.proofs.slots.holds.Tie as tie
-use Rattle.relink.proofs.Reslot.{holds-both}
+use Rattle.reslot.proofs.holds.Statement.{statement}
+use Rattle.reslot.proofs.holds.Tie as tie
+use Rattle.reslot.proofs.Reslot.{holds-both}
 
 enum-known-slot : tie.Need-enum-known-slot
 enum-known-slot c = search needs

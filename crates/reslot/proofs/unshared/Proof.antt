@@ -1,8 +1,8 @@
 -- `slots::unshared` meets its contract. Assumes nothing.
-use Rattle.relink.proofs.slots.unshared.Statement.{statement}
-use Rattle.relink.proofs.slots.unshared.Tie as tie
+use Rattle.reslot.proofs.unshared.Statement.{statement}
+use Rattle.reslot.proofs.unshared.Tie as tie
 use Rattle.lookup.proofs.Laws.{searchable-sorted}
-use Rattle.relink.proofs.Reslot.{two-boundaries}
+use Rattle.reslot.proofs.Reslot.{two-boundaries}
 
 boundary-ref-requires : tie.Need-boundary-ref-requires
 boundary-ref-requires c κs = (searchable-sorted (c .before .args .lanes .now) (c .before .pre .0), c .before .pre .1 .0)

@@ -1,15 +1,15 @@
 -- `slots::touched` meets its contract: each call names one lane more at most. Assumes nothing.
 use borrow.Author.Needs.{needs}
-use Rattle.relink.proofs.slots.touched.Statement.{statement}
-use Rattle.relink.proofs.slots.touched.Tie as tie
+use Rattle.reslot.proofs.touched.Statement.{statement}
+use Rattle.reslot.proofs.touched.Tie as tie
 use mathlib.Core.Path.{_≡_}
 use native.Mathlib.Omega.{arith}
 use lib.ListN.{length, take}
 use Rattle.lists.specs.Select.{place}
 use Rattle.report.proofs.Laws.{named-front}
 use Rattle.entities.specs.Types.{neighborOption}
 use Rattle.relink.proofs.Reported.{nothing-up}
-use Rattle.relink.proofs.Reslot.{Named, first-named, next-named, named-few, named-up, all-named}
+use Rattle.reslot.proofs.Reslot.{Named, first-named, next-named, named-few, named-up, all-named}
 
 front : (c : tie.After-named) → (take (c .named .result) (c .named .last .0) ≡ place (c .before .before .before .before .args .lane) (take 0 (c .before .before .before .before .args .ids .now))) × (c .named .result ≡ length (place (c .before .before .before .before .args .lane) (take 0 (c .before .before .before .before .args .ids .now))))
 front c =

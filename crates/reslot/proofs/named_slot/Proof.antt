@@ -1,10 +1,10 @@
 -- `slots::named_slot` meets its contract. Assumes nothing.
 use borrow.Author.Needs.{needs}
-use Rattle.relink.proofs.slots.named_slot.Statement.{statement}
-use Rattle.relink.proofs.slots.named_slot.Tie as tie
+use Rattle.reslot.proofs.named_slot.Statement.{statement}
+use Rattle.reslot.proofs.named_slot.Tie as tie
 use native.Mathlib.Omega.{arith}
 use Rattle.report.proofs.Laws.{named-front}
-use Rattle.relink.proofs.Reslot.{none-named, one-named}
+use Rattle.reslot.proofs.Reslot.{none-named, one-named}
 
 enum-known-slot : tie.Need-enum-known-slot
 enum-known-slot c = search needs
