@@ -18,13 +18,10 @@ use Rattle.polyline.specs.Polyline.{firstPiece, secondPiece}
 use Rattle.polyline.proofs.Reach.{first-piece-reach, second-piece-reach}
 use Rattle.entities.specs.Records.{Lane, Boundary}
 use Rattle.rules.specs.Map.{station, uses}
+use Rattle.rules.specs.Edit.{upFrom}
 use Rattle.rules.specs.Split.{Piece, pieceAt, pieceIds, pieces, piecesIds, newPieces}
 
 -- ---- general: numbers counted up
-
-unfoldable pub upFrom : ℕ → ℕ → List ℕ
-upFrom n zero = []
-upFrom n (suc k) = n ∷ upFrom (suc n) k
 
 pub up-from : (n k i : ℕ) → i ≤ n → all (leb i) (upFrom n k) ≡ true
 unfolding upFrom all

@@ -12,6 +12,7 @@ use Rattle.lists.specs.Select.{each, ascending, insert-after}
 use Rattle.lists.proofs.Booleans.{and-both, and-fst, and-snd}
 use Rattle.lists.proofs.Select.{all-map, all-each, all-weaken, keys-map, ascending-append}
 use Rattle.entities.specs.Records.{Rule, Map}
+use Rattle.rules.specs.Edit.{upFrom}
 use Rattle.rules.specs.Map.{laneIds}
 use Rattle.rules.specs.Sound.{optionalId, idsNamed, laneNames, ruleNames, idsAscend, ruleLegal, hasContent, stopLinesFit, given}
 use Rattle.rules.specs.Lane.{roadLanes, junctionLanes, ruleLanes}
@@ -20,7 +21,7 @@ use Rattle.laws.proofs.Part.{Gives, _&also_, stays}
 use Rattle.laws.proofs.Find.{numbered}
 use Rattle.laws.proofs.SplitLanes.{Numbered, secondId, halfPair, halves-numbered, Cutting, cutLanes}
 use Rattle.laws.proofs.SplitLinks.{map-append, cut-up}
-use Rattle.laws.proofs.SplitPieces.{upFrom, up-from, up-ascends}
+use Rattle.laws.proofs.SplitPieces.{up-from, up-ascends}
 use Rattle.laws.proofs.SplitNames.{inserted-pass, uncut-names, first-names, second-names}
 use Rattle.laws.proofs.SplitTests.{Carries, _&then_, carries-same, carries-each, all-both, plans-all, lanes-test, cutBoundaries, drawn-id, boundaries-test}
 

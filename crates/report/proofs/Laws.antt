@@ -2,7 +2,7 @@
 use mathlib.Core.Path.{_≡_, refl, sym, ap, _∙_}
 use mathlib.Core.Bool.{Bool, true, false}
 use mathlib.Core.List.{List, [], _∷_, _++_, map-append, append-assoc}
-use Prim.Native.Nat.{ℕ, _+_, _*_, _≤_, _<_}
+use Prim.Native.Nat.{ℕ, zero, suc, _+_, _*_, _≤_, _<_}
 use native.Mathlib.Numerals.{add-one}
 use native.Mathlib.Omega.{arith}
 use lib.ListN.{length, getD, set, take, length-append, length-map}
@@ -14,7 +14,7 @@ use Rattle.lists.proofs.Place.{place-present, length-place}
 use Rattle.lists.proofs.Select.{each-append}
 use Rattle.entities.specs.Types.{kindNumber}
 use Rattle.rules.specs.Names.{EntityKind, EntityRef}
-use Rattle.rules.specs.Edit.{refs}
+use Rattle.rules.specs.Edit.{refs, upFrom}
 use Rattle.report.specs.Report.{entityWords, listed}
 
 -- an id named among the first n of w: one that is there, and one that is not
@@ -113,6 +113,36 @@ module _ (x : ℕ) where
 pub list-end : (q : EntityKind) (x : ℕ) (w v ids : List ℕ) (at i : ℕ) → x ≡ kindNumber q → i ≤ length ids → length ids ≤ i → v ≡ over w (at * 2) (pairsOf x (take i ids))
     → (at + i ≡ at + length ids) × (v ≡ over w (at * 2) (pairs q ids))
 list-end q x w v ids at i k l h e = (omega arith, e ∙ (ap (λ z. over w (at * 2) (pairsOf x z)) (take-all i ids h) ∙ ap (over w (at * 2)) (pairs-are q x ids k)))
+
+-- ids that count up
+pub length-up : (from n : ℕ) → length (upFrom from n) ≡ n
+unfolding upFrom
+length-up from zero = refl
+length-up from (suc n) = ap suc (length-up (suc from) n)
+
+up-more : (from n : ℕ) → upFrom from (n + 1) ≡ upFrom from n ++ ((from + n) ∷ [])
+unfolding upFrom
+up-more from zero = let e : from + 0 ≡ from = omega arith in rw e
+up-more from (suc n) =
+    let e : suc n + 1 ≡ suc (n + 1) = omega arith in
+    let f : suc from + n ≡ from + suc n = omega arith in
+    rw e (ap (λ z. from ∷ z) (up-more (suc from) n ∙ ap (λ k. upFrom (suc from) n ++ (k ∷ [])) f))
+
+module _ (x : ℕ) (w : List ℕ) (at from : ℕ) where
+  pub up-none : w ≡ over w (at * 2) (pairsOf x (upFrom from 0))
+  unfolding upFrom each
+  up-none = sym (over-nil w (at * 2))
+
+  pub up-step : (v : List ℕ) (i : ℕ) → (at + i + 1) * 2 ≤ length w → v ≡ over w (at * 2) (pairsOf x (upFrom from i))
+      → set (set v ((at + i) * 2) x) ((at + i) * 2 + 1) (from + i) ≡ over w (at * 2) (pairsOf x (upFrom from (i + 1)))
+  up-step v i h e =
+      list-more x w v (upFrom from i) at (at + i) (from + i) (ap (λ n. at + n) (sym (length-up from i))) h e ∙ ap (λ z. over w (at * 2) (pairsOf x z)) (sym (up-more from i))
+
+  pub up-end : (q : EntityKind) (v : List ℕ) (n i : ℕ) → x ≡ kindNumber q → i ≤ n → n ≤ i → v ≡ over w (at * 2) (pairsOf x (upFrom from i))
+      → (at + i ≡ at + n) × (v ≡ over w (at * 2) (pairs q (upFrom from n)))
+  up-end q v n i k l h e =
+      let m : i ≡ n = omega arith in
+      (omega arith, e ∙ (ap (λ j. over w (at * 2) (pairsOf x (upFrom from j))) m ∙ ap (over w (at * 2)) (pairs-are q x (upFrom from n) k)))
 
 -- an empty list changes nothing
 pub listed-nil : (w : List ℕ) → listed w [] ≡ w

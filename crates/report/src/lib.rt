@@ -146,6 +146,22 @@ pub fn list_ids(kind: EntityKind, ids: &[u64], out: &mut [u64], at: usize) -> us
     at + i
 }
 
+// The same of n ids that count up from the first.
+pub fn list_up(kind: EntityKind, from: u64, n: usize, out: &mut [u64], at: usize) -> usize
+    requires { ⌜ (from + n ≤ 2 ^ 64) × ((at + n) * 2 ≤ length (now out)) ⌝ }
+    ensures { λ r. ⌜ (r ≡ at + n) × (now (out .exit) ≡ over (now (out .entry)) (at * 2) (each R.entityWords (E.refs kind (E.upFrom from n)))) ⌝ }
+{
+    let number = kind.number();
+    let mut i = 0;
+    while i < n {
+        let place = (at + i) * ENTITY;
+        out[place] = number;
+        out[place + 1] = from + i as u64;
+        i += 1;
+    }
+    at + i
+}
+
 // ---- warnings
 
 // A warning of one lane or of two, of one boundary, or of one and the two pieces that cut lanes have in its place; or none.

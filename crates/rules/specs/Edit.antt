@@ -1,5 +1,5 @@
 -- edit/mod.rs and topology.rs: what an edit yields, and connect, disconnect, set_neighbor.
-use Prim.Native.Nat.{ℕ}
+use Prim.Native.Nat.{ℕ, zero, suc}
 use mathlib.Core.Bool.{Bool, true, false, not, _&&_, _||_, cond}
 use mathlib.Core.List.{List, [], _∷_, _++_, map}
 use mathlib.Core.Option.{Option, none, some}
@@ -51,6 +51,11 @@ require-lane m i = require (lane m i) (LaneAbsent i)
 
 abbrev pub refs : EntityKind → List ℕ → List EntityRef
 refs k ids = map (λ i. record { kind = k; id = i }) ids
+
+-- new ids count up from the next one
+unfoldable pub upFrom : ℕ → ℕ → List ℕ
+upFrom next zero = []
+upFrom next (suc n) = next ∷ upFrom (suc next) n
 
 abbrev pub lanesWhere : (Lane → Bool) → List Lane → List EntityRef
 lanesWhere p ls = refs LaneKind (map (λ l. l .id) (keep p ls))
