@@ -60,6 +60,39 @@ impl Call {
         }
     }
 
+    /// The command's row of words (crates/words): its number and up to four more.
+    pub fn row(&self) -> [u64; 5] {
+        match *self {
+            Call::SplitLane {
+                lane,
+                at,
+                neighbors,
+            } => {
+                let (kind, x) = match at {
+                    SplitAt::Fraction(x) => (0, x),
+                    SplitAt::Station(x) => (1, x),
+                };
+                [0, lane, kind, x.to_bits(), neighbors as u64]
+            }
+            Call::MergeLanes { first, second } => [1, first, second, 0, 0],
+            Call::Connect { from, to } => [2, from, to, 0, 0],
+            Call::Disconnect { from, to } => [3, from, to, 0, 0],
+            Call::SetNeighbor {
+                lane,
+                side,
+                neighbor,
+            } => {
+                let (mark, other) = match neighbor {
+                    None => (0, 0),
+                    Some(n) if n.direction == NeighborDirection::Same => (1, n.lane.0),
+                    Some(n) => (2, n.lane.0),
+                };
+                [4, lane, (side == Side::Right) as u64, mark, other]
+            }
+            Call::RemoveLane { lane } => [5, lane, 0, 0, 0],
+        }
+    }
+
     /// Split and merge lay all lines out anew; the others leave them where they are.
     fn lays_out(&self) -> bool {
         matches!(self, Call::MergeLanes { .. } | Call::SplitLane { .. })
