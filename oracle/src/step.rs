@@ -93,6 +93,40 @@ impl Call {
         }
     }
 
+    /// The call that a row of words is.
+    pub fn of(row: [u64; 5]) -> Call {
+        let [command, lane, b, c, d] = row;
+        match command {
+            0 => Call::SplitLane {
+                lane,
+                at: match b {
+                    0 => SplitAt::Fraction(f64::from_bits(c)),
+                    _ => SplitAt::Station(f64::from_bits(c)),
+                },
+                neighbors: d != 0,
+            },
+            1 => Call::MergeLanes {
+                first: lane,
+                second: b,
+            },
+            2 => Call::Connect { from: lane, to: b },
+            3 => Call::Disconnect { from: lane, to: b },
+            4 => Call::SetNeighbor {
+                lane,
+                side: match b {
+                    0 => Side::Left,
+                    _ => Side::Right,
+                },
+                neighbor: match c {
+                    0 => None,
+                    1 => Some(Neighbor::same(LaneId(d))),
+                    _ => Some(Neighbor::opposite(LaneId(d))),
+                },
+            },
+            _ => Call::RemoveLane { lane },
+        }
+    }
+
     /// Split and merge lay all lines out anew; the others leave them where they are.
     fn lays_out(&self) -> bool {
         matches!(self, Call::MergeLanes { .. } | Call::SplitLane { .. })

@@ -76,7 +76,7 @@ pub fn number(s: &[u8], at: usize) -> Taken
 // ---- tables
 
 // As many numbers as there are places; the place behind them.
-fn fill(s: &[u8], from: usize, table: &mut [u64]) -> usize
+pub fn fill(s: &[u8], from: usize, table: &mut [u64]) -> usize
     ensures { λ r. ⌜ (now (table .exit) ≡ N.wordsAt (length (now (table .entry))) (now (s .entry)) from) × (r ≡ N.behindAll (length (now (table .entry))) (now (s .entry)) from) ⌝ }
 {
     let mut at = from;
@@ -104,7 +104,8 @@ fn fill_floats(s: &[u8], from: usize, table: &mut [f64]) -> usize
     at
 }
 
-fn least(a: usize, b: usize) -> usize
+// The smaller of two.
+pub fn least(a: usize, b: usize) -> usize
     ensures { λ r. ⌜ (r ≡ N.least a b) × (r ≤ b) ⌝ }
 {
     if a < b {
