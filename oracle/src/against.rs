@@ -29,7 +29,7 @@ pub fn lend(state: &State, room: &Room) -> Lent {
 }
 
 /// What the answer looks like by value and in the lists.
-fn expected(answer: &Answer, before: &Lent) -> (Raw, [Vec<u64>; 4]) {
+pub fn expected(answer: &Answer, before: &Lent) -> (Raw, [Vec<u64>; 4]) {
     let mut lists = before.lists.clone();
     match answer {
         Answer::Refused { number, entity } => {

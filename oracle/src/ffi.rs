@@ -49,13 +49,25 @@ pub fn sound(t: &Tables, counter: u64) -> Option<bool> {
 
 #[cfg(feature = "against")]
 mod linked {
-    use vectormap_core::{Neighbor, NeighborDirection, Side};
-
     use super::{Call, Editor, Lent, Raw, Tables};
 
-    /// The edits whose functions are declared below, by their place in `COMMANDS`.
+    /// The edits that are in the library's code, by their place in `COMMANDS`; it answers 10 to the others.
     /// TODO merge_lanes, split_lane.
     const THERE: [usize; 4] = [0, 1, 2, 3];
+
+    /// `Told` of crates/words.
+    #[repr(C)]
+    struct Told {
+        number: u64,
+        kind: u64,
+        id: u64,
+        created: u64,
+        modified: u64,
+        deleted: u64,
+        warnings: u64,
+        second: u64,
+        counter: u64,
+    }
 
     unsafe extern "C" {
         fn voldrekka_sound(
@@ -77,93 +89,36 @@ mod linked {
             coordinates: *const f64,
             coordinates_len: usize,
         ) -> bool;
-    }
 
-    /// Declares edits that leave counter and lines as they are: the counter, the eight slices of the map, the edit's own arguments, the four
-    /// lists, and the slice for the four words of the answer. Of what an edit does not change it is lent a place to read alone.
-    macro_rules! edits {
-        ($($name:ident($($argument:ident),*);)*) => {
-            unsafe extern "C" {
-                $(fn $name(
-                    counter: u64,
-                    lanes: *mut u64,
-                    lanes_len: usize,
-                    boundaries: *mut u64,
-                    boundaries_len: usize,
-                    roads: *mut u64,
-                    roads_len: usize,
-                    junctions: *mut u64,
-                    junctions_len: usize,
-                    rules: *mut u64,
-                    rules_len: usize,
-                    stop_lines: *const u64,
-                    stop_lines_len: usize,
-                    crosswalks: *const u64,
-                    crosswalks_len: usize,
-                    coordinates: *const f64,
-                    coordinates_len: usize,
-                    $($argument: u64,)*
-                    created: *const u64,
-                    created_len: usize,
-                    modified: *mut u64,
-                    modified_len: usize,
-                    deleted: *mut u64,
-                    deleted_len: usize,
-                    warnings: *mut u64,
-                    warnings_len: usize,
-                    answer: *mut u64,
-                    answer_len: usize,
-                ) -> u64;)*
-            }
-        };
-    }
-
-    edits! {
-        voldrekka_connect(from, to);
-        voldrekka_disconnect(from, to);
-        voldrekka_set_neighbor(lane, side, mark, other);
-        voldrekka_remove_lane(lane);
-    }
-
-    /// Calls such a function with what is lent.
-    macro_rules! lent_to {
-        ($name:ident, $lent:expr, $answer:expr, $($argument:expr),*) => {{
-            let Lent { tables, counter, lists } = $lent;
-            let [l, b, r, j, u, s, c] = &mut tables.words;
-            let [created, modified, deleted, warnings] = lists;
-            unsafe {
-                $name(
-                    *counter,
-                    l.as_mut_ptr(),
-                    l.len(),
-                    b.as_mut_ptr(),
-                    b.len(),
-                    r.as_mut_ptr(),
-                    r.len(),
-                    j.as_mut_ptr(),
-                    j.len(),
-                    u.as_mut_ptr(),
-                    u.len(),
-                    s.as_ptr(),
-                    s.len(),
-                    c.as_ptr(),
-                    c.len(),
-                    tables.xyz.as_ptr(),
-                    tables.xyz.len(),
-                    $($argument,)*
-                    created.as_ptr(),
-                    created.len(),
-                    modified.as_mut_ptr(),
-                    modified.len(),
-                    deleted.as_mut_ptr(),
-                    deleted.len(),
-                    warnings.as_mut_ptr(),
-                    warnings.len(),
-                    $answer.as_mut_ptr(),
-                    $answer.len(),
-                )
-            }
-        }};
+        fn voldrekka_apply(
+            counter: u64,
+            lanes: *mut u64,
+            lanes_len: usize,
+            boundaries: *mut u64,
+            boundaries_len: usize,
+            roads: *mut u64,
+            roads_len: usize,
+            junctions: *mut u64,
+            junctions_len: usize,
+            rules: *mut u64,
+            rules_len: usize,
+            stop_lines: *mut u64,
+            stop_lines_len: usize,
+            crosswalks: *mut u64,
+            crosswalks_len: usize,
+            coordinates: *mut f64,
+            coordinates_len: usize,
+            command: *const u64,
+            command_len: usize,
+            created: *mut u64,
+            created_len: usize,
+            modified: *mut u64,
+            modified_len: usize,
+            deleted: *mut u64,
+            deleted_len: usize,
+            warnings: *mut u64,
+            warnings_len: usize,
+        ) -> Told;
     }
 
     pub fn sound(t: &Tables, counter: u64) -> bool {
@@ -191,6 +146,43 @@ mod linked {
         }
     }
 
+    fn apply(row: &[u64], lent: &mut Lent) -> Told {
+        let [l, b, r, j, u, s, c] = &mut lent.tables.words;
+        let xyz = &mut lent.tables.xyz;
+        let [created, modified, deleted, warnings] = &mut lent.lists;
+        unsafe {
+            voldrekka_apply(
+                lent.counter,
+                l.as_mut_ptr(),
+                l.len(),
+                b.as_mut_ptr(),
+                b.len(),
+                r.as_mut_ptr(),
+                r.len(),
+                j.as_mut_ptr(),
+                j.len(),
+                u.as_mut_ptr(),
+                u.len(),
+                s.as_mut_ptr(),
+                s.len(),
+                c.as_mut_ptr(),
+                c.len(),
+                xyz.as_mut_ptr(),
+                xyz.len(),
+                row.as_ptr(),
+                row.len(),
+                created.as_mut_ptr(),
+                created.len(),
+                modified.as_mut_ptr(),
+                modified.len(),
+                deleted.as_mut_ptr(),
+                deleted.len(),
+                warnings.as_mut_ptr(),
+                warnings.len(),
+            )
+        }
+    }
+
     pub struct Library;
 
     impl Editor for Library {
@@ -199,68 +191,21 @@ mod linked {
         }
 
         fn call(&mut self, call: &Call, lent: &mut Lent) -> Raw {
-            let mut answer = [FILL; WORDS + 1];
-            let number = match *call {
-                Call::Connect { from, to } => {
-                    lent_to!(voldrekka_connect, lent, answer, from, to)
-                }
-                Call::Disconnect { from, to } => {
-                    lent_to!(voldrekka_disconnect, lent, answer, from, to)
-                }
-                Call::SetNeighbor {
-                    lane,
-                    side,
-                    neighbor,
-                } => {
-                    let (mark, other) = slot(neighbor);
-                    let side = (side == Side::Right) as u64;
-                    lent_to!(
-                        voldrekka_set_neighbor,
-                        lent,
-                        answer,
-                        lane,
-                        side,
-                        mark,
-                        other
-                    )
-                }
-                Call::RemoveLane { lane } => lent_to!(voldrekka_remove_lane, lent, answer, lane),
-                _ => unreachable!("{call:?}: no such function in the library yet"),
-            };
-            raw(number, answer)
+            let told = apply(&call.row(), lent);
+            lent.counter = told.counter;
+            raw(told)
         }
     }
 
-    const WORDS: usize = 4;
-    /// What the answer's slice holds before a call; one word more is lent than an answer has.
-    const FILL: u64 = 0x5A5A_A5A5_5A5A_A5A5;
-
-    /// The mark and the lane of a neighbour slot.
-    fn slot(neighbor: Option<Neighbor>) -> (u64, u64) {
-        match neighbor {
-            None => (0, 0),
-            Some(n) if n.direction == NeighborDirection::Same => (1, n.lane.0),
-            Some(n) => (2, n.lane.0),
-        }
-    }
-
-    fn raw(number: u64, answer: [u64; WORDS + 1]) -> Raw {
-        let [a, b, c, d, behind] = answer;
-        assert_eq!(behind, FILL, "written behind the answer");
-        if number == 0 {
-            return Raw {
-                counts: [a, b, c, d].map(|n| n as usize),
-                ..Raw::default()
-            };
-        }
-        assert_eq!((c, d), (0, 0), "a refusal's last words");
-        if a == 0 {
-            assert_eq!(b, 0, "no entity, and an id");
+    fn raw(t: Told) -> Raw {
+        if t.kind == 0 {
+            assert_eq!(t.id, 0, "no entity, and an id");
         }
         Raw {
-            number,
-            entity: (a > 0).then(|| (a - 1, b)),
-            ..Raw::default()
+            number: t.number,
+            entity: (t.kind > 0).then(|| (t.kind - 1, t.id)),
+            counts: [t.created, t.modified, t.deleted, t.warnings].map(|n| n as usize),
+            second: (t.second > 0).then_some(t.second),
         }
     }
 }

@@ -102,10 +102,18 @@ fn aim(index: usize) -> Aim {
 }
 
 pub fn case(seed: u64, index: usize, profile: Profile) -> Case {
+    case_of(seed, index, profile, &ALL)
+}
+
+/// Every edit, by its place in `COMMANDS`.
+pub const ALL: [usize; 6] = [0, 1, 2, 3, 4, 5];
+
+/// The same with calls of these edits alone, by their places in `COMMANDS`.
+pub fn case_of(seed: u64, index: usize, profile: Profile, edits: &[usize]) -> Case {
     let mut rng = Rng::new(seed ^ (index as u64 + 1).wrapping_mul(0xD134_2543_DE82_EF95));
     let rng = &mut rng;
     if profile == Profile::Full && index % 400 == 399 {
-        return large(rng, index / 400);
+        return large(rng, index / 400, edits);
     }
     let aim = aim(index);
     loop {
@@ -123,7 +131,7 @@ pub fn case(seed: u64, index: usize, profile: Profile) -> Case {
                 "the generator made a map that is not sound"
             );
             let n = rng.within(1, 2);
-            let calls = calls(rng, state, n);
+            let calls = calls(rng, state, n, edits);
             if !damage::apply(which, rng, &mut tables, &mut counter) {
                 continue;
             }
@@ -143,7 +151,7 @@ pub fn case(seed: u64, index: usize, profile: Profile) -> Case {
         return Case {
             tables,
             counter,
-            calls: calls(rng, state, n),
+            calls: calls(rng, state, n, edits),
         };
     }
 }
@@ -941,10 +949,15 @@ fn scatter(rng: &mut Rng, m: &Map, aim: Aim, profile: Profile) -> Tables {
 
 // ---- calls -------------------------------------------------------------------------------------
 
-fn calls(rng: &mut Rng, mut state: State, n: usize) -> Vec<(Call, Room)> {
+fn calls(rng: &mut Rng, mut state: State, n: usize, edits: &[usize]) -> Vec<(Call, Room)> {
     let mut out = Vec::new();
     for _ in 0..n {
-        let call = call(rng, &state);
+        let call = loop {
+            let call = call(rng, &state);
+            if edits.contains(&call.command()) {
+                break call;
+            }
+        };
         let room = room(rng, &state, &call);
         state.step(&call, &room);
         out.push((call, room));
@@ -1194,7 +1207,7 @@ pub fn furnish(m: &mut Map, roads: usize, junctions: usize, rules: usize) {
 }
 
 /// Maps at the limits of document 01.
-fn large(rng: &mut Rng, which: usize) -> Case {
+fn large(rng: &mut Rng, which: usize, edits: &[usize]) -> Case {
     let mut m = match which % 4 {
         // 1,020 lanes: a split of a group of ten passes 1,024.
         0 => grid(102, 10, 4),
@@ -1228,6 +1241,6 @@ fn large(rng: &mut Rng, which: usize) -> Case {
     Case {
         tables,
         counter,
-        calls: calls(rng, state, n),
+        calls: calls(rng, state, n, edits),
     }
 }

@@ -8,6 +8,7 @@ mod bench;
 mod cases;
 mod claims;
 mod damage;
+mod digest;
 mod ffi;
 mod format;
 mod generate;
@@ -27,24 +28,37 @@ use tally::Tally;
 
 const USAGE: &str = "\
 oracle cases                       the ten cases of document 01
-oracle make SEED COUNT [small]     a stream of maps, calls and answers to standard output
-oracle lines SEED COUNT            the same for the line functions
+oracle calls SEED COUNT EDITS      a stream of small maps and calls of these edits (names, commas between) to standard output
+oracle digests FILE                what a replay of such a stream must write: each answer and a digest of what is lent
+oracle lines SEED COUNT            a stream of calls of the line functions with their answers
 oracle check SEED COUNT            make them, keep nothing, and try document 01's claims on each call
 oracle against SEED COUNT          call by call beside the editor's library (feature against)
 oracle sound SEED COUNT            the library's test of soundness beside the oracle's own (feature against)
 oracle try SEED COUNT              the comparison, tried on the oracle itself with faults planted
 oracle bench                       times of the Rust, with and without a test of soundness
-oracle replay FILE                 read a stored stream and make its calls again
+oracle replay FILE                 read a stored stream of lines and make its calls again
 oracle rows SEED COUNT DIR         COUNT calls as theorems about the definitions of the crate rules";
 
-fn make(seed: u64, count: usize, profile: Profile) -> io::Result<bool> {
+/// The places of edits in `COMMANDS`, by their names.
+fn edits(names: &str) -> Vec<usize> {
+    let place = |name: &str| {
+        let found = step::COMMANDS.iter().position(|c| *c == name);
+        found.unwrap_or_else(|| {
+            eprintln!("{name} is no edit: {}", step::COMMANDS.join(","));
+            std::process::exit(2);
+        })
+    };
+    names.split(',').map(place).collect()
+}
+
+fn calls(seed: u64, count: usize, edits: &[usize]) -> io::Result<bool> {
     let mut to = io::BufWriter::new(io::stdout().lock());
     let mut out = Out::default();
     let mut tally = Tally::default();
-    out.number(format::EDITS);
+    out.number(format::CALLS);
     out.number(count as u64);
     for index in 0..count {
-        let case = generate::case(seed, index, profile);
+        let case = generate::case_of(seed, index, Profile::Small, edits);
         out.case(&case);
         out.flush(&mut to)?;
         tally.case(&case);
@@ -110,18 +124,8 @@ fn verdicts(seed: u64, count: usize) -> bool {
 }
 
 fn replay(bytes: &[u8]) -> bool {
-    let said = if bytes.first() == Some(&(format::LINES as u8)) {
-        lines::replay(bytes)
-            .map(|(groups, calls)| format!("{groups} groups, {calls} calls, all as stored"))
-    } else {
-        format::replay(bytes).map(|(lent, maps, calls)| {
-            let mut text = format!("{maps} maps, {calls} calls, all as stored");
-            for (name, n) in tables::NAMES.iter().zip(lent) {
-                text += &format!("\n{name}: at most {n} lent");
-            }
-            text
-        })
-    };
+    let said = lines::replay(bytes)
+        .map(|(groups, calls)| format!("{groups} groups, {calls} calls, all as stored"));
     let good = said.is_ok();
     println!("{}", said.unwrap_or_else(|e| e));
     good
@@ -139,12 +143,10 @@ fn main() {
     let good = match words[..] {
         ["cases"] => cases::run(),
         ["bench"] => bench::run(),
-        ["make", seed, count] => {
-            make(number(seed), number(count) as usize, Profile::Full).expect("standard output")
+        ["calls", seed, count, names] => {
+            calls(number(seed), number(count) as usize, &edits(names)).expect("standard output")
         }
-        ["make", seed, count, "small"] => {
-            make(number(seed), number(count) as usize, Profile::Small).expect("standard output")
-        }
+        ["digests", file] => digest::run(&std::fs::read(file).expect("a file")),
         ["lines", seed, count] => {
             lines::make(number(seed), number(count) as usize).expect("standard output")
         }

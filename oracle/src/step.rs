@@ -60,6 +60,73 @@ impl Call {
         }
     }
 
+    /// The command's row of words (crates/words): its number and up to four more.
+    pub fn row(&self) -> [u64; 5] {
+        match *self {
+            Call::SplitLane {
+                lane,
+                at,
+                neighbors,
+            } => {
+                let (kind, x) = match at {
+                    SplitAt::Fraction(x) => (0, x),
+                    SplitAt::Station(x) => (1, x),
+                };
+                [0, lane, kind, x.to_bits(), neighbors as u64]
+            }
+            Call::MergeLanes { first, second } => [1, first, second, 0, 0],
+            Call::Connect { from, to } => [2, from, to, 0, 0],
+            Call::Disconnect { from, to } => [3, from, to, 0, 0],
+            Call::SetNeighbor {
+                lane,
+                side,
+                neighbor,
+            } => {
+                let (mark, other) = match neighbor {
+                    None => (0, 0),
+                    Some(n) if n.direction == NeighborDirection::Same => (1, n.lane.0),
+                    Some(n) => (2, n.lane.0),
+                };
+                [4, lane, (side == Side::Right) as u64, mark, other]
+            }
+            Call::RemoveLane { lane } => [5, lane, 0, 0, 0],
+        }
+    }
+
+    /// The call that a row of words is.
+    pub fn of(row: [u64; 5]) -> Call {
+        let [command, lane, b, c, d] = row;
+        match command {
+            0 => Call::SplitLane {
+                lane,
+                at: match b {
+                    0 => SplitAt::Fraction(f64::from_bits(c)),
+                    _ => SplitAt::Station(f64::from_bits(c)),
+                },
+                neighbors: d != 0,
+            },
+            1 => Call::MergeLanes {
+                first: lane,
+                second: b,
+            },
+            2 => Call::Connect { from: lane, to: b },
+            3 => Call::Disconnect { from: lane, to: b },
+            4 => Call::SetNeighbor {
+                lane,
+                side: match b {
+                    0 => Side::Left,
+                    _ => Side::Right,
+                },
+                neighbor: match c {
+                    0 => None,
+                    1 => Some(Neighbor::same(LaneId(d))),
+                    _ => Some(Neighbor::opposite(LaneId(d))),
+                },
+            },
+            _ => Call::RemoveLane { lane },
+        }
+    }
+
     /// Split and merge lay all lines out anew; the others leave them where they are.
     fn lays_out(&self) -> bool {
         matches!(self, Call::MergeLanes { .. } | Call::SplitLane { .. })

@@ -12,17 +12,13 @@ ghost use Rattle.polyline.specs.Polyline as L;
 ghost use Rattle.polyline.specs.Polyline.{points, flat};
 ghost use Rattle.root.specs.Root.{root};
 ghost use Rattle.tables.specs.Formed.{soundTables};
-ghost use Rattle.soundness.specs.Parts.{lent};
-ghost use Rattle.rules.specs.Ops as O;
-ghost use Rattle.edit.specs.Step.{lentOf};
-ghost use Rattle.exports.specs.Edits.{sideOf, neighborOf, called, calling};
-use answers::WORDS;
-use entities::Refusal;
+ghost use Rattle.step.specs.Step.{tablesOf, lentOf};
+ghost use Rattle.words.specs.Words.{commandOf};
+ghost use Rattle.exports.specs.Edits.{called, calling};
+use entities::Tolerance;
 use geometry::Point2;
 use polyline::OptionNearest;
-
-mod answers;
-mod slots;
+use words::Told;
 
 // The square root of every double.
 #[no_mangle]
@@ -111,7 +107,7 @@ pub extern "C" fn voldrekka_sound(
     crosswalks: &[u64],
     coordinates: &[f64],
 ) -> bool
-    ensures { λ r. ⌜ r ≡ soundTables counter (lent (now (lanes .entry)) (now (boundaries .entry)) (now (roads .entry)) (now (junctions .entry)) (now (rules .entry)) (now («stop_lines» .entry)) (now (crosswalks .entry)) (now (coordinates .entry))) ⌝ }
+    ensures { λ r. ⌜ r ≡ soundTables counter (tablesOf (now (lanes .entry)) (now (boundaries .entry)) (now (roads .entry)) (now (junctions .entry)) (now (rules .entry)) (now («stop_lines» .entry)) (now (crosswalks .entry)) (now (coordinates .entry))) ⌝ }
 {
     soundness::sound(
         counter,
@@ -128,179 +124,32 @@ pub extern "C" fn voldrekka_sound(
 
 // ---- the edits
 
-// Each answers document 01's number, 0 for a change, and writes four words to `answer`: of a change how many it created, modified, deleted
-// and warned of; of a refusal its entity, kind + 1 and id, or 0 and 0, then 0 and 0. Without room for four words the answer is 10, and all
-// stays as it came.
-
-// A link from one lane to another.
+// Makes the command that a row of words is (crates/words) on the map that is lent, or refuses it, and answers by value: number, entity, counts, second half and
+// the next call's counter. A refused call writes nothing. The tolerances are document 01's, and are filled in here alone.
 #[no_mangle]
-pub extern "C" fn voldrekka_connect(
-    counter: u64,
-    lanes: &mut [u64],
-    boundaries: &[u64],
-    roads: &[u64],
-    junctions: &[u64],
-    rules: &[u64],
-    stop_lines: &[u64],
-    crosswalks: &[u64],
-    coordinates: &[f64],
-    from: u64,
-    to: u64,
-    created: &[u64],
-    modified: &mut [u64],
-    deleted: &[u64],
-    warnings: &mut [u64],
-    answer: &mut [u64],
-) -> u64
-    ensures { λ r. ⌜ called (lentOf counter (now (lanes .exit)) (now (boundaries .entry)) (now (roads .entry)) (now (junctions .entry)) (now (rules .entry)) (now («stop_lines» .entry)) (now (crosswalks .entry)) (now (coordinates .entry)) (now (created .entry)) (now (modified .exit)) (now (deleted .entry)) (now (warnings .exit))) r (now (answer .exit)) ≡ calling (O.ConnectLanes from to) (lentOf counter (now (lanes .entry)) (now (boundaries .entry)) (now (roads .entry)) (now (junctions .entry)) (now (rules .entry)) (now («stop_lines» .entry)) (now (crosswalks .entry)) (now (coordinates .entry)) (now (created .entry)) (now (modified .entry)) (now (deleted .entry)) (now (warnings .entry))) (now (answer .entry)) ⌝ }
-{
-    if answer.len() < WORDS {
-        return Refusal::NoRoom.number();
-    }
-    let said = edit::connect(
-        counter,
-        lanes,
-        boundaries,
-        roads,
-        junctions,
-        rules,
-        stop_lines,
-        crosswalks,
-        coordinates,
-        from,
-        to,
-        created,
-        modified,
-        deleted,
-        warnings,
-    );
-    answers::tell(answer, said);
-    said.number()
-}
-
-// The link from one lane to another taken out.
-#[no_mangle]
-pub extern "C" fn voldrekka_disconnect(
-    counter: u64,
-    lanes: &mut [u64],
-    boundaries: &[u64],
-    roads: &[u64],
-    junctions: &[u64],
-    rules: &[u64],
-    stop_lines: &[u64],
-    crosswalks: &[u64],
-    coordinates: &[f64],
-    from: u64,
-    to: u64,
-    created: &[u64],
-    modified: &mut [u64],
-    deleted: &[u64],
-    warnings: &mut [u64],
-    answer: &mut [u64],
-) -> u64
-    ensures { λ r. ⌜ called (lentOf counter (now (lanes .exit)) (now (boundaries .entry)) (now (roads .entry)) (now (junctions .entry)) (now (rules .entry)) (now («stop_lines» .entry)) (now (crosswalks .entry)) (now (coordinates .entry)) (now (created .entry)) (now (modified .exit)) (now (deleted .entry)) (now (warnings .exit))) r (now (answer .exit)) ≡ calling (O.DisconnectLanes from to) (lentOf counter (now (lanes .entry)) (now (boundaries .entry)) (now (roads .entry)) (now (junctions .entry)) (now (rules .entry)) (now («stop_lines» .entry)) (now (crosswalks .entry)) (now (coordinates .entry)) (now (created .entry)) (now (modified .entry)) (now (deleted .entry)) (now (warnings .entry))) (now (answer .entry)) ⌝ }
-{
-    if answer.len() < WORDS {
-        return Refusal::NoRoom.number();
-    }
-    let said = edit::disconnect(
-        counter,
-        lanes,
-        boundaries,
-        roads,
-        junctions,
-        rules,
-        stop_lines,
-        crosswalks,
-        coordinates,
-        from,
-        to,
-        created,
-        modified,
-        deleted,
-        warnings,
-    );
-    answers::tell(answer, said);
-    said.number()
-}
-
-// What stands beside a lane: `side` is 0 for left, else right; `mark` 0 for nothing, 1 for lane `other` in the same direction, else for it in
-// the opposite one.
-#[no_mangle]
-pub extern "C" fn voldrekka_set_neighbor(
-    counter: u64,
-    lanes: &mut [u64],
-    boundaries: &[u64],
-    roads: &[u64],
-    junctions: &[u64],
-    rules: &[u64],
-    stop_lines: &[u64],
-    crosswalks: &[u64],
-    coordinates: &[f64],
-    lane: u64,
-    side: u64,
-    mark: u64,
-    other: u64,
-    created: &[u64],
-    modified: &mut [u64],
-    deleted: &[u64],
-    warnings: &mut [u64],
-    answer: &mut [u64],
-) -> u64
-    ensures { λ r. ⌜ called (lentOf counter (now (lanes .exit)) (now (boundaries .entry)) (now (roads .entry)) (now (junctions .entry)) (now (rules .entry)) (now («stop_lines» .entry)) (now (crosswalks .entry)) (now (coordinates .entry)) (now (created .entry)) (now (modified .exit)) (now (deleted .entry)) (now (warnings .exit))) r (now (answer .exit)) ≡ calling (O.SetNeighbor lane (sideOf side) (neighborOf mark other)) (lentOf counter (now (lanes .entry)) (now (boundaries .entry)) (now (roads .entry)) (now (junctions .entry)) (now (rules .entry)) (now («stop_lines» .entry)) (now (crosswalks .entry)) (now (coordinates .entry)) (now (created .entry)) (now (modified .entry)) (now (deleted .entry)) (now (warnings .entry))) (now (answer .entry)) ⌝ }
-{
-    if answer.len() < WORDS {
-        return Refusal::NoRoom.number();
-    }
-    let neighbor = slots::slot_of(mark, other);
-    let said = edit::set_neighbor(
-        counter,
-        lanes,
-        boundaries,
-        roads,
-        junctions,
-        rules,
-        stop_lines,
-        crosswalks,
-        coordinates,
-        lane,
-        slots::side_of(side),
-        neighbor,
-        created,
-        modified,
-        deleted,
-        warnings,
-    );
-    answers::tell(answer, said);
-    said.number()
-}
-
-// A lane goes, with the boundaries that only it uses.
-#[no_mangle]
-pub extern "C" fn voldrekka_remove_lane(
+pub extern "C" fn voldrekka_apply(
     counter: u64,
     lanes: &mut [u64],
     boundaries: &mut [u64],
     roads: &mut [u64],
     junctions: &mut [u64],
     rules: &mut [u64],
-    stop_lines: &[u64],
-    crosswalks: &[u64],
-    coordinates: &[f64],
-    lane: u64,
-    created: &[u64],
+    stop_lines: &mut [u64],
+    crosswalks: &mut [u64],
+    coordinates: &mut [f64],
+    command: &[u64],
+    created: &mut [u64],
     modified: &mut [u64],
     deleted: &mut [u64],
     warnings: &mut [u64],
-    answer: &mut [u64],
-) -> u64
-    ensures { λ r. ⌜ called (lentOf counter (now (lanes .exit)) (now (boundaries .exit)) (now (roads .exit)) (now (junctions .exit)) (now (rules .exit)) (now («stop_lines» .entry)) (now (crosswalks .entry)) (now (coordinates .entry)) (now (created .entry)) (now (modified .exit)) (now (deleted .exit)) (now (warnings .exit))) r (now (answer .exit)) ≡ calling (O.RemoveLane lane) (lentOf counter (now (lanes .entry)) (now (boundaries .entry)) (now (roads .entry)) (now (junctions .entry)) (now (rules .entry)) (now («stop_lines» .entry)) (now (crosswalks .entry)) (now (coordinates .entry)) (now (created .entry)) (now (modified .entry)) (now (deleted .entry)) (now (warnings .entry))) (now (answer .entry)) ⌝ }
+) -> Told
+    ensures { λ r. ⌜ called (lentOf (r .counter) (now (lanes .exit)) (now (boundaries .exit)) (now (roads .exit)) (now (junctions .exit)) (now (rules .exit)) (now («stop_lines» .exit)) (now (crosswalks .exit)) (now (coordinates .exit)) (now (created .exit)) (now (modified .exit)) (now (deleted .exit)) (now (warnings .exit))) r ≡ calling (commandOf (now (command .entry))) (lentOf counter (now (lanes .entry)) (now (boundaries .entry)) (now (roads .entry)) (now (junctions .entry)) (now (rules .entry)) (now («stop_lines» .entry)) (now (crosswalks .entry)) (now (coordinates .entry)) (now (created .entry)) (now (modified .entry)) (now (deleted .entry)) (now (warnings .entry))) ⌝ }
 {
-    if answer.len() < WORDS {
-        return Refusal::NoRoom.number();
-    }
-    let said = edit_lane::remove_lane(
+    let made = words::command_of(command);
+    let tolerance = Tolerance::preset();
+    let answer = ops::apply(
         counter,
+        tolerance,
         lanes,
         boundaries,
         roads,
@@ -309,12 +158,11 @@ pub extern "C" fn voldrekka_remove_lane(
         stop_lines,
         crosswalks,
         coordinates,
-        lane,
+        made,
         created,
         modified,
         deleted,
         warnings,
     );
-    answers::tell(answer, said);
-    said.number()
+    words::tell(counter, answer)
 }

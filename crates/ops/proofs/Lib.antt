@@ -1,1 +1,2 @@
 pub mod Applies
+pub mod Counters

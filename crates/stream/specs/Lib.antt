@@ -1,0 +1,4 @@
+pub mod Numbers
+pub mod Digest
+pub mod File
+pub mod Text
