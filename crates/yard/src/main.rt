@@ -1,16 +1,25 @@
 // How a yard calls the editor: it lays out a map in memory of its own, makes a list of calls, good and bad ones, each on what the last left, and writes
 // what each answers as a line of numbers.
-use entities::Neighbor;
-use entities::OptionNeighbor;
-use entities::Side;
+use entities::Tolerance;
+use words::COMMAND;
+use words::CONNECT;
+use words::DISCONNECT;
+use words::REMOVE;
+use words::SET_NEIGHBOR;
 
-mod edits;
 mod ground;
 mod output;
 
-use edits::Edit;
-use edits::Link;
-use edits::Relation;
+// Sides and marks of a command's row (crates/words).
+const LEFT: u64 = 0;
+
+const RIGHT: u64 = 1;
+
+const NOTHING: u64 = 0;
+
+const SAME: u64 = 1;
+
+const OPPOSITE: u64 = 2;
 
 // The next id.
 const COUNTER: u64 = 200;
@@ -24,53 +33,37 @@ const ROOM: usize = 8;
 // Words of one pair.
 const PAIR: usize = 2;
 
-// A call, and the words that it lends for the modified and for the deleted.
+// A command's row of words, and the words that the call lends for the modified and for the deleted.
 struct Call {
-    edit: Edit,
+    row: [u64; COMMAND],
     counter: u64,
     modified: usize,
     deleted: usize,
 }
 
-fn plain(edit: Edit) -> Call {
+fn plain(row: [u64; COMMAND]) -> Call {
     Call {
-        edit,
+        row,
         counter: COUNTER,
         modified: ROOM,
         deleted: ROOM,
     }
 }
 
-fn link(from: u64, to: u64) -> Edit {
-    Edit::Relate(Relation::Relink(Link::Connect, from, to))
-}
-
-fn unlink(from: u64, to: u64) -> Edit {
-    Edit::Relate(Relation::Relink(Link::Disconnect, from, to))
-}
-
 fn connect(from: u64, to: u64) -> Call {
-    plain(link(from, to))
+    plain([CONNECT, from, to, 0, 0])
 }
 
 fn disconnect(from: u64, to: u64) -> Call {
-    plain(unlink(from, to))
+    plain([DISCONNECT, from, to, 0, 0])
 }
 
-fn set_neighbor(lane: u64, side: Side, neighbor: OptionNeighbor) -> Call {
-    plain(Edit::Relate(Relation::SetNeighbor(lane, side, neighbor)))
+fn set_neighbor(lane: u64, side: u64, mark: u64, other: u64) -> Call {
+    plain([SET_NEIGHBOR, lane, side, mark, other])
 }
 
 fn remove_lane(lane: u64) -> Call {
-    plain(Edit::RemoveLane(lane))
-}
-
-fn same(lane: u64) -> OptionNeighbor {
-    OptionNeighbor::Some(Neighbor::same(lane))
-}
-
-fn opposite(lane: u64) -> OptionNeighbor {
-    OptionNeighbor::Some(Neighbor::opposite(lane))
+    plain([REMOVE, lane, 0, 0, 0])
 }
 
 // The calls.
@@ -86,25 +79,25 @@ fn listed(i: usize) -> Call {
         4 => connect(8, 1),
         5 => disconnect(1, 2),
         6 => disconnect(1, 1),
-        7 => set_neighbor(1, Side::Left, opposite(2)),
-        8 => set_neighbor(1, Side::Right, OptionNeighbor::None),
-        9 => set_neighbor(1, Side::Right, same(2)),
-        10 => set_neighbor(1, Side::Right, same(1)),
-        11 => set_neighbor(1, Side::Right, same(9)),
+        7 => set_neighbor(1, LEFT, OPPOSITE, 2),
+        8 => set_neighbor(1, RIGHT, NOTHING, 0),
+        9 => set_neighbor(1, RIGHT, SAME, 2),
+        10 => set_neighbor(1, RIGHT, SAME, 1),
+        11 => set_neighbor(1, RIGHT, SAME, 9),
         12 => Call {
-            edit: link(2, 1),
+            row: [CONNECT, 2, 1, 0, 0],
             counter: COUNTER,
             modified: 0,
             deleted: ROOM,
         },
         13 => Call {
-            edit: link(2, 1),
+            row: [CONNECT, 2, 1, 0, 0],
             counter: TOO_LOW,
             modified: ROOM,
             deleted: ROOM,
         },
         14 => Call {
-            edit: Edit::RemoveLane(2),
+            row: [REMOVE, 2, 0, 0, 0],
             counter: COUNTER,
             modified: ROOM,
             deleted: PAIR,
@@ -121,20 +114,21 @@ fn make(
     roads: &mut [u64],
     junctions: &mut [u64],
     rules: &mut [u64],
-    stop_lines: &[u64],
-    crosswalks: &[u64],
-    coordinates: &[f64],
-    created: &[u64],
+    stop_lines: &mut [u64],
+    crosswalks: &mut [u64],
+    coordinates: &mut [f64],
+    created: &mut [u64],
     modified: &mut [u64],
     deleted: &mut [u64],
     warnings: &mut [u64],
 ) {
-    let edit = c.edit;
+    let row = c.row;
+    let command = words::command_of(&row);
     let changed = output::least(c.modified, modified.len());
     let gone = output::least(c.deleted, deleted.len());
-    let a = edits::apply(
-        edit,
+    let a = ops::apply(
         c.counter,
+        Tolerance::preset(),
         lanes,
         boundaries,
         roads,
@@ -143,6 +137,7 @@ fn make(
         stop_lines,
         crosswalks,
         coordinates,
+        command,
         created,
         &mut modified[..changed],
         &mut deleted[..gone],
@@ -157,10 +152,10 @@ fn each_call(
     roads: &mut [u64],
     junctions: &mut [u64],
     rules: &mut [u64],
-    stop_lines: &[u64],
-    crosswalks: &[u64],
-    coordinates: &[f64],
-    created: &[u64],
+    stop_lines: &mut [u64],
+    crosswalks: &mut [u64],
+    coordinates: &mut [f64],
+    created: &mut [u64],
     modified: &mut [u64],
     deleted: &mut [u64],
     warnings: &mut [u64],
@@ -193,11 +188,11 @@ fn with_lists(
     roads: &mut [u64],
     junctions: &mut [u64],
     rules: &mut [u64],
-    stop_lines: &[u64],
-    crosswalks: &[u64],
-    coordinates: &[f64],
+    stop_lines: &mut [u64],
+    crosswalks: &mut [u64],
+    coordinates: &mut [f64],
 ) {
-    let created = [0; 8];
+    let mut created = [0; 8];
     let mut modified = [0; 8];
     let mut deleted = [0; 8];
     let mut warnings = [0; 40];
@@ -210,7 +205,7 @@ fn with_lists(
         stop_lines,
         crosswalks,
         coordinates,
-        &created,
+        &mut created,
         &mut modified,
         &mut deleted,
         &mut warnings,
@@ -224,8 +219,8 @@ fn main() {
     let mut roads = [0; 69];
     let mut junctions = [0; 70];
     let mut rules = [0; 331];
-    let stop_lines = [0; 5];
-    let crosswalks = [0; 8];
+    let mut stop_lines = [0; 5];
+    let mut crosswalks = [0; 8];
     let mut coordinates = [0.0; 48];
     ground::lay_out(&mut lanes, &mut boundaries, &mut coordinates);
     with_lists(
@@ -234,8 +229,8 @@ fn main() {
         &mut roads,
         &mut junctions,
         &mut rules,
-        &stop_lines,
-        &crosswalks,
-        &coordinates,
+        &mut stop_lines,
+        &mut crosswalks,
+        &mut coordinates,
     );
 }

@@ -2,8 +2,7 @@
 // of modified entities, those of deleted ones, if there are any, and the warnings.
 ghost use Prim.Native.Nat.{_+_, _≤_};
 ghost use lib.ListN.{length};
-use entities::EntityKind;
-use entities::Refusal;
+use entities::OptionEntity;
 use libc::STDOUT_FILENO;
 use report::Answer;
 use report::Counts;
@@ -61,25 +60,15 @@ pub fn least(a: usize, b: usize) -> usize
 
 // ---- refusals
 
-fn entity(kind: EntityKind, id: u64) {
-    write(b" |");
-    next(kind.number());
-    next(id);
-}
-
-fn refusal(r: Refusal) {
-    match r {
-        Refusal::LaneAbsent(id) => entity(EntityKind::Lane, id),
-        Refusal::FractionOutside => {}
-        Refusal::PositionOutside(id) => entity(EntityKind::Lane, id),
-        Refusal::OwnPartner(id) => entity(EntityKind::Lane, id),
-        Refusal::NotMergeable(id) => entity(EntityKind::Lane, id),
-        Refusal::BoundaryAbsent(id) => entity(EntityKind::Boundary, id),
-        Refusal::NoUsableLine(id) => entity(EntityKind::Lane, id),
-        Refusal::NotCrossing(id) => entity(EntityKind::Boundary, id),
-        Refusal::Unsound => {}
-        Refusal::NoRoom => {}
-        Refusal::NoIds => {}
+fn entity(e: OptionEntity) {
+    match e {
+        OptionEntity::None => {}
+        OptionEntity::Some(e) => {
+            let kind = e.kind;
+            write(b" |");
+            next(kind.number());
+            next(e.id);
+        }
     }
 }
 
@@ -141,7 +130,11 @@ pub fn answer(a: Answer, modified: &[u64], deleted: &[u64], warnings: &[u64]) {
     number(a.number());
     match a {
         Answer::Changed(n) => change(n, modified, deleted, warnings),
-        Answer::Refused(r) => refusal(r),
+        Answer::Split(n, second) => {
+            change(n, modified, deleted, warnings);
+            next(second);
+        }
+        Answer::Refused(r) => entity(r.entity()),
     }
     write(b"\n");
 }
