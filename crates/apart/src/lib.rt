@@ -1,4 +1,4 @@
-// "No stored point belongs to two lines": marks, one pass over the points.
+// "no stored point belongs to two lines": marks, one pass over the points.
 ghost use mathlib.Core.Path.{_≡_};
 ghost use mathlib.Core.Bool.{Bool, true, false, not, _&&_};
 ghost use Prim.Native.Nat.{_+_, _*_, _≤_, _<_};

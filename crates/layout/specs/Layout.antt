@@ -76,7 +76,7 @@ laidFrom at k t = take 1 t ++ moves k (word 0 t) at (drop 1 t)
 
 -- ---- all lines
 
--- "lay all lines of the new map out anew, one after another from point 0": boundaries, centrelines, stop lines, crosswalks' left edges, their
+-- All lines of the new map are laid out anew, one after another from point 0: boundaries, centrelines, stop lines, crosswalks' left edges, their
 -- right edges. The coordinates are the lines in order, then what was there.
 unfoldable pub gathered : List Float → Tables → Tables
 gathered work t =

@@ -5,15 +5,15 @@ use mathlib.Core.List.{List, [], _∷_, _++_, map-append, append-assoc}
 use Prim.Native.Nat.{ℕ, suc, _+_, _*_, _≤_, _<_}
 use native.Mathlib.Numerals.{add-one}
 use native.Mathlib.Omega.{arith}
-use lib.ListN.{length, getD, set, take, length-append}
-use lib.Seq.{length-take-le, take-suc}
+use lib.ListN.{length, getD, set, take, length-append, length-map}
+use lib.Seq.{length-take-le, take-all, take-suc}
 use Rattle.lists.specs.Rows.{over}
 use Rattle.lists.specs.Select.{each, has, place, ascending}
 use Rattle.lists.proofs.Rows.{take-over, over-nil, over-itself, store-behind}
 use Rattle.lists.proofs.Place.{place-present, length-place}
 use Rattle.lists.proofs.Select.{each-append}
 use Rattle.entities.specs.Types.{kindNumber}
-use Rattle.rules.specs.Names.{LaneKind}
+use Rattle.rules.specs.Names.{EntityKind, EntityRef}
 use Rattle.rules.specs.Edit.{refs}
 use Rattle.report.specs.Report.{entityWords, listed}
 
@@ -53,38 +53,66 @@ module _ (w : List ℕ) (n id : ℕ) (h : n < length w) where
           let h : 0 + length ids ≤ length w = omega arith in
           rw z at (take-over w 0 ids h)
 
--- ---- listing lanes
+-- ---- entities listed
 
--- the words of lanes
-abbrev pub laneWords : List ℕ → List ℕ
-laneWords ids = each entityWords (refs LaneKind ids)
-
-length-lanes : (ids : List ℕ) → length (laneWords ids) ≡ length ids * 2
+pub length-entities : (es : List EntityRef) → length (each entityWords es) ≡ length es * 2
 unfolding each
-length-lanes [] = refl
-length-lanes (x ∷ ids) = let r = length-lanes ids in omega arith
+length-entities [] = refl
+length-entities (x ∷ es) = let r = length-entities es in omega arith
 
-lanes-more : (ids : List ℕ) (i : ℕ) → i < length ids → laneWords (take (i + 1) ids) ≡ laneWords (take i ids) ++ (kindNumber LaneKind ∷ getD ids i 0 ∷ [])
+-- entities of one kind, in words; and of the kind with number x
+abbrev pub pairs : EntityKind → List ℕ → List ℕ
+pairs q ids = each entityWords (refs q ids)
+
+abbrev pub pairsOf : ℕ → List ℕ → List ℕ
+pairsOf x ids = each (λ i. x ∷ i ∷ []) ids
+
+pub pairs-are : (q : EntityKind) (x : ℕ) (ids : List ℕ) → x ≡ kindNumber q → pairsOf x ids ≡ pairs q ids
 unfolding each
-lanes-more ids i h =
-    let t : take (i + 1) ids ≡ take i ids ++ (getD ids i 0 ∷ []) = rw add-one (take-suc ids i 0 h) in
-    ap laneWords t
-    ∙ (ap (each entityWords) (map-append (λ k. record { kind = LaneKind; id = k }) (take i ids) (getD ids i 0 ∷ []))
-    ∙ each-append entityWords (refs LaneKind (take i ids)) (refs LaneKind (getD ids i 0 ∷ [])))
+pairs-are q x [] e = refl
+pairs-are q x (i ∷ ids) e = ap (λ z. x ∷ i ∷ z) (pairs-are q x ids e) ∙ ap (λ z. z ∷ i ∷ pairs q ids) e
 
--- a turn: those before i are listed in v
-pub list-step : (w v ids : List ℕ) (i x : ℕ) → i < length ids → length ids * 2 ≤ length w → x ≡ kindNumber LaneKind → v ≡ over w 0 (laneWords (take i ids))
-    → set (set v (i * 2) x) (i * 2 + 1) (getD ids i 0) ≡ over w 0 (laneWords (take (i + 1) ids))
-list-step w v ids i x h k q e =
-    let l = laneWords (take i ids) in
-    let y = getD ids i 0 in
-    let j : i ≤ length ids = omega arith in
-    let n : length l ≡ i * 2 = length-lanes (take i ids) ∙ rw (length-take-le i ids j) in
-    let first : set (over w 0 l) (i * 2) x ≡ over w 0 (l ++ (x ∷ [])) = store-behind w 0 (i * 2) l x (omega arith) (omega arith) in
-    let m : 0 + length (l ++ (x ∷ [])) ≡ i * 2 + 1 = rw length-append (omega arith) in
-    let second = store-behind w 0 (i * 2 + 1) (l ++ (x ∷ [])) y m (omega arith) in
-    ap (λ z. set (set z (i * 2) x) (i * 2 + 1) y) e
-    ∙ (ap (λ z. set z (i * 2 + 1) y) first ∙ (second ∙ ap (over w 0) (append-assoc l (x ∷ []) (y ∷ []) ∙ (ap (λ z. l ++ (z ∷ y ∷ [])) q ∙ sym (lanes-more ids i h)))))
+pub length-pairs : (q : EntityKind) (ids : List ℕ) → length (pairs q ids) ≡ length ids * 2
+length-pairs q ids = length-entities (refs q ids) ∙ ap (λ n. n * 2) (length-map ids (λ i. record { kind = q; id = i }))
+
+pub pairs-append : (q : EntityKind) (xs ys : List ℕ) → pairs q (xs ++ ys) ≡ pairs q xs ++ pairs q ys
+pairs-append q xs ys =
+    ap (each entityWords) (map-append (λ i. record { kind = q; id = i }) xs ys) ∙ each-append entityWords (refs q xs) (refs q ys)
+
+-- one more behind those that are listed in v
+module _ (x : ℕ) where
+  length-words : (ids : List ℕ) → length (pairsOf x ids) ≡ length ids * 2
+  unfolding each
+  length-words [] = refl
+  length-words (i ∷ ids) = let r = length-words ids in omega arith
+
+  pub list-more : (w v ids : List ℕ) (at n y : ℕ) → n ≡ at + length ids → (n + 1) * 2 ≤ length w → v ≡ over w (at * 2) (pairsOf x ids)
+      → set (set v (n * 2) x) (n * 2 + 1) y ≡ over w (at * 2) (pairsOf x (ids ++ (y ∷ [])))
+  list-more w v ids at n y c h e =
+      let l = pairsOf x ids in
+      let m = length-words ids in
+      let first : set (over w (at * 2) l) (n * 2) x ≡ over w (at * 2) (l ++ (x ∷ [])) = store-behind w (at * 2) (n * 2) l x (omega arith) (omega arith) in
+      let o : at * 2 + length (l ++ (x ∷ [])) ≡ n * 2 + 1 = rw length-append (omega arith) in
+      let second = store-behind w (at * 2) (n * 2 + 1) (l ++ (x ∷ [])) y o (omega arith) in
+      let more : l ++ (x ∷ y ∷ []) ≡ pairsOf x (ids ++ (y ∷ [])) = sym (each-append (λ i. x ∷ i ∷ []) ids (y ∷ []) ∙ ap (λ z. l ++ z) one) in
+      ap (λ z. set (set z (n * 2) x) (n * 2 + 1) y) e ∙ (ap (λ z. set z (n * 2 + 1) y) first ∙ (second ∙ ap (over w (at * 2)) (append-assoc l (x ∷ []) (y ∷ []) ∙ more)))
+    where
+      one : pairsOf x (y ∷ []) ≡ x ∷ y ∷ []
+      one = unfold each in refl
+
+  -- a turn: those before i are listed in v
+  pub list-step : (w v ids : List ℕ) (at i : ℕ) → i < length ids → (at + length ids) * 2 ≤ length w → v ≡ over w (at * 2) (pairsOf x (take i ids))
+      → set (set v ((at + i) * 2) x) ((at + i) * 2 + 1) (getD ids i 0) ≡ over w (at * 2) (pairsOf x (take (i + 1) ids))
+  list-step w v ids at i h r e =
+      let j : i ≤ length ids = omega arith in
+      let n = length-take-le i ids j in
+      let t : take (i + 1) ids ≡ take i ids ++ (getD ids i 0 ∷ []) = rw add-one (take-suc ids i 0 h) in
+      list-more w v (take i ids) at (at + i) (getD ids i 0) (omega arith) (omega arith) e ∙ ap (λ z. over w (at * 2) (pairsOf x z)) (sym t)
+
+-- all of them, from place `at` on
+pub list-end : (q : EntityKind) (x : ℕ) (w v ids : List ℕ) (at i : ℕ) → x ≡ kindNumber q → i ≤ length ids → length ids ≤ i → v ≡ over w (at * 2) (pairsOf x (take i ids))
+    → (at + i ≡ at + length ids) × (v ≡ over w (at * 2) (pairs q ids))
+list-end q x w v ids at i k l h e = (omega arith, e ∙ (ap (λ z. over w (at * 2) (pairsOf x z)) (take-all i ids h) ∙ ap (over w (at * 2)) (pairs-are q x ids k)))
 
 -- an empty list changes nothing
 pub listed-nil : (w : List ℕ) → listed w [] ≡ w

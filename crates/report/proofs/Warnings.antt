@@ -1,25 +1,29 @@
 -- Warnings in rows of ten words. Assumes nothing.
 use mathlib.Core.Path.{_≡_, refl, sym, ap, _∙_}
 use mathlib.Core.Bool.{Bool, true, _&&_}
-use mathlib.Core.List.{List, [], _∷_, _++_}
+use mathlib.Core.List.{List, [], _∷_, _++_, append-assoc}
 use Prim.Native.Nat.{ℕ, zero, suc, _+_, _*_, _/_, _≤_}
 use native.Mathlib.Nat.{le-of-suc-le-suc, not-suc-le-zero, zero-add, div-mul-le-self, mul-le-mul-right}
 use native.Mathlib.Omega.{arith}
 use lib.Dec.{leb}
 use lib.ListN.{length, set, take, drop, length-append, length-drop, take-append-drop}
-use lib.Seq.{length-take-le, take-at, drop-at}
+use lib.Seq.{length-take-le, take-add, take-at, drop-at, drop-drop}
 use borrow.Author.Tests.{leb-true}
 use Rattle.lists.specs.Rows.{over}
+use Rattle.lists.specs.Every.{all}
 use Rattle.lists.specs.Select.{each}
 use Rattle.lists.proofs.Booleans.{and-fst, and-snd}
-use Rattle.entities.specs.Types.{kindNumber, severityNumber, codeNumber, laneEntity}
+use Rattle.lists.proofs.Every.{all-head, all-tail}
+use Rattle.lists.proofs.Rows.{length-over}
+use Rattle.entities.specs.Types.{kindNumber, severityNumber, codeNumber, laneEntity, boundaryEntity}
 use Rattle.entities.specs.Records.{Issue}
-use Rattle.rules.specs.Names.{EntityKind, LaneKind, Severity, Warning, IssueCode}
+use Rattle.rules.specs.Names.{EntityKind, LaneKind, BoundaryKind, Severity, Warning, IssueCode, BoundaryUnshared}
 use Rattle.rules.specs.Edit.{warning, no-op}
 use Rattle.store.specs.Store.{flag, writes}
 use Rattle.report.specs.declared.Notice.{Notice}
-use Rattle.report.specs.declared.Notice.the-variants.{Nothing, NoOp as NoOpNotice, Pair}
-use Rattle.report.specs.Report.{issueOnto, warned, warnedAt, single, issues, fits}
+use Rattle.report.specs.declared.Notice.the-variants.{Nothing, NoOp as NoOpNotice, Pair, Unshared, Pieces}
+use Rattle.report.proofs.Laws.{length-entities}
+use Rattle.report.specs.Report.{entityWords, issueOnto, warned, warnedAt, single, issues, fits}
 
 -- ---- a row's words
 
@@ -84,6 +88,17 @@ pair-put w at code lane other s c k j h p q u v =
     (put-row w at (pairStores 1 (codeNumber code) 0 lane 0 other) i h
     (by-words 10 (λ r. stores r 0 (pairStores 1 (codeNumber code) 0 lane 0 other) ≡ warned r (i ∷ [])) (λ x0 x1 x2 x3 x4 x5 x6 x7 x8 x9 rest. refl)))
 
+abbrev piecesStores : ℕ → ℕ → ℕ → ℕ → ℕ → ℕ → List (ℕ × ℕ)
+piecesStores s c k b x y = (0, s) ∷ (1, c) ∷ (2, k) ∷ (3, b) ∷ (4, 2) ∷ (5, k) ∷ (6, x) ∷ (7, k) ∷ (8, y) ∷ (9, 0) ∷ []
+
+pub pieces-put : (w : List ℕ) (at b x y s c k : ℕ) → at * 10 + 10 ≤ length w → s ≡ severityNumber Warning → c ≡ codeNumber BoundaryUnshared → k ≡ kindNumber BoundaryKind
+    → stores w (at * 10) (piecesStores s c k b x y) ≡ warnedAt at w (issues (Pieces b x y))
+unfolding warned writes issueOnto over each
+pieces-put w at b x y s c k h p q u =
+    let i = warning BoundaryUnshared (boundaryEntity b) (boundaryEntity x ∷ boundaryEntity y ∷ []) in
+    let l = piecesStores (severityNumber Warning) (codeNumber BoundaryUnshared) (kindNumber BoundaryKind) b x y in
+    rw (p, q, u) (put-row w at l i h (by-words 10 (λ r. stores r 0 l ≡ warned r (i ∷ [])) (λ x0 x1 x2 x3 x4 x5 x6 x7 x8 x9 rest. refl)))
+
 pub none-put : (at : ℕ) (w : List ℕ) → w ≡ warnedAt at w []
 unfolding warnedAt warned writes
 none-put at w = sym (take-append-drop (at * 10) w)
@@ -95,32 +110,106 @@ notice-room n m at l e h = rw (← e) h
 pub notice-put : (n m : Notice) (at : ℕ) (w v : List ℕ) → n ≡ m → v ≡ warnedAt at w (issues m) → v ≡ warnedAt at w (issues n)
 notice-put n m at w v e p = rw e p
 
--- ---- two notices
-
 pub few : (n : Notice) → length (issues n) ≤ 1
 few Nothing = omega arith
 few (NoOpNotice l) = omega arith
 few (Pair code l other) = omega arith
+few (Unshared b) = omega arith
+few (Pieces b x y) = omega arith
 
--- warnings behind one that fills its row
-behind : (w : List ℕ) (i : Issue) (ys : List Issue) → length (issueOnto (take 10 w) i) ≡ 10 → warnedAt 1 (warnedAt 0 w (i ∷ [])) ys ≡ warned w (i ∷ ys)
-unfolding warnedAt warned writes
-behind w i ys e =
-    let x = issueOnto (take 10 w) i in
-    rw (take-at x (drop 10 w) 10 e, drop-at x (drop 10 w) 10 e)
+-- ---- warnings one behind the other
 
-pub both-warned : (w : List ℕ) (n : Notice) (ys : List Issue) → length (issues n) * 10 ≤ length w → warnedAt (length (issues n)) (warnedAt 0 w (issues n)) ys ≡ warned w (issues n ++ ys)
-unfolding warnedAt warned writes issueOnto over each
-both-warned w Nothing ys h = refl
-both-warned w (NoOpNotice l) ys h =
-    behind w (no-op l) ys (by-words 10 (λ r. length (issueOnto (take 10 r) (no-op l)) ≡ 10) (λ x0 x1 x2 x3 x4 x5 x6 x7 x8 x9 rest. refl) w h)
-both-warned w (Pair code l other) ys h =
-    let i = warning code (laneEntity l) (laneEntity other ∷ []) in
-    behind w i ys (by-words 10 (λ r. length (issueOnto (take 10 r) i) ≡ 10) (λ x0 x1 x2 x3 x4 x5 x6 x7 x8 x9 rest. refl) w h)
+-- a warning of at most two related entities
+abbrev pub short : Issue → Bool
+short i = leb (length (i .related)) 2
 
-pub notices-put : (w v u : List ℕ) (n : ℕ) (f s : Notice) → length (issues f) * 10 ≤ length w → n ≡ length (issues f)
+pub issues-short : (n : Notice) → all short (issues n) ≡ true
+unfolding all
+issues-short Nothing = refl
+issues-short (NoOpNotice l) = refl
+issues-short (Pair code l other) = refl
+issues-short (Unshared b) = refl
+issues-short (Pieces b x y) = refl
+
+-- it fills its row
+ten-words : (w : List ℕ) (i : Issue) → short i ≡ true → 10 ≤ length w → length (issueOnto (take 10 w) i) ≡ 10
+unfolding issueOnto
+ten-words w i t h =
+    let r = take 10 w in
+    let z = take 4 (drop 5 r) in
+    let es = each entityWords (i .related) in
+    let few = leb-true (length (i .related)) 2 t in
+    let e : length r ≡ 10 = length-take-le 10 w h in
+    let f : length z ≡ 4 = length-take-le 4 (drop 5 r) (rw length-drop (omega arith)) in
+    let g : length (over z 0 es) ≡ 4 = length-over z 0 es (omega (arith, length-entities (i .related))) ∙ f in
+    let k : length (over z 0 es ++ (flag (i .fix) ∷ [])) ≡ 5 = length-append (over z 0 es) (flag (i .fix) ∷ []) ∙ ap (λ n. n + 1) g in
+    ap (λ n. suc (suc (suc (suc (suc n))))) k
+
+-- what is warned behind rows that are full
+behind-rows : (p rest : List ℕ) (m n : ℕ) (ys : List Issue) → length p ≡ m * 10 → warnedAt (m + n) (p ++ rest) ys ≡ p ++ warnedAt n rest ys
+unfolding warnedAt
+behind-rows p rest m n ys e =
+    let l : (m + n) * 10 ≡ m * 10 + n * 10 = omega arith in
+    let d : drop (m * 10) (p ++ rest) ≡ rest = drop-at p rest (m * 10) e in
+    let t : take (m * 10 + n * 10) (p ++ rest) ≡ p ++ take (n * 10) rest =
+    take-add (m * 10) (n * 10) (p ++ rest) ∙ (ap (λ z. z ++ take (n * 10) (drop (m * 10) (p ++ rest))) (take-at p rest (m * 10) e) ∙ ap (λ z. p ++ take (n * 10) z) d) in
+    let q : drop (m * 10 + n * 10) (p ++ rest) ≡ drop (n * 10) rest = sym (drop-drop (n * 10) (m * 10) (p ++ rest)) ∙ ap (drop (n * 10)) d in
+    rw (l, t, q) (append-assoc p (take (n * 10) rest) (warned (drop (n * 10) rest) ys))
+
+rows-left : (n : ℕ) (w : List ℕ) → suc n * 10 ≤ length w → n * 10 ≤ length (drop 10 w)
+rows-left n w h = rw length-drop (omega arith)
+
+pub warned-whole : (w : List ℕ) (is : List Issue) → warnedAt 0 w is ≡ warned w is
+unfolding warnedAt
+warned-whole w is = refl
+
+pub warned-behind : (w : List ℕ) (is js : List Issue) → all short is ≡ true → length is * 10 ≤ length w → warnedAt (length is) (warned w is) js ≡ warned w (is ++ js)
+unfolding warned writes
+warned-behind w [] js a h = unfold warnedAt in refl
+warned-behind w (i ∷ is) js a h =
+    let r = issueOnto (take 10 w) i in
+    let n : length r ≡ 1 * 10 = ten-words w i (all-head short i is a) (omega arith) in
+    let e : suc (length is) ≡ 1 + length is = omega arith in
+    ap (λ m. warnedAt m (r ++ warned (drop 10 w) is) js) e
+    ∙ (behind-rows r (warned (drop 10 w) is) 1 (length is) js n ∙ ap (λ z. r ++ z) (warned-behind (drop 10 w) is js (all-tail short i is a) (rows-left (length is) w h)))
+
+pub length-warned : (w : List ℕ) (is : List Issue) → all short is ≡ true → length is * 10 ≤ length w → length (warned w is) ≡ length w
+unfolding warned writes
+length-warned w [] a h = refl
+length-warned w (i ∷ is) a h =
+    let r = issueOnto (take 10 w) i in
+    let rest = warned (drop 10 w) is in
+    omega (arith, length-append r rest, ten-words w i (all-head short i is a) (omega arith), length-warned (drop 10 w) is (all-tail short i is a) (rows-left (length is) w h), length-drop 10 w)
+
+-- the same from row `at` on
+module _ (at : ℕ) (w : List ℕ) (is : List Issue) (a : all short is ≡ true) (h : (at + length is) * 10 ≤ length w) where
+  left : length is * 10 ≤ length (drop (at * 10) w)
+  left = rw length-drop (omega arith)
+
+  front : length (take (at * 10) w) ≡ at * 10
+  front = length-take-le (at * 10) w (omega arith)
+
+  pub warned-more : (js : List Issue) → warnedAt (at + length is) (warnedAt at w is) js ≡ warnedAt at w (is ++ js)
+  unfolding warnedAt
+  warned-more js =
+      let p = take (at * 10) w in
+      let rest = drop (at * 10) w in
+      behind-rows p (warned rest is) at (length is) js front ∙ ap (λ z. p ++ z) (warned-behind rest is js a left)
+
+  pub length-warned-at : length (warnedAt at w is) ≡ length w
+  unfolding warnedAt
+  length-warned-at =
+      omega (arith, length-append (take (at * 10) w) (warned (drop (at * 10) w) is), length-warned (drop (at * 10) w) is a left, front, length-drop (at * 10) w)
+
+-- ---- two notices
+
+-- one behind the other from row 0 on
+pub notices-put : (w v u : List ℕ) (n : ℕ) (f s : Notice) → length (issues f) * 10 ≤ length w → n ≡ 0 + length (issues f)
     → v ≡ warnedAt 0 w (issues f) → u ≡ warnedAt n v (issues s) → u ≡ warned w (issues f ++ issues s)
-notices-put w v u n f s h c p q = q ∙ (rw (c, p) (both-warned w f (issues s) h))
+notices-put w v u n f s h c p q =
+    q
+    ∙ (ap (λ m. warnedAt m v (issues s)) c
+    ∙ (ap (λ z. warnedAt (0 + length (issues f)) z (issues s)) p ∙ (warned-more 0 w (issues f) (issues-short f) (omega arith) (issues s) ∙ warned-whole w (issues f ++ issues s))))
 
 -- ---- room
 

@@ -1,4 +1,4 @@
--- A change set in the slices lent for it: design, "Answers".
+-- A change set in the slices lent for it.
 use Prim.Native.Nat.{ℕ, suc, _+_, _*_, _/_}
 use mathlib.Core.Bool.{Bool, true, _&&_}
 use mathlib.Core.List.{List, [], _∷_, _++_}
@@ -7,19 +7,19 @@ use lib.Dec.{leb}
 use lib.ListN.{length, take, drop}
 use Rattle.lists.specs.Rows.{over}
 use Rattle.lists.specs.Select.{each}
-use Rattle.entities.specs.Types.{kindNumber, severityNumber, codeNumber, laneEntity, refusalNumber, refusalEntity}
+use Rattle.entities.specs.Types.{kindNumber, severityNumber, codeNumber, laneEntity, boundaryEntity, refusalNumber, refusalEntity}
 use Rattle.entities.specs.declared.OptionEntity.{OptionEntity}
 use Rattle.entities.specs.declared.OptionEntity.the-variants.{None as NoEntity}
 use Rattle.entities.specs.Records.{Issue, ChangeSet}
 use Rattle.rules.specs.Ops.{counterAfter}
-use Rattle.rules.specs.Names.{EntityKind, EntityRef, RuleKind, Severity, Warning, IssueCode, OrphanRule}
+use Rattle.rules.specs.Names.{EntityKind, EntityRef, RuleKind, Severity, Warning, IssueCode, BoundaryUnshared, OrphanRule}
 use Rattle.rules.specs.Edit.{warning, no-op}
 use Rattle.store.specs.Store.{flag, writes}
 use Rattle.report.specs.declared.Counts.{Counts}
 use Rattle.report.specs.declared.Answer.{Answer}
 use Rattle.report.specs.declared.Answer.the-variants.{Changed, Split, Refused}
 use Rattle.report.specs.declared.Notice.{Notice}
-use Rattle.report.specs.declared.Notice.the-variants.{Nothing, NoOp, Pair}
+use Rattle.report.specs.declared.Notice.the-variants.{Nothing, NoOp, Pair, Unshared, Pieces}
 
 -- ---- answers
 
@@ -81,6 +81,8 @@ abbrev pub issues : Notice → List Issue
 issues Nothing = []
 issues (NoOp l) = no-op l ∷ []
 issues (Pair code l other) = warning code (laneEntity l) (laneEntity other ∷ []) ∷ []
+issues (Unshared b) = warning BoundaryUnshared (boundaryEntity b) [] ∷ []
+issues (Pieces b x y) = warning BoundaryUnshared (boundaryEntity b) (boundaryEntity x ∷ boundaryEntity y ∷ []) ∷ []
 
 -- a warning of one entity; of a rule that a removal leaves with no lane
 abbrev pub single : Severity → IssueCode → EntityKind → ℕ → Bool → Issue

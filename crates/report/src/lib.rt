@@ -5,7 +5,7 @@ ghost use mathlib.Core.List.{[], _∷_, _++_};
 ghost use Prim.Native.Nat.{_+_, _*_, _^_, _≤_, _<_};
 ghost use lib.ListN.{length, take};
 ghost use Rattle.lists.specs.Rows.{over};
-ghost use Rattle.lists.specs.Select.{has, place, ascending};
+ghost use Rattle.lists.specs.Select.{each, has, place, ascending};
 ghost use Rattle.rules.specs.Names.{LaneKind};
 ghost use Rattle.rules.specs.Edit as E;
 ghost use Rattle.report.specs.declared.Notice.the-variants as N;
@@ -37,6 +37,10 @@ const RELATED: usize = 4;
 const RELATED_KIND: usize = 5;
 
 const RELATED_ID: usize = 6;
+
+const SECOND_KIND: usize = 7;
+
+const SECOND_ID: usize = 8;
 
 const FIX: usize = 9;
 
@@ -124,26 +128,33 @@ pub fn named(ids: &mut [u64], n: usize, id: u64) -> usize
     n + 1
 }
 
-// The lanes in the order given.
-pub fn list_lanes(ids: &[u64], modified: &mut [u64])
-    requires { ⌜ length (now ids) * 2 ≤ length (now modified) ⌝ }
-    ensures { λ _. ⌜ now (modified .exit) ≡ R.listed (now (modified .entry)) (E.refs LaneKind (now (ids .entry))) ⌝ }
+// ---- entities listed
+
+// Entities of a kind, in the order given, from place `at` of a lent list on; the place behind.
+pub fn list_ids(kind: EntityKind, ids: &[u64], out: &mut [u64], at: usize) -> usize
+    requires { ⌜ (at + length (now ids)) * 2 ≤ length (now out) ⌝ }
+    ensures { λ r. ⌜ (r ≡ at + length (now (ids .entry))) × (now (out .exit) ≡ over (now (out .entry)) (at * 2) (each R.entityWords (E.refs kind (now (ids .entry))))) ⌝ }
 {
+    let number = kind.number();
     let mut i = 0;
     while i < ids.len() {
-        modified[i * ENTITY] = EntityKind::Lane.number();
-        modified[i * ENTITY + 1] = ids[i];
+        let place = (at + i) * ENTITY;
+        out[place] = number;
+        out[place + 1] = ids[i];
         i += 1;
     }
+    at + i
 }
 
-// ---- warnings of lanes
+// ---- warnings
 
-// A warning of one lane or of two, or none.
+// A warning of one lane or of two, of one boundary, or of one and the two pieces that cut lanes have in its place; or none.
 pub enum Notice {
     Nothing,
     NoOp(u64),
     Pair(IssueCode, u64, u64),
+    Unshared(u64),
+    Pieces(u64, u64, u64),
 }
 
 pub fn no_op_where(on: bool, lane: u64) -> Notice
@@ -164,13 +175,16 @@ pub fn pair_where(on: bool, code: IssueCode, lane: u64, other: u64) -> Notice
     Notice::Nothing
 }
 
-fn notice_count(notice: Notice) -> usize
+// How many rows it takes.
+pub fn notice_count(notice: Notice) -> usize
     ensures { λ r. ⌜ r ≡ length (R.issues notice) ⌝ }
 {
     match notice {
         Notice::Nothing => 0,
         Notice::NoOp(_) => 1,
         Notice::Pair(_, _, _) => 1,
+        Notice::Unshared(_) => 1,
+        Notice::Pieces(_, _, _) => 1,
     }
 }
 
@@ -222,6 +236,25 @@ fn put_pair(warnings: &mut [u64], at: usize, code: IssueCode, lane: u64, other: 
     warnings[row + FIX] = 0;
 }
 
+// The warning of a boundary and of the two pieces that cut lanes have in its place, in row `at`.
+fn put_pieces(warnings: &mut [u64], at: usize, boundary: u64, first: u64, second: u64)
+    requires { ⌜ at * 10 + 10 ≤ length (now warnings) ⌝ }
+    ensures { λ _. ⌜ now (warnings .exit) ≡ R.warnedAt at (now (warnings .entry)) (R.issues (N.Pieces boundary first second)) ⌝ }
+{
+    let row = at * WARNING;
+    let kind = EntityKind::Boundary.number();
+    warnings[row + SEVERITY] = Severity::Warning.number();
+    warnings[row + CODE] = IssueCode::BoundaryUnshared.number();
+    warnings[row + KIND] = kind;
+    warnings[row + ID] = boundary;
+    warnings[row + RELATED] = 2;
+    warnings[row + RELATED_KIND] = kind;
+    warnings[row + RELATED_ID] = first;
+    warnings[row + SECOND_KIND] = kind;
+    warnings[row + SECOND_ID] = second;
+    warnings[row + FIX] = 0;
+}
+
 // The warning that a rule is left with no lane, in row `at`.
 pub fn put_orphan(warnings: &mut [u64], at: usize, rule: u64)
     requires { ⌜ at * 10 + 10 ≤ length (now warnings) ⌝ }
@@ -260,7 +293,31 @@ fn put_notice(warnings: &mut [u64], at: usize, notice: Notice)
         Notice::Pair(code, lane, other) => {
             put_pair(warnings, at, code, lane, other);
         }
+        Notice::Unshared(boundary) => {
+            let boundaries = EntityKind::Boundary;
+            put_single(
+                warnings,
+                at,
+                Severity::Warning,
+                IssueCode::BoundaryUnshared,
+                boundaries,
+                boundary,
+                false,
+            );
+        }
+        Notice::Pieces(boundary, first, second) => {
+            put_pieces(warnings, at, boundary, first, second);
+        }
     }
+}
+
+// A notice in row `at`, or nothing; the row behind.
+pub fn note(warnings: &mut [u64], at: usize, notice: Notice) -> usize
+    requires { ⌜ (at + length (R.issues notice)) * 10 ≤ length (now warnings) ⌝ }
+    ensures { λ r. ⌜ (r ≡ at + length (R.issues notice)) × (now (warnings .exit) ≡ R.warnedAt at (now (warnings .entry)) (R.issues notice)) ⌝ }
+{
+    put_notice(warnings, at, notice);
+    at + notice_count(notice)
 }
 
 // ---- the whole report
@@ -287,14 +344,14 @@ pub fn report(
     requires { ⌜ R.fits (length (now ids)) (length (R.issues first ++ R.issues second)) (now modified) (now warnings) ≡ true ⌝ }
     ensures { λ r. ⌜ (r ≡ record { created = 0; modified = length (now (ids .entry)); deleted = 0; warnings = length (R.issues first ++ R.issues second) }) × ((now (modified .exit) ≡ R.listed (now (modified .entry)) (E.refs LaneKind (now (ids .entry)))) × (now (warnings .exit) ≡ R.warned (now (warnings .entry)) (R.issues first ++ R.issues second))) ⌝ }
 {
-    list_lanes(ids, modified);
-    put_notice(warnings, 0, first);
-    let n = notice_count(first);
-    put_notice(warnings, n, second);
+    let kind = EntityKind::Lane;
+    let listed = list_ids(kind, ids, modified, 0);
+    let n = note(warnings, 0, first);
+    let noted = note(warnings, n, second);
     Counts {
         created: 0,
-        modified: ids.len(),
+        modified: listed,
         deleted: 0,
-        warnings: n + notice_count(second),
+        warnings: noted,
     }
 }

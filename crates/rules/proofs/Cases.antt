@@ -7,12 +7,10 @@ use mathlib.Core.Option.{Option, none, some}
 use Prim.{Unit, tt}
 use Prim.Native.Nat.{ℕ, _-_, _^_}
 use lib.Ieee.{Float, nan, binary64, ofBits}
-use Rattle.entities.specs.Types.{preset, forward, same, opposing, laneEntity, boundaryEntity}
+use Rattle.entities.specs.Types.{preset, forward, same}
 use Rattle.entities.specs.Records.{Line, Lane, Boundary, Road, Junction, Rule, StopLine, Map, Issue, ChangeSet}
-use Rattle.rules.specs.Names.{Point3, Fraction, Station, Left, Right, BoundaryRef, Neighbor, EntityRef, RoadKind, JunctionKind, RuleKind, NoOp, GeometricGap, BoundaryUnshared, NeighborDropped, OrphanRule, AttributeConflict, Refusal, LaneAbsent, FractionOutside, PositionOutside, OwnPartner, NotMergeable, BoundaryAbsent, NoUsableLine, NotCrossing, Unsound, NoRoom, NoIds}
-use Rattle.rules.specs.Sound.{Room, Lists, sound}
-use Rattle.rules.specs.Edit.{warning, no-op, laneWith}
-use Rattle.rules.specs.Lane.{orphan}
+use Rattle.rules.specs.Names.{Point3, Fraction, Station, Neighbor, EntityRef, LaneKind, BoundaryKind, Info, Warning, IssueCode, NoOp, GeometricGap, BoundaryUnshared, NeighborDropped, Refusal, FractionOutside, PositionOutside, OwnPartner}
+use Rattle.rules.specs.Sound.{Room, Lists}
 use Rattle.rules.specs.Ops.{Command, SplitLane, MergeLanes, ConnectLanes, DisconnectLanes, SetNeighbor, RemoveLane, State, Call, Answer, refused, accepted, Outcome, stepMap}
 use Rattle.rules.proofs.Opened.{opened}
 
@@ -49,6 +47,20 @@ changing s c m counter second cs =
 
 abbrev pub changes : List EntityRef → List EntityRef → List EntityRef → List Issue → ChangeSet
 changes created modified deleted warnings = record { created = created; modified = modified; deleted = deleted; warnings = warnings }
+
+-- ---- entities and warnings, written out: an outcome borrows nothing from the definitions that it judges
+
+abbrev pub theLane : ℕ → EntityRef
+theLane i = record { kind = LaneKind; id = i }
+
+abbrev pub theBoundary : ℕ → EntityRef
+theBoundary i = record { kind = BoundaryKind; id = i }
+
+abbrev pub warns : IssueCode → EntityRef → List EntityRef → Issue
+warns code entity related = record { severity = Warning; code = code; entity = entity; related = related; fix = false }
+
+abbrev pub nothing-done : ℕ → Issue
+nothing-done l = record { severity = Info; code = NoOp; entity = theLane l; related = []; fix = false }
 
 -- ---- numbers and lines
 
@@ -118,11 +130,42 @@ plain i l r =
       successors = [];
     }
 
+-- a lane with neighbours, and with links
 abbrev pub beside : Option Neighbor → Option Neighbor → Lane → Lane
-beside ln rn l = laneWith l (l .id) (l .left) (l .right) (l .centerline) ln rn (l .predecessors) (l .successors)
+beside ln rn l =
+    record {
+      id = l .id;
+      kind = l .kind;
+      left = l .left;
+      right = l .right;
+      centerline = l .centerline;
+      speed-limit = l .speed-limit;
+      one-way = l .one-way;
+      turn-direction = l .turn-direction;
+      attributes = l .attributes;
+      left-neighbor = ln;
+      right-neighbor = rn;
+      predecessors = l .predecessors;
+      successors = l .successors;
+    }
 
 abbrev pub linked : List ℕ → List ℕ → Lane → Lane
-linked ps ss l = laneWith l (l .id) (l .left) (l .right) (l .centerline) (l .left-neighbor) (l .right-neighbor) ps ss
+linked ps ss l =
+    record {
+      id = l .id;
+      kind = l .kind;
+      left = l .left;
+      right = l .right;
+      centerline = l .centerline;
+      speed-limit = l .speed-limit;
+      one-way = l .one-way;
+      turn-direction = l .turn-direction;
+      attributes = l .attributes;
+      left-neighbor = l .left-neighbor;
+      right-neighbor = l .right-neighbor;
+      predecessors = ps;
+      successors = ss;
+    }
 
 abbrev pub yard : List Lane → List Boundary → Map
 yard ls bs = record { lanes = ls; boundaries = bs; roads = []; junctions = []; rules = []; stop-lines = []; crosswalks = [] }
@@ -144,7 +187,7 @@ halvedAt x =
     (edge 101 (from n0 x n2) ∷ edge 102 (from n0 x -n2) ∷ edge 103 (from x n10 n2) ∷ edge 104 (from x n10 -n2) ∷ [])
 
 abbrev pub halving : ChangeSet
-halving = changes (laneEntity 105 ∷ boundaryEntity 103 ∷ boundaryEntity 104 ∷ []) (laneEntity 1 ∷ boundaryEntity 101 ∷ boundaryEntity 102 ∷ []) [] []
+halving = changes (theLane 105 ∷ theBoundary 103 ∷ theBoundary 104 ∷ []) (theLane 1 ∷ theBoundary 101 ∷ theBoundary 102 ∷ []) [] []
 
 abbrev case-1 : Case
 case-1 = changing one (SplitLane 1 (Fraction n0·5) true) (halvedAt n5) 106 (some 105) halving
@@ -160,7 +203,7 @@ case-2 =
     (yard (plain 1 101 102 ∷ [])
     (edge 101 (at n0 n2 ∷ at n5 n2 ∷ at n10 n2 ∷ []) ∷ edge 102 (at n0 -n2 ∷ at n5 -n2 ∷ at n10 -n2 ∷ []) ∷ []))
     106 none
-    (changes [] (laneEntity 1 ∷ boundaryEntity 101 ∷ boundaryEntity 102 ∷ []) (laneEntity 105 ∷ boundaryEntity 103 ∷ boundaryEntity 104 ∷ []) [])
+    (changes [] (theLane 1 ∷ theBoundary 101 ∷ theBoundary 102 ∷ []) (theLane 105 ∷ theBoundary 103 ∷ theBoundary 104 ∷ []) [])
 
 case-2-holds : Holds case-2
 unfolding opened
@@ -231,8 +274,8 @@ case-5 =
     (linked [] (107 ∷ []) (beside none (some (same 2)) (plain 1 101 105)) ∷ beside (some (same 1)) none (plain 2 102 103) ∷ linked (1 ∷ []) [] (plain 107 104 106) ∷ [])
     (edge 101 (from n0 n5 n2) ∷ e102 ∷ e103 ∷ edge 104 (from n5 n10 n2) ∷ edge 105 (from n0 n5 -n2) ∷ edge 106 (from n5 n10 -n2) ∷ []))
     108 (some 107)
-    (changes (laneEntity 107 ∷ boundaryEntity 104 ∷ boundaryEntity 105 ∷ boundaryEntity 106 ∷ []) (laneEntity 1 ∷ boundaryEntity 101 ∷ []) []
-    (warning BoundaryUnshared (boundaryEntity 102) (boundaryEntity 105 ∷ boundaryEntity 106 ∷ []) ∷ warning NeighborDropped (laneEntity 107) (laneEntity 2 ∷ []) ∷ []))
+    (changes (theLane 107 ∷ theBoundary 104 ∷ theBoundary 105 ∷ theBoundary 106 ∷ []) (theLane 1 ∷ theBoundary 101 ∷ []) []
+    (warns BoundaryUnshared (theBoundary 102) (theBoundary 105 ∷ theBoundary 106 ∷ []) ∷ warns NeighborDropped (theLane 107) (theLane 2 ∷ []) ∷ []))
 
 case-5-holds : Holds case-5
 unfolding opened
@@ -241,7 +284,7 @@ case-5-holds = refl
 abbrev case-6 : Case
 case-6 =
     changing two (RemoveLane 2) (yard (plain 1 101 102 ∷ []) (e101 ∷ e102 ∷ [])) 104 none
-    (changes [] (laneEntity 1 ∷ []) (laneEntity 2 ∷ boundaryEntity 103 ∷ []) [])
+    (changes [] (theLane 1 ∷ []) (theLane 2 ∷ theBoundary 103 ∷ []) [])
 
 case-6-holds : Holds case-6
 unfolding opened
@@ -255,7 +298,7 @@ unfolding opened
 case-7-connect-holds = refl
 
 abbrev case-7-disconnect : Case
-case-7-disconnect = changing one (DisconnectLanes 1 1) (one .map) 103 none (changes [] [] [] (no-op 1 ∷ []))
+case-7-disconnect = changing one (DisconnectLanes 1 1) (one .map) 103 none (changes [] [] [] (nothing-done 1 ∷ []))
 
 case-7-disconnect-holds : Holds case-7-disconnect
 unfolding opened
@@ -268,8 +311,8 @@ case-8 =
     (yard (linked (1 ∷ []) (1 ∷ []) (plain 1 104 105) ∷ [])
     (edge 104 (from n0 n10 n2 ++ from n0 n10 -n2) ∷ edge 105 (from n0 n10 -n2 ++ from n0 n10 -n6) ∷ []))
     106 none
-    (changes (boundaryEntity 104 ∷ boundaryEntity 105 ∷ []) (laneEntity 1 ∷ []) (laneEntity 2 ∷ boundaryEntity 101 ∷ boundaryEntity 102 ∷ boundaryEntity 103 ∷ [])
-    (warning NeighborDropped (laneEntity 1) (laneEntity 1 ∷ []) ∷ warning BoundaryUnshared (boundaryEntity 104) [] ∷ warning BoundaryUnshared (boundaryEntity 105) [] ∷ []))
+    (changes (theBoundary 104 ∷ theBoundary 105 ∷ []) (theLane 1 ∷ []) (theLane 2 ∷ theBoundary 101 ∷ theBoundary 102 ∷ theBoundary 103 ∷ [])
+    (warns NeighborDropped (theLane 1) (theLane 1 ∷ []) ∷ warns BoundaryUnshared (theBoundary 104) [] ∷ warns BoundaryUnshared (theBoundary 105) [] ∷ []))
 
 case-8-holds : Holds case-8
 unfolding opened
@@ -289,7 +332,7 @@ gap x = record { map = behind (linked [] []) (linked [] []) x; counter = 105 }
 abbrev case-9 : Case
 case-9 =
     changing (gap n0·1) (ConnectLanes 1 2) (behind (linked [] (2 ∷ [])) (linked (1 ∷ []) []) n0·1) 105 none
-    (changes [] (laneEntity 1 ∷ laneEntity 2 ∷ []) [] [])
+    (changes [] (theLane 1 ∷ theLane 2 ∷ []) [] [])
 
 case-9-holds : Holds case-9
 unfolding opened
@@ -300,7 +343,7 @@ abbrev gap-above : Case
 gap-above =
     changing (record { map = behind (linked [] (2 ∷ [])) (linked (1 ∷ []) []) n0·5; counter = 105 }) (ConnectLanes 1 2)
     (behind (linked [] (2 ∷ [])) (linked (1 ∷ []) []) n0·5) 105 none
-    (changes [] [] [] (warning GeometricGap (laneEntity 1) (laneEntity 2 ∷ []) ∷ no-op 1 ∷ []))
+    (changes [] [] [] (warns GeometricGap (theLane 1) (theLane 2 ∷ []) ∷ nothing-done 1 ∷ []))
 
 gap-above-holds : Holds gap-above
 unfolding opened

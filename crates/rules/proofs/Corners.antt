@@ -7,14 +7,13 @@ use Prim.{tt}
 use Prim.Native.Nat.{ℕ, _-_, _^_}
 use lib.Ieee.{Float}
 use Rattle.entities.specs.declared.OptionNeighbor.the-variants.{Some as ANeighbor}
-use Rattle.entities.specs.Types.{same, opposing, laneEntity, boundaryEntity}
+use Rattle.entities.specs.Types.{same, opposing}
 use Rattle.entities.specs.Records.{Line, Lane, Road, Rule, StopLine, Crosswalk, Map, Issue}
 use Rattle.rules.specs.Names.{Fraction, Station, Right, EntityRef, RoadKind, RuleKind, Warning, BoundaryUnshared, OrphanRule, AttributeConflict, PositionOutside, NotMergeable, BoundaryAbsent, NoUsableLine, NotCrossing, Unsound, NoRoom, NoIds}
 use Rattle.rules.specs.Sound.{Room, Lists}
-use Rattle.rules.specs.Edit.{warning, no-op}
 use Rattle.rules.specs.Ops.{SplitLane, MergeLanes, ConnectLanes, DisconnectLanes, SetNeighbor, RemoveLane, State}
 use Rattle.rules.proofs.Opened.{opened}
-use Rattle.rules.proofs.Cases.{Case, Holds, AllHold, ample, lists, refusing, changing, changes, f, -n2, n0, n0·5, n10, n2, n5, at, from, edge, plain, beside, linked, yard, e101, e102, e103, one, halvedAt, halving}
+use Rattle.rules.proofs.Cases.{Case, Holds, AllHold, theLane, theBoundary, warns, nothing-done, ample, lists, refusing, changing, changes, f, -n2, n0, n0·5, n10, n2, n5, at, from, edge, plain, beside, linked, yard, e101, e102, e103, one, halvedAt, halving}
 
 -- ---- what the corners need beside the helpers of Cases
 
@@ -163,8 +162,8 @@ merge-directions =
     (yard (beside (some (same 3)) none (plain 1 106 102) ∷ beside none (some (same 1)) (plain 3 105 101) ∷ [])
     (e101 ∷ edge 102 (at n0 -n2 ∷ at n10 -n2 ∷ at n20 -n2 ∷ []) ∷ edge 105 (from n0 n20 n6) ∷ edge 106 (at n0 n2 ∷ at n10 n2 ∷ at n20 n2 ∷ []) ∷ []))
     107 none
-    (changes (boundaryEntity 106 ∷ []) (laneEntity 1 ∷ laneEntity 3 ∷ boundaryEntity 102 ∷ [])
-    (laneEntity 2 ∷ boundaryEntity 103 ∷ boundaryEntity 104 ∷ []) (warning BoundaryUnshared (boundaryEntity 106) [] ∷ []))
+    (changes (theBoundary 106 ∷ []) (theLane 1 ∷ theLane 3 ∷ theBoundary 102 ∷ [])
+    (theLane 2 ∷ theBoundary 103 ∷ theBoundary 104 ∷ []) (warns BoundaryUnshared (theBoundary 106) [] ∷ []))
 
 merge-directions-holds : Holds merge-directions
 unfolding opened
@@ -183,8 +182,8 @@ opposite-halves =
     (edge 101 (from n0 n5 n2) ∷ edge 102 (from n0 n5 -n2) ∷ edge 103 (from n0 n5 n6) ∷ edge 104 (from n5 n10 n2) ∷ edge 105 (from n5 n10 -n2) ∷
     edge 106 (from n5 n10 n6) ∷ []))
     109 (some 107)
-    (changes (laneEntity 107 ∷ laneEntity 108 ∷ boundaryEntity 104 ∷ boundaryEntity 105 ∷ boundaryEntity 106 ∷ [])
-    (laneEntity 1 ∷ laneEntity 2 ∷ boundaryEntity 101 ∷ boundaryEntity 102 ∷ boundaryEntity 103 ∷ []) [] [])
+    (changes (theLane 107 ∷ theLane 108 ∷ theBoundary 104 ∷ theBoundary 105 ∷ theBoundary 106 ∷ [])
+    (theLane 1 ∷ theLane 2 ∷ theBoundary 101 ∷ theBoundary 102 ∷ theBoundary 103 ∷ []) [] [])
 
 opposite-halves-holds : Holds opposite-halves
 unfolding opened
@@ -199,8 +198,8 @@ freed-reported =
     (yard (beside none (some (same 3)) (plain 1 101 102) ∷ plain 2 102 103 ∷ beside (some (same 1)) none (plain 3 104 101) ∷ plain 4 105 104 ∷ [])
     (e101 ∷ e102 ∷ e103 ∷ edge 104 (from n0 n10 n6) ∷ edge 105 (from n0 n10 n10) ∷ []))
     106 none
-    (changes [] (laneEntity 1 ∷ laneEntity 2 ∷ laneEntity 3 ∷ laneEntity 4 ∷ []) []
-    (warning BoundaryUnshared (laneEntity 1) (laneEntity 3 ∷ []) ∷ []))
+    (changes [] (theLane 1 ∷ theLane 2 ∷ theLane 3 ∷ theLane 4 ∷ []) []
+    (warns BoundaryUnshared (theLane 1) (theLane 3 ∷ []) ∷ []))
 
 freed-reported-holds : Holds freed-reported
 unfolding opened
@@ -264,8 +263,8 @@ ids-exact =
     (yard (linked [] ((2 ^ 64 - 2) ∷ []) (plain 1 101 102) ∷ linked (1 ∷ []) [] (plain (2 ^ 64 - 2) (2 ^ 64 - 4) (2 ^ 64 - 3)) ∷ [])
     (edge 101 (from n0 n5 n2) ∷ edge 102 (from n0 n5 -n2) ∷ edge (2 ^ 64 - 4) (from n5 n10 n2) ∷ edge (2 ^ 64 - 3) (from n5 n10 -n2) ∷ []))
     (2 ^ 64 - 1) (some (2 ^ 64 - 2))
-    (changes (laneEntity (2 ^ 64 - 2) ∷ boundaryEntity (2 ^ 64 - 4) ∷ boundaryEntity (2 ^ 64 - 3) ∷ [])
-    (laneEntity 1 ∷ boundaryEntity 101 ∷ boundaryEntity 102 ∷ []) [] [])
+    (changes (theLane (2 ^ 64 - 2) ∷ theBoundary (2 ^ 64 - 4) ∷ theBoundary (2 ^ 64 - 3) ∷ [])
+    (theLane 1 ∷ theBoundary 101 ∷ theBoundary 102 ∷ []) [] [])
 
 ids-exact-holds : Holds ids-exact
 unfolding opened
@@ -277,7 +276,7 @@ spent =
     changing (counting (2 ^ 64 - 1) (yard (plain 1 101 102 ∷ []) (e101 ∷ e102 ∷ []))) (DisconnectLanes 1 1)
     (yard (plain 1 101 102 ∷ []) (e101 ∷ e102 ∷ []))
     (2 ^ 64 - 1) none
-    (changes [] [] [] (no-op 1 ∷ []))
+    (changes [] [] [] (nothing-done 1 ∷ []))
 
 spent-holds : Holds spent
 unfolding opened
@@ -289,7 +288,7 @@ counter-zero =
     changing (counting 0 (yard (plain 0 0 0 ∷ []) (edge 0 (from n0 n10 n2) ∷ []))) (SplitLane 0 (Fraction n0·5) true)
     (yard (linked [] (2 ∷ []) (plain 0 0 0) ∷ linked (0 ∷ []) [] (plain 2 1 1) ∷ []) (edge 0 (from n0 n5 n2) ∷ edge 1 (from n5 n10 n2) ∷ []))
     3 (some 2)
-    (changes (laneEntity 2 ∷ boundaryEntity 1 ∷ []) (laneEntity 0 ∷ boundaryEntity 0 ∷ []) [] [])
+    (changes (theLane 2 ∷ theBoundary 1 ∷ []) (theLane 0 ∷ theBoundary 0 ∷ []) [] [])
 
 counter-zero-holds : Holds counter-zero
 unfolding opened
@@ -301,7 +300,7 @@ counter-kept =
     changing (counting 0 (yard (plain 0 0 0 ∷ []) (edge 0 (from n0 n10 n2) ∷ []))) (DisconnectLanes 0 0)
     (yard (plain 0 0 0 ∷ []) (edge 0 (from n0 n10 n2) ∷ []))
     0 none
-    (changes [] [] [] (no-op 0 ∷ []))
+    (changes [] [] [] (nothing-done 0 ∷ []))
 
 counter-kept-holds : Holds counter-kept
 unfolding opened
@@ -423,7 +422,7 @@ both-sides =
     (yard (linked [] (103 ∷ []) (plain 1 101 101) ∷ linked (1 ∷ []) [] (plain 103 102 102) ∷ [])
     (edge 101 (from n0 n5 n2) ∷ edge 102 (from n5 n10 n2) ∷ []))
     104 (some 103)
-    (changes (laneEntity 103 ∷ boundaryEntity 102 ∷ []) (laneEntity 1 ∷ boundaryEntity 101 ∷ []) [] [])
+    (changes (theLane 103 ∷ theBoundary 102 ∷ []) (theLane 1 ∷ theBoundary 101 ∷ []) [] [])
 
 both-sides-holds : Holds both-sides
 unfolding opened
@@ -469,8 +468,8 @@ anchor-past =
     (yard (linked [] (304 ∷ []) (plain 1 101 102) ∷ linked (1 ∷ []) [] (plain 304 302 303) ∷ [])
     (edge 101 (from n0 n5 n2) ∷ edge 102 (from n0 n5 -n2) ∷ edge 302 (from n5 n10 n2) ∷ edge 303 (from n5 n10 -n2) ∷ [])))
     305 (some 304)
-    (changes (laneEntity 304 ∷ boundaryEntity 302 ∷ boundaryEntity 303 ∷ [])
-    (laneEntity 1 ∷ boundaryEntity 101 ∷ boundaryEntity 102 ∷ ruleEntity 301 ∷ []) [] [])
+    (changes (theLane 304 ∷ theBoundary 302 ∷ theBoundary 303 ∷ [])
+    (theLane 1 ∷ theBoundary 101 ∷ theBoundary 102 ∷ ruleEntity 301 ∷ []) [] [])
 
 anchor-past-holds : Holds anchor-past
 unfolding opened
@@ -485,7 +484,7 @@ anchor-before =
     (yard (linked [] (304 ∷ []) (plain 1 101 102) ∷ linked (1 ∷ []) [] (plain 304 302 303) ∷ [])
     (edge 101 (from n0 n5 n2) ∷ edge 102 (from n0 n5 -n2) ∷ edge 302 (from n5 n10 n2) ∷ edge 303 (from n5 n10 -n2) ∷ [])))
     305 (some 304)
-    (changes (laneEntity 304 ∷ boundaryEntity 302 ∷ boundaryEntity 303 ∷ []) (laneEntity 1 ∷ boundaryEntity 101 ∷ boundaryEntity 102 ∷ []) [] [])
+    (changes (theLane 304 ∷ theBoundary 302 ∷ theBoundary 303 ∷ []) (theLane 1 ∷ theBoundary 101 ∷ theBoundary 102 ∷ []) [] [])
 
 anchor-before-holds : Holds anchor-before
 unfolding opened
@@ -502,8 +501,8 @@ stop-missing =
     (yard (linked [] (304 ∷ []) (plain 1 101 102) ∷ linked (1 ∷ []) [] (plain 304 302 303) ∷ [])
     (edge 101 (from n0 n5 n2) ∷ edge 102 (from n0 n5 -n2) ∷ edge 302 (from n5 n10 n2) ∷ edge 303 (from n5 n10 -n2) ∷ [])))
     305 (some 304)
-    (changes (laneEntity 304 ∷ boundaryEntity 302 ∷ boundaryEntity 303 ∷ [])
-    (laneEntity 1 ∷ boundaryEntity 101 ∷ boundaryEntity 102 ∷ ruleEntity 301 ∷ []) [] [])
+    (changes (theLane 304 ∷ theBoundary 302 ∷ theBoundary 303 ∷ [])
+    (theLane 1 ∷ theBoundary 101 ∷ theBoundary 102 ∷ ruleEntity 301 ∷ []) [] [])
 
 stop-missing-holds : Holds stop-missing
 unfolding opened
@@ -519,8 +518,8 @@ crosswalk-past =
     (yard (linked [] (304 ∷ []) (plain 1 101 102) ∷ linked (1 ∷ []) [] (plain 304 302 303) ∷ [])
     (edge 101 (from n0 n5 n2) ∷ edge 102 (from n0 n5 -n2) ∷ edge 302 (from n5 n10 n2) ∷ edge 303 (from n5 n10 -n2) ∷ [])))
     305 (some 304)
-    (changes (laneEntity 304 ∷ boundaryEntity 302 ∷ boundaryEntity 303 ∷ [])
-    (laneEntity 1 ∷ boundaryEntity 101 ∷ boundaryEntity 102 ∷ ruleEntity 301 ∷ []) [] [])
+    (changes (theLane 304 ∷ theBoundary 302 ∷ theBoundary 303 ∷ [])
+    (theLane 1 ∷ theBoundary 101 ∷ theBoundary 102 ∷ ruleEntity 301 ∷ []) [] [])
 
 crosswalk-past-holds : Holds crosswalk-past
 unfolding opened
@@ -536,7 +535,7 @@ crosswalk-before =
     (yard (linked [] (304 ∷ []) (plain 1 101 102) ∷ linked (1 ∷ []) [] (plain 304 302 303) ∷ [])
     (edge 101 (from n0 n5 n2) ∷ edge 102 (from n0 n5 -n2) ∷ edge 302 (from n5 n10 n2) ∷ edge 303 (from n5 n10 -n2) ∷ [])))
     305 (some 304)
-    (changes (laneEntity 304 ∷ boundaryEntity 302 ∷ boundaryEntity 303 ∷ []) (laneEntity 1 ∷ boundaryEntity 101 ∷ boundaryEntity 102 ∷ []) [] [])
+    (changes (theLane 304 ∷ theBoundary 302 ∷ theBoundary 303 ∷ []) (theLane 1 ∷ theBoundary 101 ∷ theBoundary 102 ∷ []) [] [])
 
 crosswalk-before-holds : Holds crosswalk-before
 unfolding opened
@@ -551,8 +550,8 @@ own-twice =
     (yard (linked [] (304 ∷ []) (plain 1 101 102) ∷ linked (1 ∷ []) [] (plain 304 302 303) ∷ [])
     (edge 101 (from n0 n5 n2) ∷ edge 102 (from n0 n5 -n2) ∷ edge 302 (from n5 n10 n2) ∷ edge 303 (from n5 n10 -n2) ∷ [])))
     305 (some 304)
-    (changes (laneEntity 304 ∷ boundaryEntity 302 ∷ boundaryEntity 303 ∷ [])
-    (laneEntity 1 ∷ boundaryEntity 101 ∷ boundaryEntity 102 ∷ ruleEntity 301 ∷ []) [] [])
+    (changes (theLane 304 ∷ theBoundary 302 ∷ theBoundary 303 ∷ [])
+    (theLane 1 ∷ theBoundary 101 ∷ theBoundary 102 ∷ ruleEntity 301 ∷ []) [] [])
 
 own-twice-holds : Holds own-twice
 unfolding opened
@@ -567,8 +566,8 @@ road-twice =
     (yard (linked [] (304 ∷ []) (plain 1 101 102) ∷ linked (1 ∷ []) [] (plain 304 302 303) ∷ [])
     (edge 101 (from n0 n5 n2) ∷ edge 102 (from n0 n5 -n2) ∷ edge 302 (from n5 n10 n2) ∷ edge 303 (from n5 n10 -n2) ∷ [])))
     305 (some 304)
-    (changes (laneEntity 304 ∷ boundaryEntity 302 ∷ boundaryEntity 303 ∷ [])
-    (laneEntity 1 ∷ boundaryEntity 101 ∷ boundaryEntity 102 ∷ roadEntity 301 ∷ []) [] [])
+    (changes (theLane 304 ∷ theBoundary 302 ∷ theBoundary 303 ∷ [])
+    (theLane 1 ∷ theBoundary 101 ∷ theBoundary 102 ∷ roadEntity 301 ∷ []) [] [])
 
 road-twice-holds : Holds road-twice
 unfolding opened
@@ -583,8 +582,8 @@ rights =
     (yard (linked [] (304 ∷ []) (plain 1 101 102) ∷ linked (1 ∷ []) [] (plain 304 302 303) ∷ [])
     (edge 101 (from n0 n5 n2) ∷ edge 102 (from n0 n5 -n2) ∷ edge 302 (from n5 n10 n2) ∷ edge 303 (from n5 n10 -n2) ∷ [])))
     305 (some 304)
-    (changes (laneEntity 304 ∷ boundaryEntity 302 ∷ boundaryEntity 303 ∷ [])
-    (laneEntity 1 ∷ boundaryEntity 101 ∷ boundaryEntity 102 ∷ ruleEntity 301 ∷ []) [] [])
+    (changes (theLane 304 ∷ theBoundary 302 ∷ theBoundary 303 ∷ [])
+    (theLane 1 ∷ theBoundary 101 ∷ theBoundary 102 ∷ ruleEntity 301 ∷ []) [] [])
 
 rights-holds : Holds rights
 unfolding opened
@@ -599,7 +598,7 @@ shared-kept =
     (e101 ∷ edge 103 (from n10 n20 n2) ∷ []))) (MergeLanes 1 2)
     (yard (plain 1 101 199 ∷ []) (edge 101 (at n0 n2 ∷ at n10 n2 ∷ at n20 n2 ∷ []) ∷ []))
     200 none
-    (changes [] (laneEntity 1 ∷ boundaryEntity 101 ∷ []) (laneEntity 2 ∷ boundaryEntity 103 ∷ []) [])
+    (changes [] (theLane 1 ∷ theBoundary 101 ∷ []) (theLane 2 ∷ theBoundary 103 ∷ []) [])
 
 shared-kept-holds : Holds shared-kept
 unfolding opened
@@ -614,7 +613,7 @@ in-place-reversed =
     (yard (turned true false (plain 1 101 102) ∷ []) (edge 101 (at n20 n2 ∷ at n10 n2 ∷ at n0 n2 ∷ []) ∷
     edge 102 (at n0 -n2 ∷ at n10 -n2 ∷ at n20 -n2 ∷ []) ∷ []))
     105 none
-    (changes [] (laneEntity 1 ∷ boundaryEntity 101 ∷ boundaryEntity 102 ∷ []) (laneEntity 2 ∷ boundaryEntity 103 ∷ boundaryEntity 104 ∷ []) [])
+    (changes [] (theLane 1 ∷ theBoundary 101 ∷ theBoundary 102 ∷ []) (theLane 2 ∷ theBoundary 103 ∷ theBoundary 104 ∷ []) [])
 
 in-place-reversed-holds : Holds in-place-reversed
 unfolding opened
@@ -629,8 +628,8 @@ fresh-forward =
     (yard (plain 1 105 102 ∷ plain 3 101 101 ∷ []) (edge 101 (from n10 n0 n2) ∷ edge 102 (at n0 -n2 ∷ at n10 -n2 ∷ at n20 -n2 ∷ []) ∷
     edge 105 (at n0 n2 ∷ at n10 n2 ∷ at n20 n2 ∷ []) ∷ []))
     106 none
-    (changes (boundaryEntity 105 ∷ []) (laneEntity 1 ∷ boundaryEntity 102 ∷ []) (laneEntity 2 ∷ boundaryEntity 103 ∷ boundaryEntity 104 ∷ [])
-    (warning BoundaryUnshared (boundaryEntity 105) [] ∷ []))
+    (changes (theBoundary 105 ∷ []) (theLane 1 ∷ theBoundary 102 ∷ []) (theLane 2 ∷ theBoundary 103 ∷ theBoundary 104 ∷ [])
+    (warns BoundaryUnshared (theBoundary 105) [] ∷ []))
 
 fresh-forward-holds : Holds fresh-forward
 unfolding opened
@@ -643,7 +642,7 @@ both-in-place =
     (e101 ∷ edge 103 (from n10 n20 n2) ∷ edge 104 (from n10 n20 -n2) ∷ []))) (MergeLanes 1 2)
     (yard (plain 1 101 101 ∷ []) (edge 101 (at n0 n2 ∷ at n10 n2 ∷ at n10 -n2 ∷ at n20 -n2 ∷ []) ∷ []))
     105 none
-    (changes [] (laneEntity 1 ∷ boundaryEntity 101 ∷ []) (laneEntity 2 ∷ boundaryEntity 103 ∷ boundaryEntity 104 ∷ []) [])
+    (changes [] (theLane 1 ∷ theBoundary 101 ∷ []) (theLane 2 ∷ theBoundary 103 ∷ theBoundary 104 ∷ []) [])
 
 both-in-place-holds : Holds both-in-place
 unfolding opened
@@ -657,7 +656,7 @@ apart-joined =
     (yard (plain 1 101 102 ∷ []) (edge 101 (at n0 n2 ∷ at n10 n2 ∷ at n10·5 n2 ∷ at n20 n2 ∷ []) ∷
     edge 102 (at n0 -n2 ∷ at n10 -n2 ∷ at n10·5 -n2 ∷ at n20 -n2 ∷ []) ∷ []))
     105 none
-    (changes [] (laneEntity 1 ∷ boundaryEntity 101 ∷ boundaryEntity 102 ∷ []) (laneEntity 2 ∷ boundaryEntity 103 ∷ boundaryEntity 104 ∷ []) [])
+    (changes [] (theLane 1 ∷ theBoundary 101 ∷ theBoundary 102 ∷ []) (theLane 2 ∷ theBoundary 103 ∷ theBoundary 104 ∷ []) [])
 
 apart-joined-holds : Holds apart-joined
 unfolding opened
@@ -672,8 +671,8 @@ nan-limits =
     (yard (limited 0x7FF8000000000000 (plain 1 101 102) ∷ [])
     (edge 101 (at n0 n2 ∷ at n10 n2 ∷ at n20 n2 ∷ []) ∷ edge 102 (at n0 -n2 ∷ at n10 -n2 ∷ at n20 -n2 ∷ []) ∷ []))
     105 none
-    (changes [] (laneEntity 1 ∷ boundaryEntity 101 ∷ boundaryEntity 102 ∷ []) (laneEntity 2 ∷ boundaryEntity 103 ∷ boundaryEntity 104 ∷ [])
-    (warning AttributeConflict (laneEntity 1) (laneEntity 2 ∷ []) ∷ []))
+    (changes [] (theLane 1 ∷ theBoundary 101 ∷ theBoundary 102 ∷ []) (theLane 2 ∷ theBoundary 103 ∷ theBoundary 104 ∷ [])
+    (warns AttributeConflict (theLane 1) (theLane 2 ∷ []) ∷ []))
 
 nan-limits-holds : Holds nan-limits
 unfolding opened
@@ -688,7 +687,7 @@ zero-limits =
     (yard (limited 0x0 (plain 1 101 102) ∷ []) (edge 101 (at n0 n2 ∷ at n10 n2 ∷ at n20 n2 ∷ []) ∷
     edge 102 (at n0 -n2 ∷ at n10 -n2 ∷ at n20 -n2 ∷ []) ∷ []))
     105 none
-    (changes [] (laneEntity 1 ∷ boundaryEntity 101 ∷ boundaryEntity 102 ∷ []) (laneEntity 2 ∷ boundaryEntity 103 ∷ boundaryEntity 104 ∷ []) [])
+    (changes [] (theLane 1 ∷ theBoundary 101 ∷ theBoundary 102 ∷ []) (theLane 2 ∷ theBoundary 103 ∷ theBoundary 104 ∷ []) [])
 
 zero-limits-holds : Holds zero-limits
 unfolding opened
@@ -701,7 +700,7 @@ one-centreline =
     (e101 ∷ e102 ∷ edge 103 (from n10 n20 n2) ∷ edge 104 (from n10 n20 -n2) ∷ []))) (MergeLanes 1 2)
     (yard (plain 1 101 102 ∷ []) (edge 101 (at n0 n2 ∷ at n10 n2 ∷ at n20 n2 ∷ []) ∷ edge 102 (at n0 -n2 ∷ at n10 -n2 ∷ at n20 -n2 ∷ []) ∷ []))
     105 none
-    (changes [] (laneEntity 1 ∷ boundaryEntity 101 ∷ boundaryEntity 102 ∷ []) (laneEntity 2 ∷ boundaryEntity 103 ∷ boundaryEntity 104 ∷ []) [])
+    (changes [] (theLane 1 ∷ theBoundary 101 ∷ theBoundary 102 ∷ []) (theLane 2 ∷ theBoundary 103 ∷ theBoundary 104 ∷ []) [])
 
 one-centreline-holds : Holds one-centreline
 unfolding opened
@@ -736,7 +735,7 @@ orphan =
     (furnished [] (rule 301 5 [] ∷ []) [] []
     (yard [] []))
     302 none
-    (changes [] (ruleEntity 301 ∷ []) (laneEntity 1 ∷ boundaryEntity 101 ∷ boundaryEntity 102 ∷ []) (orphaning 301 ∷ []))
+    (changes [] (ruleEntity 301 ∷ []) (theLane 1 ∷ theBoundary 101 ∷ theBoundary 102 ∷ []) (orphaning 301 ∷ []))
 
 orphan-holds : Holds orphan
 unfolding opened
@@ -750,7 +749,7 @@ orphan-before =
     (furnished [] (ranking [] (7 ∷ []) (rule 301 3 []) ∷ []) [] []
     (yard [] []))
     302 none
-    (changes [] (ruleEntity 301 ∷ []) (laneEntity 1 ∷ boundaryEntity 101 ∷ boundaryEntity 102 ∷ []) (orphaning 301 ∷ []))
+    (changes [] (ruleEntity 301 ∷ []) (theLane 1 ∷ theBoundary 101 ∷ theBoundary 102 ∷ []) (orphaning 301 ∷ []))
 
 orphan-before-holds : Holds orphan-before
 unfolding opened
@@ -762,7 +761,7 @@ missing-unlisted =
     changing (counting 103 (yard (plain 1 101 102 ∷ []) (e102 ∷ []))) (RemoveLane 1)
     (yard [] [])
     103 none
-    (changes [] [] (laneEntity 1 ∷ boundaryEntity 102 ∷ []) [])
+    (changes [] [] (theLane 1 ∷ theBoundary 102 ∷ []) [])
 
 missing-unlisted-holds : Holds missing-unlisted
 unfolding opened

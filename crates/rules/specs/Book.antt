@@ -60,7 +60,7 @@ entry (DisconnectLanes a b) m cs k = dropPair a b k
 entry (SetNeighbor i side n) m cs k = k
 entry (RemoveLane a) m cs k = λ x y. k x y && not (eqb x a) && not (eqb y a)
 
--- "Refused: nothing."
+-- "Refused, or `set_neighbor`: nothing."
 abbrev pub booked : Command → Map → Answer → Book → Book
 booked c m (refused r) k = k
 booked c m (accepted cs second) k = entry c m cs k

@@ -86,7 +86,7 @@ sorted (e ∷ es) = sortedAfter e es
 unfoldable pub apartFrom : List EntityRef → List EntityRef → Bool
 apartFrom es fs = not (any (λ e. among e fs) es)
 
--- "each accepted edit's created and deleted are exact, modified holds every survivor that differs, the three sorted, without repeats, disjoint"
+-- Demand 3, of an accepted edit: created and deleted are exact, modified holds every survivor that differs, the three sorted, without repeats, disjoint.
 pub record Exact (m : Map) (cs : ChangeSet) (n : Map) : Type 0 where
   pub created-is : cs .created ≡ appeared m n
   pub deleted-is : cs .deleted ≡ vanished m n
@@ -106,7 +106,7 @@ unfoldable pub AllTold : Tolerance → Room → List Call → State → Type 0
 AllTold tol room [] s = s ≡ s
 AllTold tol room (c ∷ cs) s = Told s (stepMap tol room c s) × AllTold tol room cs (stepMap tol room c s .state)
 
--- "the map is what document 01 makes of it call by call, sound, links and neighbours reciprocal; its links are exactly the link book's"
+-- Demand 3, of the whole list: the map is what document 01 makes of it call by call, sound, links and neighbours reciprocal; its links are exactly the link book's.
 pub record Demand3 (tol : Tolerance) (room : Room) (s : State) (calls : List Call) : Type 0 where
   pub stays-sound : sound (after tol room calls s .counter) (after tol room calls s .map) ≡ true
   pub links-reciprocal : (a b : ℕ) → leads-to (after tol room calls s .map) a b ≡ comes-from (after tol room calls s .map) a b

@@ -55,7 +55,7 @@ fitsLists ls cs =
     && leb (length (cs .deleted)) (ls .deleted)
     && leb (length (cs .warnings)) (ls .warnings)
 
--- "Each returns its number and one entity and changes nothing lent."
+-- Each refusal "returns its number and one entity .. and changes nothing lent".
 abbrev pub refusedAs : State → Refusal → Outcome
 refusedAs s r = record { state = s; answer = refused r }
 

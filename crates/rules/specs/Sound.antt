@@ -12,6 +12,8 @@ use Rattle.geometry.specs.Point.{inReach}
 use Rattle.entities.specs.Types.{reciprocal-side}
 use Rattle.rules.specs.Names.{Side, Left, Right, NeighborDirection, Same, Opposite, Neighbor}
 use Rattle.entities.specs.Records.{Line, Lane, Boundary, Road, Junction, Rule, StopLine, Crosswalk, Map}
+use Rattle.rules.specs.Limits.{maxLanes, maxBoundaries, maxRoads, maxJunctions, maxRules, maxStopLines, maxCrosswalks, maxLinePoints, maxPoints, maxLinks, maxIds, lastLaneKind, lastTurn, lastBoundaryKind, lastRuleKind, trafficSign, stopLineRule, rightOfWay, crosswalkRule, otherRule}
+pub use Rattle.rules.specs.Limits.{handleWidth, featureHandleWidth}
 use Rattle.rules.specs.Map.{laneIds, leads-to, comes-from, neighborOn}
 
 -- ---- every line and every id of a map
@@ -89,7 +91,8 @@ linesInReach m = all (all inReach) (lines m)
 
 -- "kinds are legal"; a traffic light or a sign has at most one stop line, a stop-line rule exactly one, a rule of another kind none but for right of way and crosswalk
 abbrev pub stopLinesFit : ℕ → ℕ → Bool
-stopLinesFit kind n = cond (leb kind 1) (leb n 1) (cond (eqb kind 2) (eqb n 1) (cond (eqb kind 5) (eqb n 0) true))
+stopLinesFit kind n =
+    cond (leb kind trafficSign) (leb n 1) (cond (eqb kind stopLineRule) (eqb n 1) (cond (eqb kind otherRule) (eqb n 0) true))
 
 abbrev pub given : Option ℕ → Bool
 given none = false
@@ -97,26 +100,23 @@ given (some i) = true
 
 -- traffic lights have signals, signs their data, rules of another kind that kind
 abbrev pub hasContent : ℕ → Bool
-hasContent kind = leb kind 1 || eqb kind 5
+hasContent kind = leb kind trafficSign || eqb kind otherRule
 
 abbrev pub ruleLegal : Rule → Bool
 ruleLegal r =
-    leb (r .kind) 5
+    leb (r .kind) lastRuleKind
     && (hasContent (r .kind) || eqb (r .content) 0)
     && stopLinesFit (r .kind) (length (r .stop-lines))
-    && (eqb (r .kind) 3 || (eqb (length (r .priority)) 0 && eqb (length (r .yielding)) 0))
-    && (cond (eqb (r .kind) 4) (given (r .crosswalk)) (not (given (r .crosswalk))))
+    && (eqb (r .kind) rightOfWay || (eqb (length (r .priority)) 0 && eqb (length (r .yielding)) 0))
+    && (cond (eqb (r .kind) crosswalkRule) (given (r .crosswalk)) (not (given (r .crosswalk))))
 
 unfoldable pub kindsLegal : Map → Bool
 kindsLegal m =
-    all (λ l. leb (l .kind) 7 && leb (l .turn-direction) 3) (m .lanes)
-    && all (λ b. leb (b .kind) 13) (m .boundaries)
+    all (λ l. leb (l .kind) lastLaneKind && leb (l .turn-direction) lastTurn) (m .lanes)
+    && all (λ b. leb (b .kind) lastBoundaryKind) (m .boundaries)
     && all ruleLegal (m .rules)
 
--- handles are numbers below a width: 2 ^ 16, and 2 ^ 64 for the bits of a speed limit
-abbrev pub handleWidth : ℕ
-handleWidth = 2 ^ 16
-
+-- handles are numbers below their width, the bits of a speed limit below 2 ^ 64
 abbrev pub speedLegal : Option ℕ → Bool
 speedLegal none = true
 speedLegal (some b) = ltb b (2 ^ 64)
@@ -128,14 +128,14 @@ handlesLegal m =
     && all (λ r. ltb (r .name) handleWidth && ltb (r .attributes) handleWidth) (m .roads)
     && all (λ j. ltb (j .name) handleWidth && ltb (j .outline) handleWidth && ltb (j .attributes) handleWidth) (m .junctions)
     && all (λ r. ltb (r .content) handleWidth && ltb (r .attributes) handleWidth) (m .rules)
-    && all (λ s. ltb (s .attributes) handleWidth) (m .stop-lines)
-    && all (λ c. ltb (c .outline) handleWidth && ltb (c .attributes) handleWidth) (m .crosswalks)
+    && all (λ s. ltb (s .attributes) featureHandleWidth) (m .stop-lines)
+    && all (λ c. ltb (c .outline) featureHandleWidth && ltb (c .attributes) featureHandleWidth) (m .crosswalks)
 
 -- "link lists ascend strictly"
 unfoldable pub linksAscend : Map → Bool
 linksAscend m = all (λ l. ascending (l .predecessors) && ascending (l .successors)) (m .lanes)
 
--- "links name present lanes and are reciprocal: b is a successor of a exactly when a is a predecessor of b"
+-- "links and neighbours name present lanes and are reciprocal: b is a successor of a exactly when a is a predecessor of b"
 unfoldable pub linksReciprocal : Map → Bool
 linksReciprocal m =
     all (λ l. all (λ b. comes-from m (l .id) b) (l .successors) && all (λ a. leads-to m a (l .id)) (l .predecessors)) (m .lanes)
@@ -164,27 +164,26 @@ unfoldable pub neighborsReciprocal : Map → Bool
 neighborsReciprocal m =
     all (λ l. slotReturned m (l .id) Left (l .left-neighbor) && slotReturned m (l .id) Right (l .right-neighbor)) (m .lanes)
 
--- ---- limits: "Up to 1,024 lanes, 4,096 boundaries, 256 roads, 256 junctions, 512 rules, 512 stop lines, 128 crosswalks; 256 points a line,
--- 65,536 in all; 16 links each way per lane; 64 ids in any other list"
+-- ---- "counts keep these limits"
 
 abbrev pub idLists : Rule → List (List ℕ)
 idLists r = r .lanes ∷ r .controlled-crosswalks ∷ r .stop-lines ∷ r .priority ∷ r .yielding ∷ []
 
 unfoldable pub withinLimits : Map → Bool
 withinLimits m =
-    leb (length (m .lanes)) 1024
-    && leb (length (m .boundaries)) 4096
-    && leb (length (m .roads)) 256
-    && leb (length (m .junctions)) 256
-    && leb (length (m .rules)) 512
-    && leb (length (m .stop-lines)) 512
-    && leb (length (m .crosswalks)) 128
-    && all (λ c. leb (length c) 256) (lines m)
-    && leb (pointCount m) 65536
-    && all (λ l. leb (length (l .predecessors)) 16 && leb (length (l .successors)) 16) (m .lanes)
-    && all (λ r. leb (length (r .lanes)) 64) (m .roads)
-    && all (λ j. leb (length (j .lanes)) 64) (m .junctions)
-    && all (λ r. all (λ ids. leb (length ids) 64) (idLists r)) (m .rules)
+    leb (length (m .lanes)) maxLanes
+    && leb (length (m .boundaries)) maxBoundaries
+    && leb (length (m .roads)) maxRoads
+    && leb (length (m .junctions)) maxJunctions
+    && leb (length (m .rules)) maxRules
+    && leb (length (m .stop-lines)) maxStopLines
+    && leb (length (m .crosswalks)) maxCrosswalks
+    && all (λ c. leb (length c) maxLinePoints) (lines m)
+    && leb (pointCount m) maxPoints
+    && all (λ l. leb (length (l .predecessors)) maxLinks && leb (length (l .successors)) maxLinks) (m .lanes)
+    && all (λ r. leb (length (r .lanes)) maxIds) (m .roads)
+    && all (λ j. leb (length (j .lanes)) maxIds) (m .junctions)
+    && all (λ r. all (λ ids. leb (length ids) maxIds) (idLists r)) (m .rules)
 
 -- "A map is sound when .."
 unfoldable pub sound : ℕ → Map → Bool

@@ -78,7 +78,7 @@ lengthsOf t =
 -- "Demand 3 is a single claim about the whole list of calls": beside the list on lent memory runs the same list on the map that was held at first,
 -- with the room of the lent lengths, and never looks at the memory again.
 pub record TableDemand3 (tol : Tolerance) (h : Held) (cs : List Lending) : Type 0 where
-  -- "the map is what document 01 makes of it call by call": the map held at the end, the map held after each call, and all that each call leaves and answers
+  -- The map is what document 01 makes of it call by call: the map held at the end, the map held after each call, and all that each call leaves and answers
   pub map-left : mapIn (heldAfter tol cs h) ≡ O.after tol (roomOf (h .tables)) (map (callOn h) cs) (mapIn h)
   pub maps-left : map (λ e. stateOf (e .lent)) (runTables tol cs h) ≡ map (λ o. o .state) (O.run tol (roomOf (h .tables)) (map (callOn h) cs) (mapIn h))
   pub calls-closed : runTables tol cs h ≡ closings cs (O.run tol (roomOf (h .tables)) (map (callOn h) cs) (mapIn h)) h

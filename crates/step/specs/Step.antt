@@ -47,7 +47,7 @@ stateOf l = record { map = view (l .tables); counter = l .counter }
 
 -- ---- one call
 
--- "Each returns its number and one entity and changes nothing lent."
+-- Each refusal "returns its number and one entity .. and changes nothing lent".
 abbrev pub refusing : Lent → Refusal → Ended
 refusing l r = record { lent = l; answer = Refused r }
 

@@ -2,15 +2,16 @@
 use mathlib.Core.Path.{_≡_, refl, sym, ap, _∙_}
 use Prim.Native.Nat.{ℕ, suc, _+_, _-_, _≤_, _<_}
 use native.Mathlib.Omega.{arith}
-use mathlib.Core.Bool.{not}
+use mathlib.Core.Bool.{Bool, true, false, not}
 use mathlib.Core.List.{List, [], _∷_, _++_, append-assoc}
 use lib.Dec.{eqb}
 use lib.ListN.{length, getD, set, take, drop, length-drop, take-append-drop}
 use lib.Seq.{drop-drop, length-take-le, take-take}
 use borrow.Rule.Slice.PartMut.{midOf, putMid, post-is}
 use Rattle.lists.specs.Rows.{over}
-use Rattle.lists.specs.Select.{without}
-use Rattle.lists.proofs.Rows.{drop-front, length-over, store-before}
+use Rattle.lists.specs.Select.{has, place, without, ascending}
+use Rattle.lists.proofs.Rows.{drop-front, length-over, store-before, over-part, over-itself, over-kept}
+use Rattle.lists.proofs.Place.{place-present, length-place}
 use Rattle.lists.proofs.Select.{length-keep, length-without}
 use Rattle.tables.specs.View.{word, idsAt}
 use Rattle.store.specs.Rows.{setList}
@@ -58,6 +59,74 @@ module _ (t v ids : List ℕ) (a m : ℕ) (r : a + 1 + m ≤ length t) (h : leng
       ap (λ z. set z a x) slots-put
       ∙ (store-before t a v x (omega (arith, slots-many)) ∙ (ap (λ z. over t a (x ∷ z)) slots-are ∙ slots-again t ids a x m (omega arith) h))
 
+-- the list at k of a row that holds it
+module _ (t : List ℕ) (k : ℕ) (room : k + 1 + word k t ≤ length t) where
+  pub ids-many : length (idsAt k t) ≡ word k t
+  ids-many = length-take-le (word k t) (drop (suc k) t) (rw length-drop (omega arith))
+
+  -- as a part with m slots holds it
+  pub ids-part : (m : ℕ) → word k t ≤ m → take (word k t) (midOf (k + 1) (k + 1 + m - (k + 1)) t) ≡ idsAt k t
+  ids-part m h =
+      let n = word k t in
+      let z : k + 1 + m - (k + 1) ≡ m = omega arith in
+      let s : k + 1 ≡ suc k = omega arith in
+      ap (λ j. take n (take j (drop (k + 1) t))) z ∙ (take-take n m (drop (k + 1) t) h ∙ ap (λ j. take n (drop j t)) s)
+
+  pub own-list : setList k (idsAt k t) t ≡ t
+  unfolding setList
+  own-list =
+      let ids = idsAt k t in
+      let s : k + 1 ≡ suc k = omega arith in
+      let z : suc k + 0 ≡ suc k = omega arith in
+      let m : word k t ≤ length (drop (suc k) t) = rw length-drop (omega arith) in
+      let kept : over t (suc k) ids ≡ t =
+      ap (λ j. over t j ids) (sym z)
+      ∙ (sym (over-part t (suc k) 0 ids (omega arith)) ∙ (ap (λ w. take (suc k) t ++ w) (over-itself (drop (suc k) t) (word k t) m) ∙ take-append-drop (suc k) t)) in
+      ap (λ j. over t k (j ∷ ids)) ids-many ∙ (sym (over-kept t k ids 0 (omega (arith, ids-many))) ∙ (ap (λ j. over t j ids) s ∙ kept))
+
+  -- an id that stands in it, and one that does not, put in its place
+  module _ (id : ℕ) (up : ascending (idsAt k t) ≡ true) (b : Bool) (be : b ≡ has id (take (k + 1 + word k t - (k + 1)) (drop (k + 1) t))) where
+    held : b ≡ has id (idsAt k t)
+    held =
+        let z : k + 1 + word k t - (k + 1) ≡ word k t = omega arith in
+        let s : k + 1 ≡ suc k = omega arith in
+        be ∙ (ap (λ j. has id (take j (drop (k + 1) t))) z ∙ ap (λ j. has id (take (word k t) (drop j t))) s)
+
+    pub placed-old : b ≡ true → t ≡ setList k (place id (idsAt k t)) t
+    placed-old e = sym (ap (λ ids. setList k ids t) (place-present id (idsAt k t) up (sym held ∙ e)) ∙ own-list)
+
+    module _ (e : b ≡ false) (free : has id (idsAt k t) ≡ false → k + 1 + word k t < length t) where
+      lacks : has id (idsAt k t) ≡ false
+      lacks = sym held ∙ e
+
+      pub place-room : k + 1 + (word k t + 1) ≤ length t
+      place-room = omega (arith, free lacks)
+
+      abbrev slots : List ℕ
+      slots = midOf (k + 1) (k + 1 + (word k t + 1) - (k + 1)) t
+
+      same : take (word k t) slots ≡ idsAt k t
+      same = ids-part (word k t + 1) (omega arith)
+
+      pub place-may : (word k t < length slots) × ((ascending (take (word k t) slots) ≡ true) × (has id (take (word k t) slots) ≡ false))
+      place-may =
+          let z : k + 1 + (word k t + 1) - (k + 1) ≡ word k t + 1 = omega arith in
+          let l : length slots ≡ word k t + 1 = rw z (length-take-le (word k t + 1) (drop (k + 1) t) (rw length-drop (omega (arith, place-room)))) in
+          (omega arith, (ap ascending same ∙ up, ap (has id) same ∙ lacks))
+
+      pub placed-new : (v : List ℕ) → v ≡ over slots 0 (place id (take (word k t) slots))
+          → set (putMid (k + 1) (k + 1 + (word k t + 1) - (k + 1)) t v) k (word k t + 1) ≡ setList k (place id (idsAt k t)) t
+      unfolding setList
+      placed-new v q =
+          let ids = place id (idsAt k t) in
+          let l : length ids ≡ word k t + 1 = omega (arith, length-place id (idsAt k t) lacks, ids-many) in
+          list-put t v ids k (word k t + 1) place-room (omega arith) (q ∙ ap (λ x. over slots 0 (place id x)) same) (word k t + 1) ∙ ap (λ x. over t k (x ∷ ids)) (sym l)
+
+-- ids written behind their count
+pub list-copied : (t ids : List ℕ) (k : ℕ) → k + 1 + length ids ≤ length t → (v : List ℕ) → v ≡ over t (k + 1) ids → set v k (length ids) ≡ setList k ids t
+unfolding setList
+list-copied t ids k room v e = ap (λ w. set w k (length ids)) e ∙ store-before t k ids (length ids) room
+
 -- an id taken out of the list at k
 pub list-without : (t v : List ℕ) (k id r : ℕ) → k + 1 + word k t ≤ length t
     → r ≡ length (without id (take (word k t) (midOf (k + 1) (k + 1 + word k t - (k + 1)) t)))
@@ -66,11 +135,7 @@ pub list-without : (t v : List ℕ) (k id r : ℕ) → k + 1 + word k t ≤ leng
 unfolding setList
 list-without t v k id r room q e =
     let n = word k t in
-    let z : k + 1 + n - (k + 1) ≡ n = omega arith in
-    let s : k + 1 ≡ suc k = omega arith in
-    let same : take n (midOf (k + 1) (k + 1 + n - (k + 1)) t) ≡ idsAt k t =
-    ap (λ m. take n (take m (drop (k + 1) t))) z ∙ (take-take n n (drop (k + 1) t) (omega arith) ∙ ap (λ m. take n (drop m t)) s) in
-    let l : length (idsAt k t) ≡ n = length-take-le n (drop (suc k) t) (rw length-drop (omega arith)) in
-    let few : length (without id (idsAt k t)) ≤ n = omega (arith, length-without id (idsAt k t), l) in
+    let same = ids-part t k room n (omega arith) in
+    let few : length (without id (idsAt k t)) ≤ n = omega (arith, length-without id (idsAt k t), ids-many t k room) in
     list-put t v (without id (idsAt k t)) k n room few (e ∙ ap (λ x. over (midOf (k + 1) (k + 1 + n - (k + 1)) t) 0 (without id x)) same) r
     ∙ ap (λ x. over t k (x ∷ without id (idsAt k t))) (q ∙ ap (λ x. length (without id x)) same)
