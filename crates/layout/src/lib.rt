@@ -31,7 +31,7 @@ const MEDIUM: usize = 8192;
 const LARGE: usize = 65536;
 
 // n floats from place `start` on, written from place `at` on.
-fn copy(from: &[f64], start: usize, n: usize, out: &mut [f64], at: usize)
+pub fn copy(from: &[f64], start: usize, n: usize, out: &mut [f64], at: usize)
     requires { ⌜ (start + n ≤ length (now from)) × (at + n ≤ length (now out)) ⌝ }
     ensures { λ _. ⌜ now (out .exit) ≡ over (now (out .entry)) at (take n (drop start (now (from .entry)))) ⌝ }
 {

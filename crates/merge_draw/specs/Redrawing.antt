@@ -1,98 +1,66 @@
 -- What a merge writes to the tables with lines, in words. Nothing that a host calls rests on this page; the laws in proofs/ tie it to `laid` and the rules.
-use Prim.Native.Nat.{ℕ, _+_}
-use mathlib.Core.Bool.{Bool, true, false, cond}
-use mathlib.Core.List.{List, [], _∷_, _++_}
-use mathlib.Core.Option.{Option, none, some}
-use lib.Dec.{eqb}
-use lib.ListN.{length, set}
+use Prim.Native.Nat.{ℕ, _<_, _≤_}
+use mathlib.Core.Path.{_≡_}
+use mathlib.Core.Bool.{Bool, true, cond}
+use mathlib.Core.List.{List, [], _∷_, reverse}
+use lib.ListN.{length}
+use lib.Ieee.{Float}
 use Rattle.lists.specs.Rows.{over}
-use Rattle.lists.specs.Select.{has, place}
-use Rattle.entities.specs.Records.{Boundary}
-use Rattle.rules.specs.Names.{BoundaryRef}
-use Rattle.rules.specs.Merge.{SidePlan, kept, in-place, fresh}
-use Rattle.tables.specs.View.{word, idsAt}
-use Rattle.store.specs.Rows.{setList, keptRows, onRows, appendedRows}
-use Rattle.naming.specs.declared.Rows.the-variants.{Lanes}
-use Rattle.naming.specs.Naming.{forgets}
-use Rattle.merge_draw.specs.declared.Way.{Way}
-use Rattle.merge_draw.specs.declared.Way.the-variants.{Stays, Redraws, Adds}
-use Rattle.merge_draw.specs.declared.Center.{Center}
-use Rattle.merge_draw.specs.declared.Center.the-variants as C
+use Rattle.polyline.specs.Polyline.{concat}
+use Rattle.entities.specs.Records.{Line}
+use Rattle.rules.specs.Names.{Side}
+use Rattle.tables.specs.View.{word, mark, lineAt}
+use Rattle.lookup.specs.Lookup.{rowAt, pointsOf, sortedTable, sideLine, centersStored, Drawable}
+use Rattle.store.specs.Rows.{keyed}
+use Rattle.lookup.specs.declared.OptionCount.{OptionCount}
+use Rattle.lookup.specs.declared.OptionCount.the-variants.{None, Some}
+
+-- ---- lines
+
+-- how many points are counted
+abbrev pub countIn : OptionCount → ℕ
+countIn None = 0
+countIn (Some n) = n
+
+-- the lines of two lanes' boundaries on a side along the lanes, joined; the lanes are in rows i and j
+abbrev pub joinedSide : Float → List Float → List ℕ → List ℕ → ℕ → ℕ → Side → Line
+joinedSide join c lanes boundaries i j side = concat join (pointsOf (sideLine c lanes boundaries i side)) (pointsOf (sideLine c lanes boundaries j side))
+
+-- a line as it is stored: backwards where the lane runs against it
+abbrev pub storedLine : Bool → Line → Line
+storedLine back l = cond back (reverse l) l
+
+-- what drawing asks: rows i and j of lanes, and room for the longest joined line
+pub record Joinable (lanes boundaries : List ℕ) (i j : ℕ) (c out : List Float) : Type 0 where
+  pub drawable : Drawable lanes boundaries c
+  pub first : i < word 0 lanes
+  pub second : j < word 0 lanes
+  pub room : 1536 ≤ length out
+
+-- the explicit centrelines in rows i and j, joined
+abbrev pub joinedCenters : Float → List Float → List ℕ → ℕ → ℕ → Line
+joinedCenters join c lanes i j = concat join (lineAt c 7 (rowAt 52 lanes i)) (lineAt c 7 (rowAt 52 lanes j))
+
+-- both lanes have one
+pub record Centered (lanes : List ℕ) (i j : ℕ) (c out : List Float) : Type 0 where
+  pub sorted : sortedTable 1024 52 lanes ≡ true
+  pub centers : centersStored c lanes ≡ true
+  pub first : i < word 0 lanes
+  pub second : j < word 0 lanes
+  pub first-has : mark 6 (rowAt 52 lanes i) ≡ true
+  pub second-has : mark 6 (rowAt 52 lanes j) ≡ true
+  pub room : 1536 ≤ length out
 
 -- ---- boundaries
 
--- what a side's plan does to the boundaries, its line lying at point `start` of the work array; x is the first lane's boundary, `next` the new one's id
-abbrev pub wayOf : SidePlan → ℕ → ℕ → ℕ → Option Boundary → Way
-wayOf kept id next start x = Stays
-wayOf (in-place c) id next start x = Redraws id start (length c)
-wayOf (fresh c) id next start none = Stays
-wayOf (fresh c) id next start (some x) = Adds next (x .kind) (x .attributes) start (length c)
-
--- how many points its line has
-abbrev pub waySize : Way → ℕ
-waySize Stays = 0
-waySize (Redraws id start n) = n
-waySize (Adds id kind attributes start n) = n
-
--- it draws boundary i anew
-abbrev pub redraws : Way → ℕ → Bool
-redraws Stays i = false
-redraws (Redraws id start n) i = eqb id i
-redraws (Adds id kind attributes start n) i = false
-
-abbrev pub waySpan : Way → List ℕ
-waySpan Stays = []
-waySpan (Redraws id start n) = start ∷ n ∷ []
-waySpan (Adds id kind attributes start n) = start ∷ n ∷ []
-
--- a boundary's row that points to its line; where both sides draw it the right one's line stands
-unfoldable pub spanned : Way → Way → List ℕ → List ℕ
-spanned left right w = cond (redraws right (word 0 w)) (over w 2 (waySpan right)) (cond (redraws left (word 0 w)) (over w 2 (waySpan left)) w)
+-- the row of boundary `id` points to its line
+abbrev pub pointedRow : ℕ → ℕ → ℕ → List ℕ → List ℕ
+pointedRow id start size = keyed id (λ w. over w 2 (start ∷ size ∷ []))
 
 -- the row of a new boundary
-abbrev pub addedRows : Way → List (List ℕ)
-addedRows Stays = []
-addedRows (Redraws id start n) = []
-addedRows (Adds id kind attributes start n) = (id ∷ kind ∷ start ∷ n ∷ attributes ∷ []) ∷ []
+abbrev pub boundaryRow : ℕ → ℕ → ℕ → ℕ → ℕ → List ℕ
+boundaryRow id kind start size attributes = id ∷ kind ∷ start ∷ size ∷ attributes ∷ []
 
 -- rows as they are given
 abbrev pub asGiven : List ℕ → List ℕ → List ℕ
 asGiven w r = r
-
--- the boundary table: those that are gone leave, those joined in place point to their lines, new ones come last
-unfoldable pub boundariesAfter : List ℕ → Way → Way → List ℕ → List ℕ
-boundariesAfter gone left right t =
-    appendedRows 5 asGiven (addedRows left ++ addedRows right) (onRows 5 (spanned left right) (keptRows 5 (λ i. cond (has i gone) false true) t))
-
--- ---- lanes
-
--- a reference to a new boundary is forward
-abbrev pub refOnto : ℕ → Way → List ℕ → List ℕ
-refOnto k Stays w = w
-refOnto k (Redraws id start n) w = w
-refOnto k (Adds id kind attributes start n) w = over w k (id ∷ 0 ∷ [])
-
--- an explicit centreline that is dropped leaves its words
-abbrev pub centerOnto : Center → List ℕ → List ℕ
-centerOnto C.None w = set w 6 0
-centerOnto (C.Some start n) w = over w 6 (1 ∷ start ∷ n ∷ [])
-
--- every lane forgets the second; who came from it comes from the first
-abbrev pub comesFrom : ℕ → ℕ → List ℕ → List ℕ
-comesFrom first second w =
-    let f = forgets Lanes second w in
-    cond (has second (idsAt 18 w)) (setList 18 (place first (idsAt 18 f)) f) f
-
--- the first takes the second's successors, the new boundaries and the joined centreline
-abbrev pub takesOver : Way → Way → Center → List ℕ → List ℕ → List ℕ
-takesOver left right center succ w = setList 35 succ (centerOnto center (refOnto 4 right (refOnto 2 left w)))
-
-unfoldable pub rowMerged : ℕ → ℕ → Way → Way → Center → List ℕ → List ℕ → List ℕ
-rowMerged first second left right center succ w =
-    let f = comesFrom first second w in
-    cond (eqb (word 0 w) first) (takesOver left right center succ f) f
-
--- the lane table
-unfoldable pub lanesAfter : ℕ → ℕ → Way → Way → Center → List ℕ → List ℕ → List ℕ
-lanesAfter first second left right center succ t =
-    onRows 52 (rowMerged first second left right center succ) (keptRows 52 (λ i. cond (eqb i second) false true) t)

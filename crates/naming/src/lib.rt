@@ -219,7 +219,7 @@ fn free(row: &mut [u64], k: usize, id: u64)
     }
 }
 
-fn forget_lane(row: &mut [u64], id: u64)
+pub fn forget_lane(row: &mut [u64], id: u64)
     requires { ⌜ (length (now row) ≡ 52) × (laneFormed (now row) ≡ true) ⌝ }
     ensures { λ _. ⌜ now (row .exit) ≡ N.laneForgets id (now (row .entry)) ⌝ }
 {
