@@ -1,13 +1,26 @@
 // edit/merge.rs: the lines, boundaries and lanes of a merge, written once all is decided. New lines are drawn into an array of work behind a copy of the
 // coordinates, the rows point there, and the layout brings every line to its place.
 ghost use mathlib.Core.Path.{_≡_};
-ghost use Prim.Native.Nat.{_≤_};
+ghost use mathlib.Core.Bool.{true};
+ghost use mathlib.Core.List.{[], _∷_};
+ghost use Prim.Native.Nat.{_+_, _*_, _≤_};
 ghost use lib.ListN.{length};
 ghost use Rattle.lists.specs.Rows.{over};
 ghost use Rattle.polyline.specs.Polyline.{flat};
+ghost use Rattle.tables.specs.View.{word};
+ghost use Rattle.tables.specs.Formed.{counted};
+ghost use Rattle.store.specs.Rows.{onRows, appendedRows};
 ghost use Rattle.merge_draw.specs.Redrawing as D;
 use entities::Side;
 use lookup::OptionCount;
+use tables::BOUNDARY;
+use tables::BOUNDARY_ATTRIBUTES;
+use tables::BOUNDARY_ID;
+use tables::BOUNDARY_KIND;
+use tables::BOUNDARY_SIZE;
+use tables::BOUNDARY_START;
+use tables::LANE;
+use tables::LANE_CENTERLINE;
 use tables::POINT;
 
 // Floats in the longest line, of 256 points, and in two of them joined.
@@ -86,4 +99,66 @@ pub fn join_side(
         &mut line,
         out,
     )
+}
+
+// The explicit centrelines of two lanes, joined; both lanes have one.
+pub fn join_center(
+    join: f64,
+    lanes: &[u64],
+    i: usize,
+    j: usize,
+    coordinates: &[f64],
+    out: &mut [f64],
+) -> usize
+    requires { ⌜ D.Centered (now lanes) i j (now coordinates) (now out) ⌝ }
+    ensures { λ r. ⌜ (r ≡ length (D.joinedCenters join (now (coordinates .entry)) (now (lanes .entry)) i j)) × (now (out .exit) ≡ over (now (out .entry)) 0 (flat (D.joinedCenters join (now (coordinates .entry)) (now (lanes .entry)) i j))) ⌝ }
+{
+    let a = 1 + i * LANE + LANE_CENTERLINE;
+    let b = 1 + j * LANE + LANE_CENTERLINE;
+    let one = lookup::line_of(lanes, a + 1, coordinates);
+    let two = lookup::line_of(lanes, b + 1, coordinates);
+    polyline::concat(join, one, two, out)
+}
+
+// ---- boundaries
+
+// The row of a boundary lets it point to its line.
+fn point_row(row: &mut [u64], id: u64, start: usize, size: usize)
+    requires { ⌜ length (now row) ≡ 5 ⌝ }
+    ensures { λ _. ⌜ now (row .exit) ≡ D.pointedRow id start size (now (row .entry)) ⌝ }
+{
+    if row[BOUNDARY_ID] == id {
+        row[BOUNDARY_START] = start as u64;
+        row[BOUNDARY_SIZE] = size as u64;
+    }
+}
+
+// The boundary with an id points to its line.
+pub fn point_boundary(t: &mut [u64], id: u64, start: usize, size: usize)
+    requires { ⌜ counted 4096 5 (now t) ≡ true ⌝ }
+    ensures { λ _. ⌜ now (t .exit) ≡ onRows 5 (D.pointedRow id start size) (now (t .entry)) ⌝ }
+{
+    let n = t[0] as usize;
+    let mut i = 0;
+    while i < n {
+        let at = 1 + i * BOUNDARY;
+        let end = at + BOUNDARY;
+        point_row(&mut t[at..end], id, start, size);
+        i += 1;
+    }
+}
+
+// A new boundary behind the last row.
+pub fn add_boundary(t: &mut [u64], id: u64, kind: u64, start: usize, size: usize, attributes: u64)
+    requires { ⌜ 1 + (word 0 (now t) + 1) * 5 ≤ length (now t) ⌝ }
+    ensures { λ _. ⌜ now (t .exit) ≡ appendedRows 5 D.asGiven (D.boundaryRow id kind start size attributes ∷ []) (now (t .entry)) ⌝ }
+{
+    let n = t[0] as usize;
+    let at = 1 + n * BOUNDARY;
+    t[0] = (n + 1) as u64;
+    t[at] = id;
+    t[at + BOUNDARY_KIND] = kind;
+    t[at + BOUNDARY_START] = start as u64;
+    t[at + BOUNDARY_SIZE] = size as u64;
+    t[at + BOUNDARY_ATTRIBUTES] = attributes;
 }
