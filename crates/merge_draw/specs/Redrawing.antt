@@ -3,15 +3,20 @@ use Prim.Native.Nat.{ℕ, _<_, _≤_}
 use mathlib.Core.Path.{_≡_}
 use mathlib.Core.Bool.{Bool, true, cond}
 use mathlib.Core.List.{List, [], _∷_, reverse}
+use lib.Dec.{eqb}
 use lib.ListN.{length}
 use lib.Ieee.{Float}
 use Rattle.lists.specs.Rows.{over}
 use Rattle.polyline.specs.Polyline.{concat}
 use Rattle.entities.specs.Records.{Line}
 use Rattle.rules.specs.Names.{Side}
-use Rattle.tables.specs.View.{word, mark, lineAt}
+use Rattle.lists.specs.Select.{has, place, ascending}
+use Rattle.tables.specs.View.{word, mark, idsAt, lineAt}
+use Rattle.tables.specs.Formed.{laneFormed}
+use Rattle.naming.specs.Naming.{laneForgets}
 use Rattle.lookup.specs.Lookup.{rowAt, pointsOf, sortedTable, sideLine, centersStored, Drawable}
-use Rattle.store.specs.Rows.{keyed}
+use Rattle.store.specs.Rows.{keyed, setList}
+use Rattle.merge_draw.specs.declared.Taken.{Taken}
 use Rattle.lookup.specs.declared.OptionCount.{OptionCount}
 use Rattle.lookup.specs.declared.OptionCount.the-variants.{None, Some}
 
@@ -64,3 +69,30 @@ boundaryRow id kind start size attributes = id ∷ kind ∷ start ∷ size ∷ a
 -- rows as they are given
 abbrev pub asGiven : List ℕ → List ℕ → List ℕ
 asGiven w r = r
+
+-- ---- lanes
+
+-- a lane's row whose predecessors ascend
+abbrev pub Linked : List ℕ → Type 0
+Linked w = (length w ≡ 52) × ((laneFormed w ≡ true) × (ascending (idsAt 18 w) ≡ true))
+
+-- every lane forgets the second; who came from it comes from the first
+abbrev pub comesFrom : ℕ → ℕ → List ℕ → List ℕ
+comesFrom first second w = let f = laneForgets second w in cond (has second (idsAt 18 w)) (setList 18 (place first (idsAt 18 f)) f) f
+
+-- a reference to a new boundary, which is forward
+abbrev pub refOnto : Bool → ℕ → ℕ → List ℕ → List ℕ
+refOnto on k id w = cond on (over w k (id ∷ 0 ∷ [])) w
+
+-- an explicit centreline; one that is dropped leaves its words
+abbrev pub centerOnto : Bool → ℕ → ℕ → List ℕ → List ℕ
+centerOnto on start size w = cond on (over w 6 (1 ∷ start ∷ size ∷ [])) (over w 6 (0 ∷ []))
+
+-- the first takes the new boundaries, the joined centreline and the second's successors
+abbrev pub takesOver : Taken → List ℕ → List ℕ → List ℕ
+takesOver k succ w =
+    setList 35 succ (centerOnto (k .center) (k .start) (k .size) (refOnto (k .right) 4 (k .other) (refOnto (k .left) 2 (k .boundary) w)))
+
+-- a lane's row after the merge
+abbrev pub rowMerged : ℕ → ℕ → Taken → List ℕ → List ℕ → List ℕ
+rowMerged first second k succ w = let f = comesFrom first second w in cond (eqb (word 0 w) first) (takesOver k succ f) f

@@ -21,12 +21,31 @@ use tables::BOUNDARY_SIZE;
 use tables::BOUNDARY_START;
 use tables::LANE;
 use tables::LANE_CENTERLINE;
+use tables::LANE_CENTERLINE_SIZE;
+use tables::LANE_CENTERLINE_START;
+use tables::LANE_ID;
+use tables::LANE_LEFT;
+use tables::LANE_RIGHT;
 use tables::POINT;
+use tables::PREDECESSORS;
+use tables::SUCCESSORS;
 
 // Floats in the longest line, of 256 points, and in two of them joined.
 const LINE_FLOATS: usize = 768;
 
 const JOINED_FLOATS: usize = 1536;
+
+// What the first lane takes over, each where there is one: a new boundary on the left and another on the right, and the joined centreline, which lies at a
+// point of the work array.
+pub struct Taken {
+    pub left: bool,
+    pub boundary: u64,
+    pub right: bool,
+    pub other: u64,
+    pub center: bool,
+    pub start: usize,
+    pub size: usize,
+}
 
 // ---- lines
 
@@ -161,4 +180,66 @@ pub fn add_boundary(t: &mut [u64], id: u64, kind: u64, start: usize, size: usize
     t[at + BOUNDARY_START] = start as u64;
     t[at + BOUNDARY_SIZE] = size as u64;
     t[at + BOUNDARY_ATTRIBUTES] = attributes;
+}
+
+// ---- lanes
+
+// A lane's row without the second; who came from it comes from the first.
+fn relink_row(row: &mut [u64], first: u64, second: u64)
+    requires { ⌜ D.Linked (now row) ⌝ }
+    ensures { λ _. ⌜ now (row .exit) ≡ D.comesFrom first second (now (row .entry)) ⌝ }
+{
+    let came = naming::lists_lane(row, PREDECESSORS, second);
+    naming::forget_lane(row, second);
+    if came {
+        store::place(row, PREDECESSORS, first);
+    }
+}
+
+// A new boundary at place k of a lane's row.
+fn put_ref(row: &mut [u64], on: bool, k: usize, id: u64)
+    requires { ⌜ k + 2 ≤ length (now row) ⌝ }
+    ensures { λ _. ⌜ now (row .exit) ≡ D.refOnto on k id (now (row .entry)) ⌝ }
+{
+    if on {
+        row[k] = id;
+        row[k + 1] = 0;
+    }
+}
+
+// The joined centreline in a lane's row, or none.
+fn put_center(row: &mut [u64], on: bool, start: usize, size: usize)
+    requires { ⌜ length (now row) ≡ 52 ⌝ }
+    ensures { λ _. ⌜ now (row .exit) ≡ D.centerOnto on start size (now (row .entry)) ⌝ }
+{
+    if on {
+        row[LANE_CENTERLINE] = 1;
+        row[LANE_CENTERLINE_START] = start as u64;
+        row[LANE_CENTERLINE_SIZE] = size as u64;
+    } else {
+        row[LANE_CENTERLINE] = 0;
+    }
+}
+
+// The first lane's row.
+fn take_over(row: &mut [u64], taken: Taken, successors: &[u64])
+    requires { ⌜ (length (now row) ≡ 52) × (length (now successors) ≤ 16) ⌝ }
+    ensures { λ _. ⌜ now (row .exit) ≡ D.takesOver taken (now (successors .entry)) (now (row .entry)) ⌝ }
+{
+    put_ref(row, taken.left, LANE_LEFT, taken.boundary);
+    put_ref(row, taken.right, LANE_RIGHT, taken.other);
+    put_center(row, taken.center, taken.start, taken.size);
+    store::put_list(row, SUCCESSORS, successors);
+}
+
+// A lane's row after the merge.
+fn merge_row(row: &mut [u64], first: u64, second: u64, taken: Taken, successors: &[u64])
+    requires { ⌜ (D.Linked (now row)) × (length (now successors) ≤ 16) ⌝ }
+    ensures { λ _. ⌜ now (row .exit) ≡ D.rowMerged first second taken (now (successors .entry)) (now (row .entry)) ⌝ }
+{
+    let id = row[LANE_ID];
+    relink_row(row, first, second);
+    if id == first {
+        take_over(row, taken, successors);
+    }
 }

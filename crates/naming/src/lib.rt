@@ -69,7 +69,7 @@ fn row_kind(rows: Rows) -> EntityKind
 // ---- a row that names a lane
 
 // Whether the list at place k of a row has an id.
-fn lists_lane(row: &[u64], k: usize, id: u64) -> bool
+pub fn lists_lane(row: &[u64], k: usize, id: u64) -> bool
     requires { ⌜ k + 1 + word k (now row) ≤ length (now row) ⌝ }
     ensures { λ r. ⌜ r ≡ has id (idsAt k (now (row .entry))) ⌝ }
 {
