@@ -24,7 +24,9 @@ use Rattle.store.proofs.Turns.{drop-behind}
 use Rattle.naming.specs.Naming.{slotNames, freeAt, forgetAt, laneForgets}
 use Rattle.naming.proofs.Going.{lane-length, forget-length}
 use Rattle.merge_draw.specs.declared.Taken.{Taken}
-use Rattle.merge_draw.specs.Redrawing.{Linked, comesFrom, refOnto, centerOnto, takesOver, rowMerged}
+use Rattle.merge_draw.specs.Redrawing.{Linked, comesFrom, refOnto, centerOnto, takesOver, rowMerged, LanesLinked}
+use Rattle.lookup.specs.Lookup.{rowAt}
+use Rattle.merge_draw.proofs.Turns.{Keeping}
 
 -- ---- a counted list in a row
 
@@ -133,10 +135,13 @@ module _ (w : List ℕ) (first second : ℕ) (f : Linked w) where
 
     pub place-asks : (19 + word 18 x ≤ length x) × ((ascending (idsAt 18 x) ≡ true) × (has first (idsAt 18 x) ≡ false → 19 + word 18 x < length x))
     unfolding without
-    place-asks =
-        (omega (arith, few, forgets-long),
-          (ap ascending (ap (idsAt 18) e ∙ forgot-before w second (f .0, f .1 .0) .1) ∙ ascending-keep (λ y. not (eqb second y)) (idsAt 18 w) (f .1 .1),
-            λ h. omega (arith, few, forgets-long)))
+    place-asks = (
+      omega (arith, few, forgets-long),
+      (
+        ap ascending (ap (idsAt 18) e ∙ forgot-before w second (f .0, f .1 .0) .1) ∙ ascending-keep (λ y. not (eqb second y)) (idsAt 18 w) (f .1 .1),
+        λ h. omega (arith, few, forgets-long),
+      ),
+    )
 
     module _ (b : Bool) (be : b ≡ has second (idsAt 18 w)) where
       pub came : b ≡ true → (y : List ℕ) → y ≡ setList 18 (place first (idsAt 18 x)) x → y ≡ comesFrom first second w
@@ -259,3 +264,12 @@ module _ (w : List ℕ) (first second : ℕ) (k : Taken) (ids : List ℕ) (f : L
       go : (b : Bool) → length (cond b (takesOver k ids (comesFrom first second w)) (comesFrom first second w)) ≡ 52
       go true = taken-long (comesFrom first second w) k ids comes-long few
       go false = comes-long
+
+-- ---- every row of a table
+
+module _ (t : List ℕ) (first second : ℕ) (k : Taken) (ids : List ℕ) (f : LanesLinked t) (few : length ids ≤ 16) where
+  pub merged-keeps : Keeping 52 (rowMerged first second k ids) t
+  merged-keeps j l = merged-long (rowAt 52 t j) first second k ids (f .rows j l) few
+
+pub row-asks : (t ids : List ℕ) → LanesLinked t → length ids ≤ 16 → (j : ℕ) → j < word 0 t → (r : List ℕ) → r ≡ rowAt 52 t j → (Linked r) × (length ids ≤ 16)
+row-asks t ids f few j l r e = rw e (f .rows j l, few)

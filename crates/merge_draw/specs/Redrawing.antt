@@ -12,7 +12,7 @@ use Rattle.entities.specs.Records.{Line}
 use Rattle.rules.specs.Names.{Side}
 use Rattle.lists.specs.Select.{has, place, ascending}
 use Rattle.tables.specs.View.{word, mark, idsAt, lineAt}
-use Rattle.tables.specs.Formed.{laneFormed}
+use Rattle.tables.specs.Formed.{counted, laneFormed}
 use Rattle.naming.specs.Naming.{laneForgets}
 use Rattle.lookup.specs.Lookup.{rowAt, pointsOf, sortedTable, sideLine, centersStored, Drawable}
 use Rattle.store.specs.Rows.{keyed, setList}
@@ -96,3 +96,8 @@ takesOver k succ w =
 -- a lane's row after the merge
 abbrev pub rowMerged : ℕ → ℕ → Taken → List ℕ → List ℕ → List ℕ
 rowMerged first second k succ w = let f = comesFrom first second w in cond (eqb (word 0 w) first) (takesOver k succ f) f
+
+-- what the rows of a lane table ask
+pub record LanesLinked (t : List ℕ) : Type 0 where
+  pub counts : counted 1024 52 t ≡ true
+  pub rows : (j : ℕ) → j < word 0 t → Linked (rowAt 52 t j)

@@ -243,3 +243,18 @@ fn merge_row(row: &mut [u64], first: u64, second: u64, taken: Taken, successors:
         take_over(row, taken, successors);
     }
 }
+
+// Every lane's row; the second's is gone already.
+pub fn merge_rows(t: &mut [u64], first: u64, second: u64, taken: Taken, successors: &[u64])
+    requires { ⌜ (D.LanesLinked (now t)) × (length (now successors) ≤ 16) ⌝ }
+    ensures { λ _. ⌜ now (t .exit) ≡ onRows 52 (D.rowMerged first second taken (now (successors .entry))) (now (t .entry)) ⌝ }
+{
+    let n = t[0] as usize;
+    let mut i = 0;
+    while i < n {
+        let at = 1 + i * LANE;
+        let end = at + LANE;
+        merge_row(&mut t[at..end], first, second, taken, successors);
+        i += 1;
+    }
+}
