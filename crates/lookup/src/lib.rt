@@ -238,7 +238,7 @@ fn copied(line: &[f64], out: &mut [f64]) -> usize
 }
 
 // A line's points, backwards where asked.
-fn put_line(line: &[f64], back: bool, out: &mut [f64]) -> usize
+pub fn put_line(line: &[f64], back: bool, out: &mut [f64]) -> usize
     requires { ⌜ length (points (now line)) * 3 ≤ length (now out) ⌝ }
     ensures { λ r. ⌜ (r ≡ length (points (now (line .entry)))) × (now (out .exit) ≡ over (now (out .entry)) 0 (flat (cond back (reverse (points (now (line .entry)))) (points (now (line .entry)))))) ⌝ }
 {

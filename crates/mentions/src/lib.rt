@@ -69,7 +69,7 @@ fn row_kind(rows: Rows) -> EntityKind
 // ---- a row that names a lane
 
 // Whether the list at place k of a row has an id.
-fn lists_lane(row: &[u64], k: usize, id: u64) -> bool
+pub fn lists_lane(row: &[u64], k: usize, id: u64) -> bool
     requires { ⌜ k + 1 + word k (now row) ≤ length (now row) ⌝ }
     ensures { λ r. ⌜ r ≡ has id (idsAt k (now (row .entry))) ⌝ }
 {
@@ -219,7 +219,7 @@ fn free(row: &mut [u64], k: usize, id: u64)
     }
 }
 
-fn forget_lane(row: &mut [u64], id: u64)
+pub fn forget_lane(row: &mut [u64], id: u64)
     requires { ⌜ (length (now row) ≡ 52) × (laneFormed (now row) ≡ true) ⌝ }
     ensures { λ _. ⌜ now (row .exit) ≡ N.laneForgets id (now (row .entry)) ⌝ }
 {
