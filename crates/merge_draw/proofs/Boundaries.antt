@@ -12,7 +12,7 @@ use Rattle.lists.specs.Rows.{over}
 use Rattle.lists.proofs.Rows.{length-over, store-at, store-behind, row-within}
 use Rattle.tables.specs.View.{word}
 use Rattle.tables.specs.Formed.{counted}
-use Rattle.map.proofs.Tables.{table-room}
+use Rattle.row_tests.proofs.Tables.{table-room}
 use Rattle.lookup.specs.Lookup.{rowAt}
 use Rattle.store.specs.Store.{writes}
 use Rattle.store.specs.Rows.{appendedRows}

@@ -16,13 +16,13 @@ use Rattle.lists.proofs.Select.{length-without, ascending-keep}
 use Rattle.lists.proofs.Place.{place-present, length-place}
 use Rattle.tables.specs.View.{word, idsAt}
 use Rattle.tables.specs.Formed.{laneFormed}
-use Rattle.map.proofs.Formed.{lane-before, lane-after}
+use Rattle.row_tests.proofs.Formed.{lane-before, lane-after}
 use Rattle.store.specs.Rows.{setList, setSlot}
 use Rattle.store.proofs.Marks.{lane-marks}
 use Rattle.store.proofs.LaneRow.{LaneRow, lane-row}
 use Rattle.store.proofs.Turns.{drop-behind}
-use Rattle.naming.specs.Naming.{slotNames, freeAt, forgetAt, laneForgets}
-use Rattle.naming.proofs.Going.{lane-length, forget-length}
+use Rattle.mentions.specs.Naming.{slotNames, freeAt, forgetAt, laneForgets}
+use Rattle.mentions.proofs.Going.{lane-length, forget-length}
 use Rattle.merge_draw.specs.declared.Taken.{Taken}
 use Rattle.merge_draw.specs.Redrawing.{Linked, comesFrom, refOnto, centerOnto, takesOver, rowMerged, LanesLinked}
 use Rattle.lookup.specs.Lookup.{rowAt}

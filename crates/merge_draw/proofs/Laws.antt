@@ -17,13 +17,13 @@ use Rattle.polyline.proofs.Counts.{length-concat-le}
 use Rattle.entities.specs.Records.{Line}
 use Rattle.tables.specs.View.{word, mark, part, lineAt}
 use Rattle.tables.specs.Formed.{stored}
-use Rattle.lookup.specs.Lookup.{rowAt, countOf, pointsOf, centersStored}
+use Rattle.lookup.specs.Lookup.{rowAt, countOf, pointsOr, centersStored}
 use Rattle.lookup.proofs.Laws.{word-in, next-in}
 use Rattle.lookup.proofs.Center.{center-stored, center-short}
 use Rattle.lookup.specs.declared.OptionCount.{OptionCount}
 use Rattle.merge_draw.specs.Redrawing.{countIn, storedLine}
 
-count-points : (o : Option Line) → countIn (countOf o) ≡ length (pointsOf o)
+count-points : (o : Option Line) → countIn (countOf o) ≡ length (pointsOr o)
 count-points none = refl
 count-points (some l) = refl
 
@@ -41,19 +41,19 @@ module _ (w v : List Float) (ps : Line) (n : ℕ) (e : v ≡ over w 0 (flat ps))
 
 -- ---- a side's line
 
-module _ (o : Option Line) (w v : List Float) (few : length (pointsOf o) ≤ 256) (room : 768 ≤ length w) (e : v ≡ over w 0 (flat (pointsOf o)))
+module _ (o : Option Line) (w v : List Float) (few : length (pointsOr o) ≤ 256) (room : 768 ≤ length w) (e : v ≡ over w 0 (flat (pointsOr o)))
     (r : OptionCount) (c : r ≡ countOf o) (n : ℕ) (k : n ≡ countIn r) where
-  pub side-count : n ≡ length (pointsOf o)
+  pub side-count : n ≡ length (pointsOr o)
   side-count = k ∙ (ap countIn c ∙ count-points o)
 
   pub side-small : n * 3 ≤ 768
   side-small = omega (arith, side-count)
 
   pub side-room : n * 3 ≤ length v
-  side-room = written-room w v (pointsOf o) n e side-count (omega arith)
+  side-room = written-room w v (pointsOr o) n e side-count (omega arith)
 
-  pub side-back : points (take (n * 3) v) ≡ pointsOf o
-  side-back = written-back w v (pointsOf o) n e side-count (omega arith)
+  pub side-back : points (take (n * 3) v) ≡ pointsOr o
+  side-back = written-back w v (pointsOr o) n e side-count (omega arith)
 
 -- ---- two sides joined
 

@@ -10,7 +10,7 @@ use borrow.Rule.Slice.PartMut.{putMid}
 use Rattle.lists.specs.Rows.{over}
 use Rattle.lists.proofs.Rows.{over-part, row-within}
 use Rattle.tables.specs.View.{word}
-use Rattle.map.proofs.Tables.{rowOf}
+use Rattle.row_tests.proofs.Tables.{rowOf}
 use Rattle.lookup.specs.Lookup.{rowAt}
 use Rattle.store.specs.Rows.{mapRows, onRows}
 use Rattle.store.proofs.Rows.{front-over}

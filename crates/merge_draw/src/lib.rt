@@ -189,8 +189,8 @@ fn relink_row(row: &mut [u64], first: u64, second: u64)
     requires { ⌜ D.Linked (now row) ⌝ }
     ensures { λ _. ⌜ now (row .exit) ≡ D.comesFrom first second (now (row .entry)) ⌝ }
 {
-    let came = naming::lists_lane(row, PREDECESSORS, second);
-    naming::forget_lane(row, second);
+    let came = mentions::lists_lane(row, PREDECESSORS, second);
+    mentions::forget_lane(row, second);
     if came {
         store::place(row, PREDECESSORS, first);
     }

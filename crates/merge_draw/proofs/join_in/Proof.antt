@@ -10,7 +10,7 @@ use lib.Seq.{length-take-le}
 use borrow.Author.Needs.{needs}
 use Rattle.polyline.specs.Polyline.{points, concat}
 use Rattle.entities.specs.Records.{Line}
-use Rattle.lookup.specs.Lookup.{rowAt, pointsOf, sideLine}
+use Rattle.lookup.specs.Lookup.{rowAt, pointsOr, sideLine}
 use Rattle.lookup.proofs.Center.{oriented-few}
 use Rattle.merge_draw.proofs.Laws.{side-small, side-room, side-back, joined-room, joined-small, joined-reach, joined-back, joined-fits, line-drawn}
 use Rattle.merge_draw.proofs.join_in.Statement.{statement}
@@ -27,10 +27,10 @@ abbrev two : tie.After-points2 → Option Line
 two c = sideLine (c .before .before .before .before .before .before .before .before .before .before .before .before .before .before .before .before .before .args .coordinates .now) (c .before .before .before .before .before .before .before .before .before .before .before .before .before .before .before .before .before .args .lanes .now) (c .before .before .before .before .before .before .before .before .before .before .before .before .before .before .before .before .before .args .boundaries .now) (c .before .before .before .before .before .before .before .before .before .before .before .before .before .before .before .before .before .args .j) (c .before .before .before .before .before .before .before .before .before .before .before .before .before .before .before .before .before .args .side)
 
 abbrev a : tie.After-points2 → Line
-a c = pointsOf (one c)
+a c = pointsOr (one c)
 
 abbrev b : tie.After-points2 → Line
-b c = pointsOf (two c)
+b c = pointsOr (two c)
 
 abbrev oneOut : tie.After-points2 → List Float
 oneOut c = c .before .before .before .before .before .before .before .before .oriented-boundary .last .1 .1 .1 .1 .1 .0

@@ -5,7 +5,7 @@ use Prim.Native.Nat.{_-_}
 use native.Mathlib.Omega.{arith}
 use Rattle.tables.specs.View.{word}
 use Rattle.lists.proofs.Rows.{row-within}
-use Rattle.map.proofs.Tables.{table-room, table-few}
+use Rattle.row_tests.proofs.Tables.{table-room, table-few}
 use Rattle.merge_draw.specs.Redrawing.{rowMerged}
 use Rattle.merge_draw.proofs.Turns.{Changed, changed-none, changed-length, changed-row, changed-room, changed-turn, changed-all}
 use Rattle.merge_draw.proofs.Lanes.{merged-keeps, row-asks}

@@ -7,7 +7,7 @@ use mathlib.Core.Path.{_∙_, ap}
 use lib.ListN.{length}
 use Rattle.tables.specs.View.{word}
 use Rattle.lists.proofs.Rows.{row-within}
-use Rattle.map.proofs.Tables.{table-room, table-few}
+use Rattle.row_tests.proofs.Tables.{table-room, table-few}
 use Rattle.merge_draw.specs.Redrawing.{pointedRow}
 use Rattle.merge_draw.proofs.Turns.{Changed, changed-none, changed-length, changed-row, changed-room, changed-turn, changed-all}
 use Rattle.merge_draw.proofs.Boundaries.{row-long, point-keeps}
