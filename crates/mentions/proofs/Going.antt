@@ -85,7 +85,7 @@ Shortens f = (ids : List ℕ) → length (f ids) ≤ length ids
 pub shorter : (f : List ℕ → List ℕ) → Shortens f → (w : List ℕ) (k : ℕ) → k + 1 + word k w ≤ length w → length (f (idsAt k w)) ≤ word k w
 shorter f less w k h = omega (arith, less (idsAt k w), ids-many w k h)
 
-forget-length : (w : List ℕ) (k a : ℕ) → k + 1 + word k w ≤ length w → length (forgetAt a k w) ≡ length w
+pub forget-length : (w : List ℕ) (k a : ℕ) → k + 1 + word k w ≤ length w → length (forgetAt a k w) ≡ length w
 forget-length w k a h = change-length (without a) w k (omega (arith, shorter (without a) (length-without a) w k h))
 
 -- ---- a lane's row
