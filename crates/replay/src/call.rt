@@ -11,7 +11,7 @@ use words::Told;
 const PATTERN: u64 = 0xA5A5_5A5A_A5A5_5A5A;
 
 // The counter and the place behind a call.
-pub struct Made {
+pub struct Behind {
     pub counter: u64,
     pub next: usize,
 }
@@ -80,7 +80,58 @@ fn print(t: Told, digest: u64) {
     io::write_all(STDOUT_FILENO, b"\n");
 }
 
-// Makes the call at a place of the stream as a host makes it, and writes its line.
+// Makes a call as a host makes it, and writes its line; the counter behind it.
+fn made(
+    counter: u64,
+    lanes: &mut [u64],
+    boundaries: &mut [u64],
+    roads: &mut [u64],
+    junctions: &mut [u64],
+    rules: &mut [u64],
+    stop_lines: &mut [u64],
+    crosswalks: &mut [u64],
+    coordinates: &mut [f64],
+    row: &[u64],
+    created: &mut [u64],
+    modified: &mut [u64],
+    deleted: &mut [u64],
+    warnings: &mut [u64],
+) -> u64 {
+    let told = exports::voldrekka_apply(
+        counter,
+        lanes,
+        boundaries,
+        roads,
+        junctions,
+        rules,
+        stop_lines,
+        crosswalks,
+        coordinates,
+        row,
+        created,
+        modified,
+        deleted,
+        warnings,
+    );
+    let digest = digest_of(
+        lanes,
+        boundaries,
+        roads,
+        junctions,
+        rules,
+        stop_lines,
+        crosswalks,
+        coordinates,
+        created,
+        modified,
+        deleted,
+        warnings,
+    );
+    print(told, digest);
+    told.counter
+}
+
+// The call at a place of the stream, with the room for its lists that the stream gives.
 pub fn make(
     s: &[u8],
     at: usize,
@@ -93,7 +144,7 @@ pub fn make(
     stop_lines: &mut [u64],
     crosswalks: &mut [u64],
     coordinates: &mut [f64],
-) -> Made {
+) -> Behind {
     let mut row = [0; 9];
     let mut created = [PATTERN; 64];
     let mut modified = [PATTERN; 64];
@@ -104,39 +155,23 @@ pub fn make(
     let b = lent(&row, 1, ENTITY, 64);
     let c = lent(&row, 2, ENTITY, 64);
     let d = lent(&row, 3, WARNING, 160);
-    let told = exports::voldrekka_apply(
-        counter,
-        lanes,
-        boundaries,
-        roads,
-        junctions,
-        rules,
-        stop_lines,
-        crosswalks,
-        coordinates,
-        &row,
-        &mut created[..a],
-        &mut modified[..b],
-        &mut deleted[..c],
-        &mut warnings[..d],
-    );
-    let digest = digest_of(
-        lanes,
-        boundaries,
-        roads,
-        junctions,
-        rules,
-        stop_lines,
-        crosswalks,
-        coordinates,
-        &created[..a],
-        &modified[..b],
-        &deleted[..c],
-        &warnings[..d],
-    );
-    print(told, digest);
-    Made {
-        counter: told.counter,
+    Behind {
+        counter: made(
+            counter,
+            lanes,
+            boundaries,
+            roads,
+            junctions,
+            rules,
+            stop_lines,
+            crosswalks,
+            coordinates,
+            &row,
+            &mut created[..a],
+            &mut modified[..b],
+            &mut deleted[..c],
+            &mut warnings[..d],
+        ),
         next,
     }
 }
