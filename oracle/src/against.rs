@@ -12,7 +12,7 @@ use crate::tables::*;
 use crate::tally::Tally;
 
 /// What the lists hold before a call: what lies past an answer must stay so.
-const FILL: u64 = 0xA5A5_5A5A_A5A5_5A5A;
+pub const FILL: u64 = 0xA5A5_5A5A_A5A5_5A5A;
 
 pub fn lend(state: &State, room: &Room) -> Lent {
     let list = |n: usize, words: usize| vec![FILL; n * words];

@@ -1,6 +1,6 @@
 //! What a replay must write: a line for each call of a stored stream, the answer's numbers and a digest of all that was lent.
 
-use crate::against::{expected, lend};
+use crate::against::{FILL, expected, lend};
 use crate::ffi::Lent;
 use crate::format::{self, bits};
 use crate::generate::Case;
@@ -16,11 +16,17 @@ fn mix(state: u64, word: u64) -> u64 {
     c ^ (c << 17)
 }
 
-/// The seven tables of words, the coordinates by their bits, the four lists.
+/// Words of the arrays that the lists are lent from.
+const ARRAYS: [usize; 4] = [64, 64, 64, 160];
+
+/// The seven tables of words, the coordinates by their bits, the arrays of the four lists.
 fn digest(lent: &Lent) -> u64 {
     let words = lent.tables.words.iter().flatten().copied();
     let floats = lent.tables.xyz.iter().map(|x| bits(*x));
-    let lists = lent.lists.iter().flatten().copied();
+    let lists = lent.lists.iter().zip(ARRAYS).flat_map(|(list, n)| {
+        assert!(list.len() <= n, "more lent than the array has");
+        list.iter().copied().chain(std::iter::repeat(FILL)).take(n)
+    });
     words.chain(floats).chain(lists).fold(START, mix)
 }
 

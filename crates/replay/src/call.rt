@@ -31,7 +31,7 @@ fn lent(row: &[u64], k: usize, words: usize, most: usize) -> usize
     stream::least(entries as usize * words, most)
 }
 
-// All that is lent, in one word.
+// All that is lent, and the rest of the lists' arrays, in one word.
 fn digest_of(
     lanes: &[u64],
     boundaries: &[u64],
@@ -41,10 +41,10 @@ fn digest_of(
     stop_lines: &[u64],
     crosswalks: &[u64],
     coordinates: &[f64],
-    created: &[u64],
-    modified: &[u64],
-    deleted: &[u64],
-    warnings: &[u64],
+    created: &[u64; 64],
+    modified: &[u64; 64],
+    deleted: &[u64; 64],
+    warnings: &[u64; 160],
 ) -> u64 {
     let a = digest::words(digest::START, lanes);
     let b = digest::words(a, boundaries);
@@ -80,58 +80,7 @@ fn print(t: Told, digest: u64) {
     io::write_all(STDOUT_FILENO, b"\n");
 }
 
-// Makes a call as a host makes it, and writes its line; the counter behind it.
-fn made(
-    counter: u64,
-    lanes: &mut [u64],
-    boundaries: &mut [u64],
-    roads: &mut [u64],
-    junctions: &mut [u64],
-    rules: &mut [u64],
-    stop_lines: &mut [u64],
-    crosswalks: &mut [u64],
-    coordinates: &mut [f64],
-    row: &[u64],
-    created: &mut [u64],
-    modified: &mut [u64],
-    deleted: &mut [u64],
-    warnings: &mut [u64],
-) -> u64 {
-    let told = exports::voldrekka_apply(
-        counter,
-        lanes,
-        boundaries,
-        roads,
-        junctions,
-        rules,
-        stop_lines,
-        crosswalks,
-        coordinates,
-        row,
-        created,
-        modified,
-        deleted,
-        warnings,
-    );
-    let digest = digest_of(
-        lanes,
-        boundaries,
-        roads,
-        junctions,
-        rules,
-        stop_lines,
-        crosswalks,
-        coordinates,
-        created,
-        modified,
-        deleted,
-        warnings,
-    );
-    print(told, digest);
-    told.counter
-}
-
-// The call at a place of the stream, with the room for its lists that the stream gives.
+// Makes the call at a place of the stream as a host makes it, with the room for its lists that the stream gives, and writes its line.
 pub fn make(
     s: &[u8],
     at: usize,
@@ -155,23 +104,39 @@ pub fn make(
     let b = lent(&row, 1, ENTITY, 64);
     let c = lent(&row, 2, ENTITY, 64);
     let d = lent(&row, 3, WARNING, 160);
+    let told = exports::voldrekka_apply(
+        counter,
+        lanes,
+        boundaries,
+        roads,
+        junctions,
+        rules,
+        stop_lines,
+        crosswalks,
+        coordinates,
+        &row,
+        &mut created[..a],
+        &mut modified[..b],
+        &mut deleted[..c],
+        &mut warnings[..d],
+    );
+    let digest = digest_of(
+        lanes,
+        boundaries,
+        roads,
+        junctions,
+        rules,
+        stop_lines,
+        crosswalks,
+        coordinates,
+        &created,
+        &modified,
+        &deleted,
+        &warnings,
+    );
+    print(told, digest);
     Behind {
-        counter: made(
-            counter,
-            lanes,
-            boundaries,
-            roads,
-            junctions,
-            rules,
-            stop_lines,
-            crosswalks,
-            coordinates,
-            &row,
-            &mut created[..a],
-            &mut modified[..b],
-            &mut deleted[..c],
-            &mut warnings[..d],
-        ),
+        counter: told.counter,
         next,
     }
 }
