@@ -31,6 +31,25 @@ fn lent(row: &[u64], k: usize, words: usize, most: usize) -> usize
     stream::least(entries as usize * words, most)
 }
 
+// The words lent for the four lists.
+struct Lists {
+    created: usize,
+    modified: usize,
+    deleted: usize,
+    warnings: usize,
+}
+
+fn room(row: &[u64; 9]) -> Lists
+    ensures { λ r. ⌜ (r .created ≤ 64) × ((r .modified ≤ 64) × ((r .deleted ≤ 64) × (r .warnings ≤ 160))) ⌝ }
+{
+    Lists {
+        created: lent(row, 0, ENTITY, 64),
+        modified: lent(row, 1, ENTITY, 64),
+        deleted: lent(row, 2, ENTITY, 64),
+        warnings: lent(row, 3, WARNING, 160),
+    }
+}
+
 // All that is lent, and the rest of the lists' arrays, in one word.
 fn digest_of(
     lanes: &[u64],
@@ -100,10 +119,11 @@ pub fn make(
     let mut deleted = [PATTERN; 64];
     let mut warnings = [PATTERN; 160];
     let next = stream::fill(s, at, &mut row);
-    let a = lent(&row, 0, ENTITY, 64);
-    let b = lent(&row, 1, ENTITY, 64);
-    let c = lent(&row, 2, ENTITY, 64);
-    let d = lent(&row, 3, WARNING, 160);
+    let r = room(&row);
+    let a = r.created;
+    let b = r.modified;
+    let c = r.deleted;
+    let d = r.warnings;
     let told = exports::voldrekka_apply(
         counter,
         lanes,
