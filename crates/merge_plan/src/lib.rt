@@ -9,6 +9,7 @@ ghost use Rattle.tables.specs.View.{word};
 ghost use Rattle.report.specs.Report.{issues};
 ghost use Rattle.lookup.specs.Lookup as K;
 ghost use Rattle.merge_plan.specs.Deciding as P;
+ghost use Rattle.merge_plan.specs.Sides as S;
 use entities::IssueCode;
 use entities::Refusal;
 use entities::Side;
@@ -51,6 +52,59 @@ pub struct Plan {
 pub enum Planned {
     Refused(Refusal),
     Merges(Plan),
+}
+
+// ---- plans in numbers
+
+// How many points a side draws.
+pub fn side_points(plan: Joined) -> usize
+    ensures { λ r. ⌜ r ≡ S.sidePoints plan ⌝ }
+{
+    match plan {
+        Joined::Kept => 0,
+        Joined::InPlace(n) => n,
+        Joined::Fresh(n) => n,
+    }
+}
+
+// How many ids a side allocates.
+pub fn side_ids(plan: Joined) -> usize
+    ensures { λ r. ⌜ r ≡ S.sideIds plan ⌝ }
+{
+    match plan {
+        Joined::Kept => 0,
+        Joined::InPlace(_) => 0,
+        Joined::Fresh(_) => 1,
+    }
+}
+
+pub fn is_fresh(plan: Joined) -> bool
+    ensures { λ r. ⌜ r ≡ S.isFresh plan ⌝ }
+{
+    match plan {
+        Joined::Kept => false,
+        Joined::InPlace(_) => false,
+        Joined::Fresh(_) => true,
+    }
+}
+
+// How many points the joined centreline has, where there is one.
+pub fn center_points(center: OptionCount) -> usize
+    ensures { λ r. ⌜ r ≡ S.centerPoints center ⌝ }
+{
+    match center {
+        OptionCount::None => 0,
+        OptionCount::Some(n) => n,
+    }
+}
+
+pub fn is_some(center: OptionCount) -> bool
+    ensures { λ r. ⌜ r ≡ S.isSome center ⌝ }
+{
+    match center {
+        OptionCount::None => false,
+        OptionCount::Some(_) => true,
+    }
 }
 
 // ---- may they be merged
