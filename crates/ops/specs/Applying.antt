@@ -5,10 +5,10 @@ use Rattle.rules.specs.Ops as O
 use Rattle.tables.specs.Formed.{soundTables}
 use Rattle.step.specs.Step.{Lent, Ended, step, refusing}
 
--- The commands that are in code: split_lane and merge_lanes are not yet.
+-- The commands that are in code: split_lane is not yet.
 abbrev pub InCode : O.Command → Bool
 InCode (O.SplitLane i at neighbors) = false
-InCode (O.MergeLanes i j) = false
+InCode (O.MergeLanes i j) = true
 InCode (O.ConnectLanes i j) = true
 InCode (O.DisconnectLanes i j) = true
 InCode (O.SetNeighbor i side n) = true
