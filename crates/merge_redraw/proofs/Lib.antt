@@ -1,0 +1,4 @@
+pub mod Lines
+pub mod Sides
+pub mod BoundaryRows
+pub mod LaneRows
