@@ -1,16 +1,16 @@
 -- The table of boundaries in a merge: the rows that go, those that point to their lines, and the new ones. Assumes nothing.
 use mathlib.Core.Path.{_≡_, refl, sym, ap, _∙_}
-use mathlib.Core.Bool.{Bool, true, not}
-use mathlib.Core.List.{List, []}
-use Prim.Native.Nat.{ℕ, _+_, _*_, _≤_, _<_}
+use mathlib.Core.Bool.{true}
+use mathlib.Core.List.{List}
+use Prim.Native.Nat.{ℕ, _+_, _*_, _≤_}
 use native.Mathlib.Nat.{add-zero, mul-le-mul-right}
 use native.Mathlib.Omega.{arith}
-use lib.ListN.{length, drop, length-drop}
+use lib.ListN.{length}
 use borrow.Author.Tests.{le-leb}
 use Rattle.tables.specs.View.{word}
 use Rattle.tables.specs.Formed.{counted}
 use Rattle.row_tests.proofs.Tables.{table-some, table-few, table-room}
-use Rattle.store.specs.Rows.{keptRows, onRows}
+use Rattle.store.specs.Rows.{onRows}
 use Rattle.store.proofs.Packing.{kept-count}
 use Rattle.store.proofs.Growing.{appended-count}
 use Rattle.merge_plan.specs.declared.Joined.{Joined}

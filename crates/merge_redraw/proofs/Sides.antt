@@ -1,14 +1,14 @@
 -- What the sides of a merge do to the table of boundaries, and what the first lane takes over. Assumes nothing.
-use mathlib.Core.Path.{_≡_, refl, sym, ap, _∙_}
-use mathlib.Core.Bool.{Bool, true, false}
-use mathlib.Core.List.{List, []}
-use Prim.Native.Nat.{ℕ, _+_, _*_, _≤_, _<_}
+use mathlib.Core.Path.{_≡_, sym, ap, _∙_}
+use mathlib.Core.Bool.{true}
+use mathlib.Core.List.{List}
+use Prim.Native.Nat.{ℕ, _+_, _*_, _≤_}
 use native.Mathlib.Omega.{arith}
 use lib.ListN.{length, getD}
 use Rattle.lists.specs.declared.Found.{Found}
 use Rattle.lists.specs.declared.Found.the-variants.{At, Nothing}
 use Rattle.rules.specs.Names.{Side}
-use Rattle.tables.specs.View.{word, refAt}
+use Rattle.tables.specs.View.{refAt}
 use Rattle.entities.specs.declared.BoundaryRef.{BoundaryRef}
 use Rattle.lookup.specs.Lookup.{rowAt, placeOf, sideWord, sortedTable}
 use Rattle.lookup.proofs.Laws.{sorted-row, place-within, word-in}

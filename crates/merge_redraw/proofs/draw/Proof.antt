@@ -1,52 +1,38 @@
+-- `merge_redraw::draw` meets its contract: each step leaves the work as long as it was, so that every line has room. Assumes nothing.
 use borrow.Author.Needs.{needs}
 use Rattle.merge_redraw.proofs.draw.Statement.{statement}
 use Rattle.merge_redraw.proofs.draw.Tie as tie
-use Rattle.merge_redraw.proofs.draw.Reads as reads
-use Rattle.merge_redraw.proofs.draw.Lts as lts
-use Rattle.layout.proofs.copy.Reads as copy-reads
-use Rattle.merge_redraw.proofs.draw_center.Reads as draw-center-reads
-use Rattle.merge_redraw.proofs.draw_side.Reads as draw-side-reads
-use Rattle.merge_redraw.proofs.side_points.Reads as side-points-reads
 use native.Mathlib.Omega.{arith}
 use Rattle.merge_redraw.proofs.Lines.{all-drawn}
 
--- src/lib.rt:197:28
 side-points-requires : tie.Need-side-points-requires
 side-points-requires c κs = search needs
 
--- src/lib.rt:197:20
 add-right-at : tie.Need-add-right-at
 add-right-at c = search needs
 
--- src/lib.rt:198:32
 side-points-requires-2 : tie.Need-side-points-requires-2
 side-points-requires-2 c κs = search needs
 
--- src/lib.rt:198:21
 add-center-at : tie.Need-add-center-at
 add-center-at c = search needs
 
--- src/lib.rt:199:34
 mul-copy : tie.Need-mul-copy
 mul-copy c = search needs
 
--- src/lib.rt:199:5
 copy-requires : tie.Need-copy-requires
 copy-requires c κs = search needs
 
--- src/lib.rt:200:5
 draw-side-requires : tie.Need-draw-side-requires
 draw-side-requires c κs =
     let p = c .before .before .before .before .before .before .before .before .before .before .before .pre in
     (p .drawable, (p .first, (p .second, omega (arith, c .before .before .before .copy .kept .1 .1 .1 .0, p .room))))
 
--- src/lib.rt:212:5
 draw-side-requires-2 : tie.Need-draw-side-requires-2
 draw-side-requires-2 c κs =
     let p = c .before .before .before .before .before .before .before .before .before .before .before .before .before .before .before .pre in
     (p .drawable, (p .first, (p .second, omega (arith, c .before .before .before .before .before .before .before .copy .kept .1 .1 .1 .0, c .before .before .before .draw-side .kept .1 .1 .1 .1 .1 .1 .1 .1 .0, c .before .before .before .before .before .before .before .before .before .before .side-points .ensures, p .left-few, p .room))))
 
--- src/lib.rt:224:5
 draw-center-requires : tie.Need-draw-center-requires
 draw-center-requires c κs =
     let p = c .before .before .before .before .before .before .before .before .before .before .before .before .before .before .before .before .before .before .before .pre in
@@ -59,11 +45,9 @@ draw-center-requires c κs =
       room = omega (arith, c .before .before .before .before .before .before .before .before .before .before .before .copy .kept .1 .1 .1 .0, c .before .before .before .before .before .before .before .draw-side .kept .1 .1 .1 .1 .1 .1 .1 .1 .0, c .before .before .before .draw-side2 .kept .1 .1 .1 .1 .1 .1 .1 .1 .0, c .before .before .before .before .before .before .before .before .before .before .before .before .before .before .side-points .ensures, c .before .before .before .before .before .before .before .before .before .before .before .before .before .side-points2 .ensures, p .left-few, p .right-few, p .room);
     }
 
--- src/lib.rt:180:1
 same-length : tie.Need-same-length
 same-length c = search needs
 
--- src/lib.rt:180:1
 returns : tie.Need-returns
 returns c =
     let a = c .before .before .before .before .before .before .before .before .before .before .before .before .before .before .before .before .before .before .before .before .before .before .args in

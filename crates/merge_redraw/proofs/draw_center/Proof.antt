@@ -1,10 +1,7 @@
+-- `merge_redraw::draw_center` meets its contract: the centreline is written in the part that begins at its first point. Assumes nothing.
 use borrow.Author.Needs.{needs}
 use Rattle.merge_redraw.proofs.draw_center.Statement.{statement}
 use Rattle.merge_redraw.proofs.draw_center.Tie as tie
-use Rattle.merge_redraw.proofs.draw_center.Reads as reads
-use Rattle.merge_redraw.proofs.draw_center.Lts as lts
-use Rattle.merge_draw.proofs.join_center.Reads as join-center-reads
-use Rattle.merge_redraw.proofs.is_some.Reads as is-some-reads
 use mathlib.Core.Path.{_∙_, sym}
 use Prim.Native.Nat.{_*_}
 use native.Mathlib.Nat.{le-refl}
@@ -15,31 +12,24 @@ use Rattle.polyline.specs.Polyline.{flat}
 use Rattle.merge_draw.specs.Redrawing.{joinedCenters}
 use Rattle.merge_redraw.proofs.Lines.{center-none, center-drawn}
 
--- src/lib.rt:173:8
 is-some-requires : tie.Need-is-some-requires
 is-some-requires c κs = search needs
 
--- src/lib.rt:174:20
 mul-from : tie.Need-mul-from
 mul-from c = search needs
 
--- src/lib.rt:175:65
 mul-join-center : tie.Need-mul-join-center
 mul-join-center c = search needs
 
--- src/lib.rt:175:65
 sub-join-center : tie.Need-sub-join-center
 sub-join-center c = search needs
 
--- src/lib.rt:175:65
 part-join-center-start : tie.Need-part-join-center-start
 part-join-center-start c = search needs
 
--- src/lib.rt:175:65
 part-join-center-end : tie.Need-part-join-center-end
 part-join-center-end c = search needs
 
--- src/lib.rt:175:9
 join-center-requires : tie.Need-join-center-requires
 join-center-requires c κs =
     let s = c .before .before .before .before .before .before in
@@ -55,18 +45,15 @@ join-center-requires c κs =
       room = omega (arith, mid-len (s .args .at * 3) (length w) w (le-refl (length w)), s .pre .room);
     }
 
--- src/lib.rt:160:1
 same-length : tie.Need-same-length
 same-length c = search needs
 
--- src/lib.rt:160:1
 returns : tie.Need-returns
 returns c =
     let a = c .before .before .before .before .before .before .before .before .before .args in
     center-drawn (a .center) (c .before .before .before .before .before .is-some .result) (flat (joinedCenters (a .join) (a .coordinates .now) (a .lanes .now) (a .i) (a .j)))
     (c .before .before .before .before .before .is-some .ensures) (c .before .before .before .before .if1 .taken) (a .work .now) (c .before .before .join-center .last .1 .1 .1 .1 .1 .0) (a .at * 3) (omega (arith, c .before .before .before .before .before .before .before .before .before .pre .room)) (c .before .before .join-center .ensures .1)
 
--- src/lib.rt:160:1
 returns-2 : tie.Need-returns-2
 returns-2 c =
     let a = c .before .before .before .before .before .args in

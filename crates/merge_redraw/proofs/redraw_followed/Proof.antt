@@ -1,88 +1,68 @@
+-- `merge_redraw::redraw_followed` meets its contract: the successors are read back from the array that holds them. Assumes nothing.
 use borrow.Author.Needs.{needs}
 use Rattle.merge_redraw.proofs.redraw_followed.Statement.{statement}
 use Rattle.merge_redraw.proofs.redraw_followed.Tie as tie
-use Rattle.merge_redraw.proofs.redraw_followed.Reads as reads
-use Rattle.merge_redraw.proofs.redraw_followed.Lts as lts
-use Rattle.lists.proofs.copy.Reads as copy-reads
-use Rattle.lookup.proofs.successors.Reads as successors-reads
-use Rattle.merge_redraw.proofs.redraw_lanes.Reads as redraw-lanes-reads
-use mathlib.Core.Path.{_≡_, sym, ap, _∙_}
+use mathlib.Core.Path.{sym}
 use Prim.Native.Nat.{_≤_}
 use native.Mathlib.Omega.{arith}
-use lib.ListN.{length, replicate, length-replicate}
+use lib.ListN.{length, replicate}
 use lib.Seq.{length-take-le}
 use Rattle.lookup.proofs.Laws.{sorted-row}
-use Rattle.merge_redraw.proofs.LaneRows.{after-few, after-short, held-back, followed}
+use Rattle.merge_redraw.proofs.LaneRows.{after-few, after-short, followed}
 
--- src/lib.rt:342:23
 mul-first : tie.Need-mul-first
 mul-first c = omega (arith, sorted-row 1024 52 (c .before .args .t .now) (c .before .pre .1 .0) (c .before .args .i) (c .before .pre .1 .1 .0))
 
--- src/lib.rt:342:19
 add-first : tie.Need-add-first
 add-first c = omega (arith, sorted-row 1024 52 (c .before .args .t .now) (c .before .pre .1 .0) (c .before .args .i) (c .before .pre .1 .1 .0))
 
--- src/lib.rt:342:17
 mul-first-2 : tie.Need-mul-first-2
 mul-first-2 c = omega (arith, sorted-row 1024 52 (c .before .args .t .now) (c .before .pre .1 .0) (c .before .args .i) (c .before .pre .1 .1 .0))
 
--- src/lib.rt:342:17
 slice-read-first : tie.Need-slice-read-first
 slice-read-first c = omega (arith, sorted-row 1024 52 (c .before .before .args .t .now) (c .before .before .pre .1 .0) (c .before .before .args .i) (c .before .before .pre .1 .1 .0))
 
--- src/lib.rt:343:24
 mul-second : tie.Need-mul-second
 mul-second c = omega (arith, sorted-row 1024 52 (c .before .before .args .t .now) (c .before .before .pre .1 .0) (c .before .before .args .j) (c .before .before .pre .1 .1 .1))
 
--- src/lib.rt:343:20
 add-second : tie.Need-add-second
 add-second c = omega (arith, sorted-row 1024 52 (c .before .before .args .t .now) (c .before .before .pre .1 .0) (c .before .before .args .j) (c .before .before .pre .1 .1 .1))
 
--- src/lib.rt:343:18
 mul-second-2 : tie.Need-mul-second-2
 mul-second-2 c = omega (arith, sorted-row 1024 52 (c .before .before .args .t .now) (c .before .before .pre .1 .0) (c .before .before .args .j) (c .before .before .pre .1 .1 .1))
 
--- src/lib.rt:343:18
 slice-read-second : tie.Need-slice-read-second
 slice-read-second c = omega (arith, sorted-row 1024 52 (c .before .before .before .args .t .now) (c .before .before .before .pre .1 .0) (c .before .before .before .args .j) (c .before .before .before .pre .1 .1 .1))
 
--- src/lib.rt:345:9
 successors-requires : tie.Need-successors-requires
 successors-requires c κs = (c .before .before .before .before .pre .1 .0, (c .before .before .before .before .pre .1 .1 .1, after-few (c .before .before .before .before .args .t .now) (c .before .before .before .before .pre .0) (c .before .before .before .before .args .j) (c .before .before .before .before .pre .1 .1 .1)))
 
--- src/lib.rt:347:27
 slice-aggregate-copy : tie.Need-slice-aggregate-copy
 slice-aggregate-copy c = search needs
 
--- src/lib.rt:347:5
 copy-requires : tie.Need-copy-requires
 copy-requires c κs =
     let few : length (c .before .successors .result .now) ≤ 16 = rw (c .before .successors .ensures) (after-short (c .before .before .before .before .before .before .args .t .now) (c .before .before .before .before .before .before .pre .0) (c .before .before .before .before .before .before .args .j) (c .before .before .before .before .before .before .pre .1 .1 .1)) in
     omega arith
 
--- src/lib.rt:348:43
 array-share-prefix-held : tie.Need-array-share-prefix-held
 array-share-prefix-held c =
     let few : length (c .before .before .before .before .successors .result .now) ≤ 16 = rw (c .before .before .before .before .successors .ensures) (after-short (c .before .before .before .before .before .before .before .before .before .args .t .now) (c .before .before .before .before .before .before .before .before .before .pre .0) (c .before .before .before .before .before .before .before .before .before .args .j) (c .before .before .before .before .before .before .before .before .before .pre .1 .1 .1)) in
     omega (arith, c .before .before .copy .kept .1 .0)
 
--- src/lib.rt:348:43
 slice-aggregate-redraw-lanes : tie.Need-slice-aggregate-redraw-lanes
 slice-aggregate-redraw-lanes c =
     let few : length (c .before .before .before .before .before .successors .result .now) ≤ 16 = rw (c .before .before .before .before .before .successors .ensures) (after-short (c .before .before .before .before .before .before .before .before .before .before .args .t .now) (c .before .before .before .before .before .before .before .before .before .before .pre .0) (c .before .before .before .before .before .before .before .before .before .before .args .j) (c .before .before .before .before .before .before .before .before .before .before .pre .1 .1 .1)) in
     sym (length-take-le (length (c .before .before .before .before .before .successors .result .now)) (c .before .before .before .copy .last .1 .0) (omega (arith, c .before .before .before .copy .kept .1 .0)))
 
--- src/lib.rt:348:5
 redraw-lanes-requires : tie.Need-redraw-lanes-requires
 redraw-lanes-requires c κs =
     let few : length (c .before .before .before .before .before .successors .result .now) ≤ 16 = rw (c .before .before .before .before .before .successors .ensures) (after-short (c .before .before .before .before .before .before .before .before .before .before .args .t .now) (c .before .before .before .before .before .before .before .before .before .before .pre .0) (c .before .before .before .before .before .before .before .before .before .before .args .j) (c .before .before .before .before .before .before .before .before .before .before .pre .1 .1 .1)) in
     (c .before .before .before .before .before .before .before .before .before .before .pre .0, omega (arith, length-take-le (length (c .before .before .before .before .before .successors .result .now)) (c .before .before .before .copy .last .1 .0) (omega (arith, c .before .before .before .copy .kept .1 .0))))
 
--- src/lib.rt:338:1
 same-length : tie.Need-same-length
 same-length c = search needs
 
--- src/lib.rt:338:1
 returns : tie.Need-returns
 returns c =
     let few : length (c .before .before .before .before .before .before .before .before .successors .result .now) ≤ 16 = rw (c .before .before .before .before .before .before .before .before .successors .ensures) (after-short (c .before .before .before .before .before .before .before .before .before .before .before .before .before .args .t .now) (c .before .before .before .before .before .before .before .before .before .before .before .before .before .pre .0) (c .before .before .before .before .before .before .before .before .before .before .before .before .before .args .j) (c .before .before .before .before .before .before .before .before .before .before .before .before .before .pre .1 .1 .1)) in

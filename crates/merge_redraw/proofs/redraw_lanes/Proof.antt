@@ -1,32 +1,24 @@
+-- `merge_redraw::redraw_lanes` meets its contract: the rows that stay are as they were. Assumes nothing.
 use borrow.Author.Needs.{needs}
 use Rattle.merge_redraw.proofs.redraw_lanes.Statement.{statement}
 use Rattle.merge_redraw.proofs.redraw_lanes.Tie as tie
-use Rattle.merge_redraw.proofs.redraw_lanes.Reads as reads
-use Rattle.merge_redraw.proofs.redraw_lanes.Lts as lts
-use Rattle.merge_draw.proofs.merge_rows.Reads as merge-rows-reads
-use Rattle.store.proofs.drop_rows.Reads as drop-rows-reads
 use native.Mathlib.Omega.{arith}
 use Rattle.merge_redraw.proofs.LaneRows.{lanes-room, linked-left, lanes-all}
 
--- src/lib.rt:333:31
 slice-aggregate-drop-rows : tie.Need-slice-aggregate-drop-rows
 slice-aggregate-drop-rows c = search needs
 
--- src/lib.rt:333:5
 drop-rows-requires : tie.Need-drop-rows-requires
 drop-rows-requires c κs = (omega arith, lanes-room (c .before .before .before .before .args .t .now) (c .before .before .before .before .pre .0))
 
--- src/lib.rt:334:5
 merge-rows-requires : tie.Need-merge-rows-requires
 merge-rows-requires c κs =
     let a = c .before .before .before .before .before .before .before .before .args in
     (linked-left (a .t .now) (c .before .before .before .before .before .before .before .before .pre .0) (a .second) (c .before .before .before .drop-rows .last .0) (c .before .before .before .drop-rows .ensures), c .before .before .before .before .before .before .before .before .pre .1)
 
--- src/lib.rt:328:1
 same-length : tie.Need-same-length
 same-length c = search needs
 
--- src/lib.rt:328:1
 returns : tie.Need-returns
 returns c =
     let a = c .before .before .before .before .before .before .before .before .before .before .before .args in
