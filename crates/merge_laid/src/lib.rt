@@ -1,0 +1,1 @@
+// The tables with lines that a merge leaves are those of the merged map: see proofs/.
