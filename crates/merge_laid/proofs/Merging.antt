@@ -106,14 +106,14 @@ module _ {tol : Tolerance} {counter : ℕ} {t : Tables} {one two i j : ℕ} {p :
   here-second = place-within 52 (t .lanes) two j (k .second)
 
   -- the first lane is found by its id
-  found : lane (view t) (a .id) ≡ some a
+  pub found : lane (view t) (a .id) ≡ some a
   unfolding lane view laneOf
   found =
       let e : word 0 (rowAt 52 (t .lanes) i) ≡ one = place-id 52 (t .lanes) one i (k .first) in
       ap (λ n. find (λ l. eqb (l .id) n) (rows 52 (laneOf c) (t .lanes))) e ∙ find-at 52 (laneOf c) (λ l. l .id) (λ w. refl) (t .lanes) one i (k .first)
 
   -- the second alone comes after it
-  leads : sameNumbers (a .successors) (b .id ∷ []) ≡ true
+  pub leads : sameNumbers (a .successors) (b .id ∷ []) ≡ true
   unfolding laneOf
   leads =
       let x = not (eqb (a .id) (b .id)) in
@@ -132,7 +132,7 @@ module _ {tol : Tolerance} {counter : ℕ} {t : Tables} {one two i j : ℕ} {p :
       rows-weaker 52 (λ w. ascending (idsAt 18 w) && ascending (idsAt 35 w)) (λ w. ascending (idsAt 18 w)) (λ w h. and-fst (ascending (idsAt 18 w)) (ascending (idsAt 35 w)) h) (t .lanes)
       (sym (all-rows 52 (laneOf c) (λ l. ascending (l .predecessors) && ascending (l .successors)) (t .lanes)) ∙ known .clauses .links-ascend)
 
-  lanes-up : ascending (map (λ l. l .id) (rows 52 (laneOf c) (t .lanes))) ≡ true
+  pub lanes-up : ascending (map (λ l. l .id) (rows 52 (laneOf c) (t .lanes))) ≡ true
   unfolding laneOf
   lanes-up = ap ascending (ids-keys 52 (laneOf c) (λ l. l .id) (t .lanes) (λ w. refl)) ∙ sorted-ascends 1024 52 (t .lanes) (known .drawable .lanes-sorted)
 
@@ -166,7 +166,7 @@ module _ {tol : Tolerance} {counter : ℕ} {t : Tables} {one two i j : ℕ} {p :
   free : Free next (view t) pl pr
   free = counter-free counter (planIds pl + planIds pr) (view t) (known .clauses .counter-above) (k .ids)
 
-  boundary-keys : map (λ x. x .id) (view t .boundaries) ≡ keys 5 (word 0 (t .boundaries)) (drop 1 (t .boundaries))
+  pub boundary-keys : map (λ x. x .id) (view t .boundaries) ≡ keys 5 (word 0 (t .boundaries)) (drop 1 (t .boundaries))
   unfolding view boundaryOf
   boundary-keys = ids-keys 5 (boundaryOf c) (λ x. x .id) (t .boundaries) (λ w. refl)
 
