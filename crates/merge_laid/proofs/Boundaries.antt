@@ -1,23 +1,23 @@
 -- The table of boundaries that a merge leaves is the merged map's boundaries written over it, each with where its line starts. Assumes nothing.
-use mathlib.Core.Path.{_≡_, refl, sym, ap, _∙_, subst}
-use Prim.Native.Nat.{ℕ, suc, _+_, _*_, _≤_}
+use mathlib.Core.Path.{_≡_, refl, sym, ap, _∙_}
+use Prim.Native.Nat.{ℕ, _+_, _*_, _≤_}
 use native.Mathlib.Omega.{arith}
-use mathlib.Core.Bool.{Bool, true, false, not, cond, true≢false}
+use mathlib.Core.Bool.{Bool, true, false, not, cond}
 use mathlib.Core.List.{List, [], _∷_, _++_, map, map-append, reverse}
 use mathlib.Core.Option.{Option, none, some}
 use lib.Dec.{eqb}
 use lib.Ieee.{Float}
-use lib.ListN.{length, getD, take, drop, length-map, length-append, length-drop, length-reverse}
+use lib.ListN.{length, take, drop, length-map, length-drop, length-reverse}
 use lib.Seq.{drop-cons}
 use Rattle.lists.specs.Every.{all}
 use Rattle.lists.specs.Rows.{over, keys}
 use Rattle.lists.specs.Select.{keep, find, has}
 use Rattle.lists.specs.declared.Found.{Found}
 use Rattle.lists.specs.declared.Found.the-variants.{At, Nothing}
-use Rattle.lists.proofs.Rows.{take-before-over, drop-over, length-over, getD-over-before}
+use Rattle.lists.proofs.Rows.{take-before-over, drop-over, getD-over-before}
 use Rattle.lists.proofs.Select.{all-map, map-twice, map-itself}
 use Rattle.entities.specs.declared.BoundaryRef.{BoundaryRef}
-use Rattle.entities.specs.Records.{Line, Lane, Boundary, Map}
+use Rattle.entities.specs.Records.{Lane, Boundary, Map}
 use Rattle.rules.specs.Map.{boundary}
 use Rattle.rules.specs.Merge.{SidePlan, kept, in-place, fresh, planIds, planJoins, planLine, redrawn, joinedBoundary, newBoundary}
 use Rattle.tables.specs.View.{word, rows, boundaryOf}
@@ -25,7 +25,7 @@ use Rattle.apart.proofs.Marks.{counted-facts}
 use Rattle.tables.specs.Formed.{spanAt, counted, stored}
 use Rattle.store.specs.Store.{writes, storeRows}
 use Rattle.store.specs.Laid.{boundaryLaid}
-use Rattle.store.specs.Rows.{mapRows, onRows, keptRows, appendedRows}
+use Rattle.store.specs.Rows.{onRows, keptRows, appendedRows}
 use Rattle.store.proofs.Rows.{rows-stay, rows-twice, rows-length, table-agree}
 use Rattle.store.proofs.Packing.{every-row, kept-passing, kept-room, kept-length}
 use Rattle.store.proofs.Growing.{store-grown, appended-none, appended-then}
@@ -44,7 +44,7 @@ use Rattle.merge_draw.proofs.Boundaries.{point-length}
 use Rattle.merge_draw.proofs.Drawn.{boundary-redrawn, boundary-new}
 use Rattle.merge_redraw.specs.declared.Redrawn.{Redrawn}
 use Rattle.merge_laid.proofs.Lanes.{changed-records}
-use Rattle.merge_redraw.specs.Relaying.{rowFound, pointedBy, addedBy, sidePointed, sideAdded, boundariesLeft, boundariesRedrawn}
+use Rattle.merge_redraw.specs.Relaying.{rowFound, pointedBy, addedBy, sidePointed, sideAdded, boundariesRedrawn}
 
 -- ---- general
 
@@ -212,6 +212,11 @@ new-count m p id r start f =
 
 -- ---- the table
 
+-- the boundaries that stay and the new ones, with where their lines start
+abbrev pub boundaryStarts : List Float → Map → List ℕ → Lane → SidePlan → SidePlan → ℕ → ℕ → ℕ → List ℕ → List (ℕ × Boundary)
+boundaryStarts c m t a pl pr next left right gone =
+    map (boundaryAfter left right a pl pr) (keep (λ r. not (has (r .1 .id) gone)) (rows 5 (λ w. (word 2 w, boundaryOf c w)) t)) ++ (newStart m pl next (a .left) left ++ newStart m pr (next + planIds pl) (a .right) right)
+
 module _ (c : List Float) (m : Map) (t : List ℕ) (eb : m .boundaries ≡ rows 5 (boundaryOf c) t) (h : counted 4096 5 t ≡ true) (fine : all (λ b. b) (rows 5 (λ w. stored c (spanAt 2 w)) t) ≡ true)
     (a : Lane) (pl pr : SidePlan) (next left right : ℕ) (gone : List ℕ) (fl : Planned m (a .left .boundary) pl) (fr : Planned m (a .right .boundary) pr)
     (new : all (λ i. not (has i (keys 5 (word 0 t) (drop 1 t)))) (bothNew pl pr next) ≡ true)
@@ -222,9 +227,8 @@ module _ (c : List Float) (m : Map) (t : List ℕ) (eb : m .boundaries ≡ rows 
   abbrev news : List (ℕ × Boundary)
   news = newStart m pl next (a .left) left ++ newStart m pr (next + planIds pl) (a .right) right
 
-  -- the boundaries that stay and the new ones, with where their lines start
-  abbrev pub boundaryStarts : List (ℕ × Boundary)
-  boundaryStarts = map (boundaryAfter left right a pl pr) (keep (λ r. stays (r .1 .id)) (rows 5 (λ w. (word 2 w, boundaryOf c w)) t)) ++ news
+  abbrev starts : List (ℕ × Boundary)
+  starts = boundaryStarts c m t a pl pr next left right gone
 
   abbrev one : Redrawn
   one = redrawnBy t pl (a .left .boundary) next left
@@ -282,7 +286,7 @@ module _ (c : List Float) (m : Map) (t : List ℕ) (eb : m .boundaries ≡ rows 
       ∙ (ap (all (λ b. not (has (b .id) ks))) news-read
       ∙ (sym (all-map (λ i. not (has i ks)) (λ (b : Boundary). b .id) (newOnes next m a pl pr)) ∙ (ap (all (λ i. not (has i ks))) (ids-made m next a pl pr fl fr) ∙ new)))
 
-  grown : storeRows 5 boundaryLaid (λ r. r .1 .id) t boundaryStarts ≡ appendedRows 5 boundaryLaid news pointed
+  grown : storeRows 5 boundaryLaid (λ r. r .1 .id) t starts ≡ appendedRows 5 boundaryLaid news pointed
   unfolding boundaryOf
   grown =
       store-grown 5 boundaryLaid (λ r. r .1 .id) (λ w. (word 2 w, boundaryOf c w)) t old-room (λ w. stored c (spanAt 2 w)) stays (boundaryAfter left right a pl pr) news (λ w. refl) (λ r. joined-id pl pr a (r .1))
@@ -305,12 +309,12 @@ module _ (c : List Float) (m : Map) (t : List ℕ) (eb : m .boundaries ≡ rows 
       some-appended rs = unfold appendedRows in omega arith
 
   -- THE LAW of the table of boundaries
-  pub boundaries-redrawn : storeRows 5 boundaryLaid (λ r. r .1 .id) t boundaryStarts ≡ boundariesRedrawn gone one two t
+  pub boundaries-redrawn : storeRows 5 boundaryLaid (λ r. r .1 .id) t starts ≡ boundariesRedrawn gone one two t
   unfolding boundariesRedrawn
   boundaries-redrawn = grown ∙ (added ∙ ap (λ z. sideAdded two (sideAdded one z)) pointed-is)
 
   -- the records are those of the merged map
-  pub boundaries-read : map (λ r. r .1) boundaryStarts ≡ map (joinedBoundary pl pr a) (keep (λ x. stays (x .id)) (rows 5 (boundaryOf c) t)) ++ newOnes next m a pl pr
+  pub boundaries-read : map (λ r. r .1) starts ≡ map (joinedBoundary pl pr a) (keep (λ x. stays (x .id)) (rows 5 (boundaryOf c) t)) ++ newOnes next m a pl pr
   boundaries-read =
       let k = map (boundaryAfter left right a pl pr) (keep (λ r. stays (r .1 .id)) (rows 5 (λ w. (word 2 w, boundaryOf c w)) t)) in
       map-append (λ r. r .1) k news

@@ -1,13 +1,12 @@
 -- The table of lanes that a merge leaves is the merged lanes written over it, each with where its centreline starts. Assumes nothing.
 use mathlib.Core.Path.{_≡_, refl, sym, ap, _∙_}
-use Prim.Native.Nat.{ℕ, _+_, _*_, _≤_}
-use native.Mathlib.Omega.{arith}
+use Prim.Native.Nat.{ℕ, _≤_}
 use mathlib.Core.Bool.{Bool, true, false, not, _&&_, _||_, true≢false}
 use mathlib.Core.List.{List, [], _∷_, map}
-use mathlib.Core.Option.{none, some}
+use mathlib.Core.Option.{some}
 use lib.Dec.{eqb}
 use lib.Ieee.{Float}
-use lib.ListN.{length, drop}
+use lib.ListN.{length}
 use borrow.Author.Tests.{eq-eqb, eqb-true}
 use Rattle.lists.specs.Every.{all}
 use Rattle.lists.specs.Select.{keep, any, find, has, ascending, sameNumbers}
@@ -18,14 +17,13 @@ use Rattle.rules.specs.Names.{Tolerance}
 use Rattle.rules.specs.Merge.{SidePlan, afterMerge}
 use Rattle.tables.specs.View.{word, idsAt, rows, laneOf}
 use Rattle.tables.specs.Formed.{centerSpan, counted, stored, laneFormed}
-use Rattle.apart.proofs.Marks.{counted-facts}
 use Rattle.store.specs.Store.{storeRows}
 use Rattle.store.specs.Laid.{laneLaid}
-use Rattle.store.specs.Rows.{onRows, keptRows}
+use Rattle.store.specs.Rows.{keptRows}
 use Rattle.store.proofs.Packing.{store-kept, kept-passing, kept-room}
 use Rattle.store.proofs.Rows.{table-agree}
 use Rattle.laws.proofs.Merge.{after-id}
-use Rattle.layout.proofs.Standing.{mapped-rows, both-pass}
+use Rattle.layout.proofs.Standing.{mapped-rows}
 use Rattle.sound_facts.proofs.Stored.{rows-room}
 use Rattle.merge_draw.specs.Redrawing.{rowMerged}
 use Rattle.merge_redraw.specs.Relaying.{takenOf, lanesRedrawn}
@@ -92,17 +90,20 @@ takes c a b w h =
 
 -- ---- the table
 
+-- the lanes that stay, with where their centrelines start
+abbrev pub laneStarts : Tolerance → ℕ → ℕ → List Float → Lane → Lane → SidePlan → SidePlan → List ℕ → List (ℕ × Lane)
+laneStarts tol next reach c a b pl pr t = map (laneAfter tol next reach a b pl pr) (keep (λ r. not (has (r .1 .id) (b .id ∷ []))) (rows 52 (λ w. (word 7 w, laneOf c w)) t))
+
 module _ (tol : Tolerance) (next reach : ℕ) (c : List Float) (a b : Lane) (pl pr : SidePlan) (few : length (b .successors) ≤ 16) (t : List ℕ) (h : counted 1024 52 t ≡ true)
     (fine : all (λ b. b) (rows 52 (takesRow c a b) t) ≡ true) where
-  -- the lanes that stay, with where their centrelines start
   abbrev stays : ℕ → Bool
-  stays i = not (has i (b .id ∷ []))
+  stays n = not (has n (b .id ∷ []))
 
-  abbrev pub laneStarts : List (ℕ × Lane)
-  laneStarts = map (laneAfter tol next reach a b pl pr) (keep (λ r. stays (r .1 .id)) (rows 52 (λ w. (word 7 w, laneOf c w)) t))
+  abbrev starts : List (ℕ × Lane)
+  starts = laneStarts tol next reach c a b pl pr t
 
   -- THE LAW of the table of lanes
-  pub lanes-redrawn : storeRows 52 laneLaid (λ r. r .1 .id) t laneStarts ≡ lanesRedrawn (a .id) (b .id) (takenOf (planOf tol a b pl pr) next reach) (b .successors) t
+  pub lanes-redrawn : storeRows 52 laneLaid (λ r. r .1 .id) t starts ≡ lanesRedrawn (a .id) (b .id) (takenOf (planOf tol a b pl pr) next reach) (b .successors) t
   unfolding lanesRedrawn laneOf
   lanes-redrawn =
       let room = rows-room 1024 52 t h in
@@ -111,7 +112,7 @@ module _ (tol : Tolerance) (next reach : ℕ) (c : List Float) (a b : Lane) (pl 
       (λ w l g. row-merged tol next reach c a b pl pr few w l (takes c a b w g)) (keptRows 52 stays t) (kept-room 52 stays t room) (unfold rows in kept-passing 52 stays t room (takesRow c a b) fine)
 
   -- the records are those of the merged map
-  pub lanes-read : map (λ r. r .1) laneStarts ≡ map (afterMerge tol next a b pl pr) (keep (λ l. not (eqb (l .id) (b .id))) (rows 52 (laneOf c) t))
+  pub lanes-read : map (λ r. r .1) starts ≡ map (afterMerge tol next a b pl pr) (keep (λ l. not (eqb (l .id) (b .id))) (rows 52 (laneOf c) t))
   lanes-read =
       changed-records 52 (word 7) (laneOf c) (λ l. l .id) (laneAfter tol next reach a b pl pr) (afterMerge tol next a b pl pr) (λ r. refl) stays t
       ∙ ap (map (afterMerge tol next a b pl pr)) (keep-same (λ l. stays (l .id)) (λ l. not (eqb (l .id) (b .id))) (rows 52 (laneOf c) t) (λ l. unfold has in ap not (or-false (eqb (l .id) (b .id)))))

@@ -23,7 +23,7 @@ use Rattle.entities.specs.declared.Refusal.the-variants as R
 use Rattle.entities.specs.Records.{Line, Lane, Map}
 use Rattle.rules.specs.Names.{Side, Left, Right, Tolerance}
 use Rattle.rules.specs.Map.{boundaryOn, oriented-boundary, lanes-using-boundary}
-use Rattle.rules.specs.Edit.{Res, yield}
+use Rattle.rules.specs.Edit.{yield}
 use Rattle.rules.specs.Merge.{SidePlan, kept, in-place, fresh, joined, joinedLines, side-plan, planLine, joinedCenter}
 use Rattle.tables.specs.View.{word, mark, rows, lineAt, laneOf, boundaryOf}
 use Rattle.tables.specs.Formed.{spanAt, stored}
@@ -36,7 +36,7 @@ use Rattle.lookup.specs.Lookup.{rowAt, allShort, centersStored, countOf, points
 use Rattle.lookup.proofs.Laws.{oriented-drawn, row-passes, part-few}
 use Rattle.lookup.proofs.Center.{oriented-few}
 use Rattle.merge_plan.specs.Deciding.{counted, laneIn}
-use Rattle.merge_draw.specs.Redrawing.{joinedSide, joinedCenters, storedLine}
+use Rattle.merge_draw.specs.Redrawing.{joinedSide, storedLine}
 use Rattle.merge_redraw.specs.Relaying.{sidePoints, sideFloats, sideDrawn, centerDrawn, isSome, rightAt, centerAt, drawnWork}
 use Rattle.merge_laid.proofs.Rows.{planOf}
 

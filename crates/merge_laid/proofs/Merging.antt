@@ -4,18 +4,18 @@ use Prim.Native.Nat.{ℕ, _+_, _*_, _/_, _^_, _≤_, _<_, min}
 use native.Mathlib.Omega.{arith}
 use mathlib.Core.Bool.{Bool, true, false, not, _&&_, _||_, cond, true≢false}
 use mathlib.Core.List.{List, [], _∷_, _++_, map}
-use mathlib.Core.Option.{none, some}
+use mathlib.Core.Option.{some}
 use lib.Dec.{eqb, leb}
 use lib.Ieee.{Float}
 use lib.ListN.{length, drop, length-map, length-append, length-drop, length-take}
-use borrow.Author.Tests.{not-true, leb-true, eqb-true}
+use borrow.Author.Tests.{leb-true, eqb-true}
 use Rattle.lists.specs.Every.{all}
 use Rattle.lists.specs.Rows.{keys}
 use Rattle.lists.specs.Select.{keep, any, find, has, ascending, sameNumbers}
 use Rattle.lists.specs.declared.Found.the-variants.{At}
-use Rattle.lists.proofs.Booleans.{and-fst, and-snd, and-both}
+use Rattle.lists.proofs.Booleans.{and-fst, and-snd}
 use Rattle.lists.proofs.Select.{all-numbers, has-keep, keep-map, keep-same}
-use Rattle.entities.specs.Records.{Line, Lane, Boundary, Map}
+use Rattle.entities.specs.Records.{Lane, Boundary, Map}
 use Rattle.rules.specs.Names.{Tolerance, Left, Right}
 use Rattle.rules.specs.Map.{lane, uses}
 use Rattle.rules.specs.Sound as S
@@ -24,7 +24,7 @@ use Rattle.rules.specs.Lane.{unused}
 use Rattle.rules.specs.Merge.{SidePlan, kept, in-place, fresh, planIds, joinedBoundary, merged}
 use Rattle.rules.specs.Ops.{counterAfter}
 use Rattle.tables.specs.View.{Tables, word, idsAt, rows, view, laneOf, boundaryOf, stopLineOf, crosswalkOf}
-use Rattle.tables.specs.Formed.{Span, spans, centerSpan, stored, formed, soundTables, laneFormed}
+use Rattle.tables.specs.Formed.{spans, centerSpan, stored, formed, soundTables, laneFormed}
 use Rattle.row_tests.specs.Good.{allRows}
 use Rattle.row_tests.proofs.Formed.{lane-after}
 use Rattle.apart.specs.Marks.{within}
@@ -45,7 +45,7 @@ use Rattle.layout.specs.Pointed.{HasRoom}
 use Rattle.layout.proofs.Reach.{within-reach, reach-least}
 use Rattle.layout.proofs.Standing.{Rowwise, spans-rowwise, both-pass}
 use Rattle.lookup.specs.Lookup.{placeOf, rowAt}
-use Rattle.lookup.proofs.Laws.{find-at, place-id, place-within, row-passes, sorted-counted, sorted-ascends}
+use Rattle.lookup.proofs.Laws.{find-at, place-id, place-within, row-passes, sorted-ascends}
 use Rattle.lookup.proofs.Good.{rows-weaker}
 use Rattle.sound_facts.proofs.Stored.{formed-counts}
 use Rattle.sound_facts.proofs.LaidPlaces.{roomy}
@@ -91,6 +91,10 @@ module _ {tol : Tolerance} {counter : ℕ} {t : Tables} {one two i j : ℕ} {p :
 
   abbrev pub next : ℕ
   next = nextId counter
+
+  pub view-boundaries : view t .boundaries ≡ rows 5 (boundaryOf (t .coordinates)) (t .boundaries)
+  unfolding view
+  view-boundaries = refl
 
   -- the merged map
   abbrev pub done : Map

@@ -9,7 +9,7 @@ use mathlib.Core.Option.{Option, none, some}
 use lib.Dec.{eqb}
 use lib.Ieee.{Float}
 use lib.ListN.{length, getD, take, drop, length-append, length-drop, take-append-drop}
-use lib.Seq.{getD-drop, drop-drop, length-take-le, take-at, drop-at, drop-cons, take-all}
+use lib.Seq.{drop-drop, length-take-le, take-at, drop-at, drop-cons, take-all}
 use borrow.Author.Tests.{eqb-true, eq-eqb}
 use Rattle.lists.specs.Every.{all}
 use Rattle.lists.specs.Rows.{over}
@@ -18,15 +18,14 @@ use Rattle.lists.proofs.Every.{all-head}
 use Rattle.lists.proofs.Place.{place-present, length-place}
 use Rattle.lists.proofs.Rows.{over-nil, length-over}
 use Rattle.lists.proofs.Select.{length-keep, length-without, ascending-keep}
-use Rattle.entities.specs.declared.BoundaryRef.{BoundaryRef}
 use Rattle.entities.specs.declared.Neighbor.{Neighbor}
 use Rattle.entities.specs.Records.{Line, Lane}
 use Rattle.rules.specs.Names.{Tolerance}
 use Rattle.rules.specs.Edit.{relinked}
 use Rattle.rules.specs.Lane.{freed, forgetting}
-use Rattle.rules.specs.Merge.{SidePlan, kept, in-place, fresh, planIds, planRef, joinedCenter, linksAfter, mergedLane, afterMerge}
+use Rattle.rules.specs.Merge.{SidePlan, kept, in-place, fresh, planIds, planRef, joinedCenter, mergedLane, afterMerge}
 use Rattle.tables.specs.View.{word, mark, idsAt, refAt, slotAt, lineAt, laneOf}
-use Rattle.tables.specs.Formed.{Span, spanAt, centerSpan, stored, laneFormed}
+use Rattle.tables.specs.Formed.{spanAt, centerSpan, stored, laneFormed}
 use Rattle.store.specs.Store.{laneOnto, flag, present, numberOr, slotMark, slotLane, idsOnto}
 use Rattle.store.specs.Rows.{setList}
 use Rattle.store.specs.Laid.{laneLaid, centerOnto as laidCenter}
