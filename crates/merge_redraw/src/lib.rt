@@ -17,6 +17,11 @@ use lookup::OptionCount;
 use merge_draw::Taken;
 use merge_plan::Joined;
 use merge_plan::Plan;
+use merge_plan::center_points;
+use merge_plan::is_fresh;
+use merge_plan::is_some;
+use merge_plan::side_ids;
+use merge_plan::side_points;
 use tables::BOUNDARY;
 use tables::BOUNDARY_ATTRIBUTES;
 use tables::BOUNDARY_KIND;
@@ -49,27 +54,6 @@ pub struct Redrawn {
 
 // ---- plans
 
-// How many points a side draws.
-pub fn side_points(plan: Joined) -> usize
-    ensures { λ r. ⌜ r ≡ W.sidePoints plan ⌝ }
-{
-    match plan {
-        Joined::Kept => 0,
-        Joined::InPlace(n) => n,
-        Joined::Fresh(n) => n,
-    }
-}
-
-pub fn is_fresh(plan: Joined) -> bool
-    ensures { λ r. ⌜ r ≡ W.isFresh plan ⌝ }
-{
-    match plan {
-        Joined::Kept => false,
-        Joined::InPlace(_) => false,
-        Joined::Fresh(_) => true,
-    }
-}
-
 fn is_kept(plan: Joined) -> bool
     ensures { λ r. ⌜ r ≡ W.isKept plan ⌝ }
 {
@@ -77,17 +61,6 @@ fn is_kept(plan: Joined) -> bool
         Joined::Kept => true,
         Joined::InPlace(_) => false,
         Joined::Fresh(_) => false,
-    }
-}
-
-// How many ids a side allocates.
-pub fn side_ids(plan: Joined) -> usize
-    ensures { λ r. ⌜ r ≡ W.sideIds plan ⌝ }
-{
-    match plan {
-        Joined::Kept => 0,
-        Joined::InPlace(_) => 0,
-        Joined::Fresh(_) => 1,
     }
 }
 
@@ -99,24 +72,6 @@ fn turned(plan: Joined, reversed: bool) -> bool
         Joined::Kept => false,
         Joined::InPlace(_) => reversed,
         Joined::Fresh(_) => false,
-    }
-}
-
-fn center_points(center: OptionCount) -> usize
-    ensures { λ r. ⌜ r ≡ W.centerPoints center ⌝ }
-{
-    match center {
-        OptionCount::None => 0,
-        OptionCount::Some(n) => n,
-    }
-}
-
-fn is_some(center: OptionCount) -> bool
-    ensures { λ r. ⌜ r ≡ W.isSome center ⌝ }
-{
-    match center {
-        OptionCount::None => false,
-        OptionCount::Some(_) => true,
     }
 }
 
