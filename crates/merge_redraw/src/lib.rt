@@ -452,6 +452,57 @@ fn relay_large(
     );
 }
 
+// The larger two, by how far lines reach.
+fn relay_larger(
+    join: f64,
+    lanes: &mut [u64],
+    i: usize,
+    j: usize,
+    boundaries: &mut [u64],
+    stop_lines: &mut [u64],
+    crosswalks: &mut [u64],
+    coordinates: &mut [f64],
+    plan: Plan,
+    next: u64,
+    reach: usize,
+    gone: &[u64],
+)
+    requires { ⌜ (W.Relayable join plan next reach (now gone) i j (lineTables (now lanes) (now boundaries) (now «stop_lines») (now crosswalks) (now coordinates))) × (2560 < reach) ⌝ }
+    ensures { λ _. ⌜ lineTables (now (lanes .exit)) (now (boundaries .exit)) (now («stop_lines» .exit)) (now (crosswalks .exit)) (now (coordinates .exit)) ≡ W.relaid join plan next reach (now (gone .entry)) i j (W.blank (W.workFloats reach)) (lineTables (now (lanes .entry)) (now (boundaries .entry)) (now («stop_lines» .entry)) (now (crosswalks .entry)) (now (coordinates .entry))) ⌝ }
+{
+    if reach <= MEDIUM_REACH {
+        relay_medium(
+            join,
+            lanes,
+            i,
+            j,
+            boundaries,
+            stop_lines,
+            crosswalks,
+            coordinates,
+            plan,
+            next,
+            reach,
+            gone,
+        );
+        return;
+    }
+    relay_large(
+        join,
+        lanes,
+        i,
+        j,
+        boundaries,
+        stop_lines,
+        crosswalks,
+        coordinates,
+        plan,
+        next,
+        reach,
+        gone,
+    );
+}
+
 // The same with an array of its own, as large as the map asks.
 pub fn relay(
     join: f64,
@@ -487,24 +538,7 @@ pub fn relay(
         );
         return;
     }
-    if reach <= MEDIUM_REACH {
-        relay_medium(
-            join,
-            lanes,
-            i,
-            j,
-            boundaries,
-            stop_lines,
-            crosswalks,
-            coordinates,
-            plan,
-            next,
-            reach,
-            gone,
-        );
-        return;
-    }
-    relay_large(
+    relay_larger(
         join,
         lanes,
         i,
