@@ -2,7 +2,7 @@
 use mathlib.Core.Path.{_≡_, _∙_}
 use mathlib.Core.Bool.{true}
 use mathlib.Core.List.{List}
-use Prim.Native.Nat.{ℕ, suc, _+_, _*_, _≤_, _<_}
+use Prim.Native.Nat.{ℕ, suc, _+_, _-_, _*_, _≤_, _<_}
 use native.Mathlib.Numerals.{add-one}
 use native.Mathlib.Omega.{arith}
 use lib.Dec.{leb}
@@ -12,6 +12,7 @@ use borrow.Author.Tests.{leb-true}
 use Rattle.lists.proofs.Rows.{length-reads, getD-reads}
 use Rattle.rules.specs.Sound.{total}
 use Rattle.tables.specs.View.{word, rows}
+use Rattle.row_tests.proofs.Tables.{rowOf}
 use Rattle.lookup.specs.Lookup.{rowAt, allShort}
 use Rattle.lookup.proofs.Laws.{next-in, row-passes}
 
@@ -43,6 +44,10 @@ module _ (s : ℕ) (g : List ℕ → ℕ) (t : List ℕ) (most : ℕ) where
             unfold rows total in
             let l : length (rows s g t) ≤ i = rw (length-reads s g (word 0 t) (drop 1 t)) k in
             rw (drop-of-length-le (rows s g t) l)
+
+-- row i, as it is lent
+pub row-lent : (s : ℕ) (t : List ℕ) (i : ℕ) → rowOf s t i ≡ rowAt s t i
+row-lent s t i = let e : 1 + i * s + s - (1 + i * s) ≡ s = omega arith in rw e
 
 -- the size of the line at word k of row i, as it is read
 module _ (s k : ℕ) (t : List ℕ) (i : ℕ) where
