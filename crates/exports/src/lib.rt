@@ -44,7 +44,7 @@ pub extern "C" fn voldrekka_nearest_point(line: &[f64], x: f64, y: f64, out: &mu
     if out.len() < 5 {
         return 0;
     }
-    let found = polyline::nearest_point(line, Point2 { x, y });
+    let found = nearest::nearest_point(line, Point2 { x, y });
     let OptionNearest::Some(best) = found else {
         return 0;
     };
@@ -64,8 +64,8 @@ fn fits(line: &[f64], station: f64, floats: usize) -> bool
     if polyline::count(line) < places / 2 {
         return true;
     }
-    let before = polyline::slice_points(line, 0.0, station);
-    let behind = polyline::slice_points(line, station, polyline::length(line));
+    let before = stations::slice_points(line, 0.0, station);
+    let behind = stations::slice_points(line, station, polyline::length(line));
     if places < before {
         return false;
     }
@@ -89,7 +89,7 @@ pub extern "C" fn voldrekka_split_at(
     if !fits(line, station, out.len()) {
         return 0;
     }
-    let pieces = polyline::split_at(line, station, out);
+    let pieces = stations::split_at(line, station, out);
     *second = pieces.second;
     pieces.first
 }

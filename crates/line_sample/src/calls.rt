@@ -100,18 +100,18 @@ fn slice(s: &[u8], c: Cursor, a: &[f64], out: &mut [f64]) -> Cursor {
     let from = stream::float(s, c, 0);
     let to = stream::float(s, c, 1);
     let answer = stream::past(s, c, 2);
-    if out.len() / 3 < polyline::slice_points(a, from, to) {
+    if out.len() / 3 < stations::slice_points(a, from, to) {
         return no_line(s, answer, out);
     }
-    let n = polyline::slice(a, from, to, out);
+    let n = stations::slice(a, from, to, out);
     stream::same_line(s, answer, out, 0, n)
 }
 
 fn split(s: &[u8], c: Cursor, a: &[f64], out: &mut [f64]) -> Cursor {
     let station = stream::float(s, c, 0);
     let answer = stream::past(s, c, 1);
-    let first = polyline::slice_points(a, 0.0, station);
-    let second = polyline::slice_points(a, station, polyline::length(a));
+    let first = stations::slice_points(a, 0.0, station);
+    let second = stations::slice_points(a, station, polyline::length(a));
     let room = out.len() / 3;
     if room < first {
         return no_line(s, no_line(s, answer, out), out);
@@ -120,7 +120,7 @@ fn split(s: &[u8], c: Cursor, a: &[f64], out: &mut [f64]) -> Cursor {
         return no_line(s, no_line(s, answer, out), out);
     }
     let behind = first * 3;
-    let n = polyline::split_at(a, station, out);
+    let n = stations::split_at(a, station, out);
     let middle = stream::same_line(s, answer, out, 0, n.first);
     stream::same_line(s, middle, out, behind, n.second)
 }
@@ -132,10 +132,10 @@ fn resample(s: &[u8], c: Cursor, a: &[f64], out: &mut [f64]) -> Cursor {
     if 65536 < wanted {
         return no_line(s, answer, out);
     }
-    if out.len() / 3 < polyline::resample_points(a, wanted) {
+    if out.len() / 3 < stations::resample_points(a, wanted) {
         return no_line(s, answer, out);
     }
-    let n = polyline::resample_count(a, wanted, out);
+    let n = stations::resample_count(a, wanted, out);
     stream::same_line(s, answer, out, 0, n)
 }
 
@@ -143,7 +143,7 @@ fn reversed(s: &[u8], c: Cursor, a: &[f64], out: &mut [f64]) -> Cursor {
     if out.len() / 3 < polyline::count(a) {
         return no_line(s, c, out);
     }
-    let n = polyline::reversed(a, out);
+    let n = joins::reversed(a, out);
     stream::same_line(s, c, out, 0, n)
 }
 
@@ -154,10 +154,10 @@ fn concat(s: &[u8], c: Cursor, a: &[f64], b: &[f64], out: &mut [f64]) -> Cursor 
     if 65536 < b.len() {
         return no_line(s, c, out);
     }
-    if out.len() / 3 < polyline::concat_points(JOIN, a, b) {
+    if out.len() / 3 < joins::concat_points(JOIN, a, b) {
         return no_line(s, c, out);
     }
-    let n = polyline::concat(JOIN, a, b, out);
+    let n = joins::concat(JOIN, a, b, out);
     stream::same_line(s, c, out, 0, n)
 }
 
@@ -165,7 +165,7 @@ fn concat(s: &[u8], c: Cursor, a: &[f64], b: &[f64], out: &mut [f64]) -> Cursor 
 fn centerline(s: &[u8], c: Cursor, a: &[f64], b: &[f64], out: &mut [f64]) -> Cursor {
     let there = stream::number(s, c);
     let next = there.next;
-    let points = polyline::centerline_points(a, b);
+    let points = stations::centerline_points(a, b);
     if there.value == 0 {
         return stream::expect(next, points == 0);
     }
@@ -176,7 +176,7 @@ fn centerline(s: &[u8], c: Cursor, a: &[f64], b: &[f64], out: &mut [f64]) -> Cur
     if out.len() / 3 < points {
         return no_line(s, answer, out);
     }
-    let n = polyline::centerline(a, b, out);
+    let n = stations::centerline(a, b, out);
     stream::same_line(s, answer, out, 0, n)
 }
 
@@ -244,7 +244,7 @@ fn on_line(f: usize, s: &[u8], c: Cursor, a: &[f64]) -> Cursor {
         return maybe_nearest(
             s,
             stream::past(s, c, 2),
-            polyline::nearest_point(a, plane(s, c, 0)),
+            nearest::nearest_point(a, plane(s, c, 0)),
         );
     }
     let station = stream::float(s, c, 0);

@@ -243,7 +243,7 @@ pub fn put_line(line: &[f64], back: bool, out: &mut [f64]) -> usize
     ensures { λ r. ⌜ (r ≡ length (points (now (line .entry)))) × (now (out .exit) ≡ over (now (out .entry)) 0 (flat (cond back (reverse (points (now (line .entry)))) (points (now (line .entry)))))) ⌝ }
 {
     if back {
-        return polyline::reversed(line, out);
+        return joins::reversed(line, out);
     }
     copied(line, out)
 }
@@ -294,7 +294,7 @@ fn between_sides(
     };
     let left_end = a * POINT;
     let right_end = b * POINT;
-    let n = polyline::centerline(&left[..left_end], &right[..right_end], out);
+    let n = stations::centerline(&left[..left_end], &right[..right_end], out);
     if n == 0 {
         return OptionCount::None;
     }

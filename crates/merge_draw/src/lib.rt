@@ -81,7 +81,7 @@ fn join_in(
     let m = points(lookup::oriented_boundary(lanes, j, side, boundaries, coordinates, two));
     let one_end = n * POINT;
     let two_end = m * POINT;
-    let size = polyline::concat(join, &one[..one_end], &two[..two_end], line);
+    let size = joins::concat(join, &one[..one_end], &two[..two_end], line);
     let end = size * POINT;
     lookup::put_line(&line[..end], back, out)
 }
@@ -136,7 +136,7 @@ pub fn join_center(
     let b = 1 + j * LANE + LANE_CENTERLINE;
     let one = lookup::line_of(lanes, a + 1, coordinates);
     let two = lookup::line_of(lanes, b + 1, coordinates);
-    polyline::concat(join, one, two, out)
+    joins::concat(join, one, two, out)
 }
 
 // ---- boundaries

@@ -156,7 +156,7 @@ fn joined_points(
     let start = lookup::oriented_first(lanes, j, side, boundaries, coordinates);
     let one = boundaries[1 + x * BOUNDARY + BOUNDARY_SIZE] as usize;
     let two = boundaries[1 + y * BOUNDARY + BOUNDARY_SIZE] as usize;
-    one + two - polyline::meeting(join, end, start)
+    one + two - joins::meeting(join, end, start)
 }
 
 // Whether each of two boundaries is its lane's alone; the lanes are in rows i and j.
@@ -224,7 +224,7 @@ pub fn center_plan(join: f64, lanes: &[u64], i: usize, j: usize, coordinates: &[
     let start = polyline::first(lookup::line_of(lanes, b + LANE_CENTERLINE_START, coordinates));
     let one = lanes[a + LANE_CENTERLINE_SIZE] as usize;
     let two = lanes[b + LANE_CENTERLINE_SIZE] as usize;
-    OptionCount::Some(one + two - polyline::meeting(join, end, start))
+    OptionCount::Some(one + two - joins::meeting(join, end, start))
 }
 
 // ---- the whole plan
