@@ -29,7 +29,7 @@ fn slot_row(lanes: &[u64], k: usize, j: usize) -> Found
         return Found::Nothing;
     }
     let n = lanes[0] as usize;
-    lists::find_row(&lanes[1..], LANE, n, lanes[at + 1])
+    find::find_row(&lanes[1..], LANE, n, lanes[at + 1])
 }
 
 // A row that was found is marked, and goes to the queue's end if it was not marked; where the queue ends then.

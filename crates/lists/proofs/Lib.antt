@@ -5,4 +5,3 @@ pub mod Select
 pub mod Turns
 pub mod Place
 pub mod Same
-pub mod Growing

@@ -1,11 +1,10 @@
 -- Rows of a fixed length in lent memory: read into records, and written back.
-use Prim.Native.Nat.{ℕ, zero, suc, _+_, _-_, _≤_, _<_}
+use Prim.Native.Nat.{ℕ, zero, suc, _+_, _≤_, _<_}
 use mathlib.Core.List.{List, [], _∷_, _++_}
 use mathlib.Core.Bool.{cond}
 use lib.Dec.{eqb}
 use lib.ListN.{length, getD, take, drop}
 use Rattle.lists.specs.declared.Found.{Found}
-use Rattle.lists.specs.declared.Moved.{Moved}
 use Rattle.lists.specs.declared.Found.the-variants.{At, Nothing}
 
 -- k rows of s words from the front of w, each read by `dec`.
@@ -34,7 +33,3 @@ rowWith i (k ∷ ks) = let rest = rowWith i ks in cond (eqb k i) (At 0) (later r
 abbrev pub Among : List ℕ → ℕ → ℕ → ℕ → Type 0
 Among ks x low left =
     (1 ≤ left) × ((low + left ≤ length ks) × (((k : ℕ) → k < low → getD ks k 0 < x) × ((k : ℕ) → low + left ≤ k → k < length ks → x < getD ks k 0)))
-
--- ids put into the slots that end before `to`: the first of them, and how many were written, where the first id stood at place i
-abbrev pub movedTo : ℕ → ℕ → List ℕ → Moved
-movedTo i to ids = record { to = to - length ids; written = cond (eqb (to - length ids) i) (length ids - 1) (length ids) }

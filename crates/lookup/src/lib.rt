@@ -70,7 +70,7 @@ fn row_of(table: &[u64], row: usize, id: u64) -> Found
     ensures { λ r. ⌜ r ≡ K.placeOf row (now (table .entry)) id ⌝ }
 {
     let n = table[0] as usize;
-    lists::find_row(&table[1..], row, n, id)
+    find::find_row(&table[1..], row, n, id)
 }
 
 pub fn lane(lanes: &[u64], id: u64) -> Found

@@ -294,7 +294,7 @@ fn replace_list(row: &mut [u64], k: usize, to: u64, from: u64)
     }
     let start = k + 1;
     let end = start + row[k] as usize;
-    lists::replace(&mut row[start..end], from, to);
+    slots::replace(&mut row[start..end], from, to);
 }
 
 fn replace_rule(row: &mut [u64], to: u64, from: u64)

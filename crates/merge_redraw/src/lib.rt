@@ -299,7 +299,7 @@ fn redraw_followed(t: &mut [u64], i: usize, j: usize, taken: Taken)
     let mut held = [0; LINKS];
     let followed = lookup::successors(t, j);
     let n = followed.len();
-    lists::copy(followed, &mut held, 0);
+    slots::copy(followed, &mut held, 0);
     redraw_lanes(t, first, second, taken, &held[..n]);
 }
 

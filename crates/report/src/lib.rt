@@ -124,7 +124,7 @@ pub fn named(ids: &mut [u64], n: usize, id: u64) -> usize
     if lists::contains(&ids[..n], id) {
         return n;
     }
-    lists::insert(ids, n, id);
+    slots::insert(ids, n, id);
     n + 1
 }
 

@@ -21,7 +21,7 @@ fn names_back(t: &[u64], k: usize, id: u64, b: u64, near: usize) -> bool
     ensures { λ r. ⌜ r ≡ R.namesBack (now (t .entry)) k id b ⌝ }
 {
     let n = t[0] as usize;
-    let found = lists::find_near(&t[1..], LANE, n, b, near);
+    let found = find::find_near(&t[1..], LANE, n, b, near);
     let Found::At(j) = found else {
         return false;
     };
@@ -105,7 +105,7 @@ fn slot_returned(t: &[u64], k: usize, i: usize) -> bool
         return true;
     }
     let n = t[0] as usize;
-    let found = lists::find_near(&t[1..], LANE, n, t[at + k + 1], i);
+    let found = find::find_near(&t[1..], LANE, n, t[at + k + 1], i);
     let Found::At(j) = found else {
         return false;
     };

@@ -18,7 +18,7 @@ pub fn forget(row: &mut [u64], k: usize, id: u64)
     let n = row[k] as usize;
     let from = k + 1;
     let to = from + n;
-    let left = lists::remove(&mut row[from..to], n, id);
+    let left = slots::remove(&mut row[from..to], n, id);
     row[k] = left as u64;
 }
 
@@ -35,7 +35,7 @@ pub fn place(row: &mut [u64], k: usize, id: u64)
     }
     let more = n + 1;
     let end = from + more;
-    lists::insert(&mut row[from..end], n, id);
+    slots::insert(&mut row[from..end], n, id);
     row[k] = more as u64;
 }
 
@@ -44,7 +44,7 @@ pub fn put_list(row: &mut [u64], k: usize, ids: &[u64])
     requires { ⌜ k + 1 + length (now ids) ≤ length (now row) ⌝ }
     ensures { λ _. ⌜ now (row .exit) ≡ setList k (now (ids .entry)) (now (row .entry)) ⌝ }
 {
-    lists::copy(ids, row, k + 1);
+    slots::copy(ids, row, k + 1);
     row[k] = ids.len() as u64;
 }
 
@@ -54,7 +54,7 @@ fn keep_row(t: &mut [u64], s: usize, stay: bool, i: usize, kept: usize) -> usize
     ensures { λ r. ⌜ (r ≡ cond stay (kept + 1) kept) × (now (t .exit) ≡ cond stay (over (now (t .entry)) (1 + kept * s) (take s (drop (1 + i * s) (now (t .entry))))) (now (t .entry))) ⌝ }
 {
     if stay {
-        lists::move_down(t, 1 + kept * s, 1 + i * s, s);
+        slots::move_down(t, 1 + kept * s, 1 + i * s, s);
         return kept + 1;
     }
     kept

@@ -42,7 +42,7 @@ fn insert_sorted(lanes: &mut [u64], i: usize, k: usize, id: u64)
     let n = lanes[at] as usize;
     let from = at + 1;
     let to = from + LINKS;
-    lists::insert(&mut lanes[from..to], n, id);
+    slots::insert(&mut lanes[from..to], n, id);
     lanes[at] = n as u64 + 1;
 }
 
@@ -55,7 +55,7 @@ fn remove_sorted(lanes: &mut [u64], i: usize, k: usize, id: u64)
     let n = lanes[at] as usize;
     let from = at + 1;
     let to = from + LINKS;
-    let left = lists::remove(&mut lanes[from..to], n, id);
+    let left = slots::remove(&mut lanes[from..to], n, id);
     lanes[at] = left as u64;
 }
 

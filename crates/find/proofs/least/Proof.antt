@@ -1,0 +1,14 @@
+-- `find::least` meets its contract. Assumes nothing.
+use Rattle.find.proofs.least.Statement.{statement}
+use Rattle.find.proofs.least.Tie as tie
+use borrow.Author.Tests.{lt-ltb, le-ltb}
+use native.Mathlib.Omega.{arith}
+
+returns : tie.Need-returns
+returns c = rw (lt-ltb (c .before .args .a) (c .before .args .b) (c .if1 .taken))
+
+returns-2 : tie.Need-returns-2
+returns-2 c = rw (le-ltb (c .before .args .a) (c .before .args .b) (omega (arith, c .if1 .left)))
+
+pub least-spec : {M : Type 1} → statement M
+least-spec = tie.close (tie.spec returns returns-2)
