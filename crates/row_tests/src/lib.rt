@@ -1,3 +1,2 @@
-// map.rs: look-ups in the tables, and the test of soundness.
-pub mod links;
+// map.rs: the test of soundness, from the words of a row up.
 pub mod sound;

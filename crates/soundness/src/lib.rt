@@ -68,20 +68,20 @@ fn all_good(
     ensures { λ r. ⌜ r ≡ P.allGood most (tablesOf (now (lanes .entry)) (now (boundaries .entry)) (now (roads .entry)) (now (junctions .entry)) (now (rules .entry)) (now («stop_lines» .entry)) (now (crosswalks .entry)) (now (coordinates .entry))) ⌝ }
 {
     let a = both(
-        row_tests::sound::lanes_good(lanes, most, coordinates),
-        row_tests::sound::boundaries_good(boundaries, most, coordinates),
+        table_tests::lanes_good(lanes, most, coordinates),
+        table_tests::boundaries_good(boundaries, most, coordinates),
     );
     let b = both(
-        both(a, row_tests::sound::roads_good(roads, most)),
-        row_tests::sound::junctions_good(junctions, most),
+        both(a, table_tests::roads_good(roads, most)),
+        table_tests::junctions_good(junctions, most),
     );
-    let c = both(b, row_tests::sound::rules_good(rules, most));
+    let c = both(b, table_tests::rules_good(rules, most));
     both(
         both(
             c,
-            row_tests::sound::stop_lines_good(stop_lines, most, coordinates),
+            table_tests::stop_lines_good(stop_lines, most, coordinates),
         ),
-        row_tests::sound::crosswalks_good(crosswalks, most, coordinates),
+        table_tests::crosswalks_good(crosswalks, most, coordinates),
     )
 }
 
@@ -200,8 +200,8 @@ pub fn sound(
             coordinates,
         ) {
             if apart::lines_apart(lanes, boundaries, stop_lines, crosswalks) {
-                let linked = row_tests::links::links_returned(lanes);
-                return both(linked, row_tests::links::neighbors_returned(lanes));
+                let linked = link_tests::links_returned(lanes);
+                return both(linked, link_tests::neighbors_returned(lanes));
             }
         }
     }
