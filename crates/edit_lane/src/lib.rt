@@ -49,7 +49,7 @@ fn lonely(lanes: &[u64], boundaries: &[u64], lane: u64, id: u64) -> bool
 {
     let found = lookup::boundary(boundaries, id);
     match found {
-        Found::At(_) => !lookup::used_besides(lanes, id, lane),
+        Found::At(_) => !uses::used_besides(lanes, id, lane),
         Found::Nothing => false,
     }
 }

@@ -362,7 +362,11 @@ pub fn crosswalk_good(w: &[u64], most: u64, coordinates: &[f64]) -> bool
     both(
         both(
             numbers,
-            row_tests::sound::line_good(coordinates, w[CROSSWALK_LEFT_START], w[CROSSWALK_LEFT_SIZE]),
+            row_tests::sound::line_good(
+                coordinates,
+                w[CROSSWALK_LEFT_START],
+                w[CROSSWALK_LEFT_SIZE],
+            ),
         ),
         row_tests::sound::line_good(
             coordinates,

@@ -1,4 +1,3 @@
 pub mod Laws
 pub mod Center
-pub mod Anchor
 pub mod Good

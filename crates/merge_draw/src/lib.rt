@@ -77,13 +77,13 @@ fn join_in(
     requires { ⌜ (D.Joinable (now lanes) (now boundaries) i j (now coordinates) (now out)) × ((768 ≤ length (now one)) × ((768 ≤ length (now two)) × (1536 ≤ length (now line)))) ⌝ }
     ensures { λ r. ⌜ (r ≡ length (D.joinedSide join (now (coordinates .entry)) (now (lanes .entry)) (now (boundaries .entry)) i j side)) × (now (out .exit) ≡ over (now (out .entry)) 0 (flat (D.storedLine back (D.joinedSide join (now (coordinates .entry)) (now (lanes .entry)) (now (boundaries .entry)) i j side)))) ⌝ }
 {
-    let n = points(lookup::oriented_boundary(lanes, i, side, boundaries, coordinates, one));
-    let m = points(lookup::oriented_boundary(lanes, j, side, boundaries, coordinates, two));
+    let n = points(lane_lines::oriented_boundary(lanes, i, side, boundaries, coordinates, one));
+    let m = points(lane_lines::oriented_boundary(lanes, j, side, boundaries, coordinates, two));
     let one_end = n * POINT;
     let two_end = m * POINT;
     let size = joins::concat(join, &one[..one_end], &two[..two_end], line);
     let end = size * POINT;
-    lookup::put_line(&line[..end], back, out)
+    lane_lines::put_line(&line[..end], back, out)
 }
 
 // The same with arrays of its own.

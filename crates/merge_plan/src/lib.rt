@@ -152,8 +152,8 @@ fn joined_points(
     requires { ⌜ P.SideRows (now lanes) i j side (now boundaries) x y (now coordinates) ⌝ }
     ensures { λ r. ⌜ r ≡ P.joinedLength join (K.sideLine (now (coordinates .entry)) (now (lanes .entry)) (now (boundaries .entry)) i side) (K.sideLine (now (coordinates .entry)) (now (lanes .entry)) (now (boundaries .entry)) j side) ⌝ }
 {
-    let end = lookup::oriented_last(lanes, i, side, boundaries, coordinates);
-    let start = lookup::oriented_first(lanes, j, side, boundaries, coordinates);
+    let end = lane_lines::oriented_last(lanes, i, side, boundaries, coordinates);
+    let start = lane_lines::oriented_first(lanes, j, side, boundaries, coordinates);
     let one = boundaries[1 + x * BOUNDARY + BOUNDARY_SIZE] as usize;
     let two = boundaries[1 + y * BOUNDARY + BOUNDARY_SIZE] as usize;
     one + two - joins::meeting(join, end, start)
@@ -166,10 +166,10 @@ fn alone(lanes: &[u64], i: usize, one: u64, j: usize, two: u64) -> bool
 {
     let first = lanes[1 + i * LANE];
     let second = lanes[1 + j * LANE];
-    if lookup::used_besides(lanes, one, first) {
+    if uses::used_besides(lanes, one, first) {
         return false;
     }
-    !lookup::used_besides(lanes, two, second)
+    !uses::used_besides(lanes, two, second)
 }
 
 // The plan of a side, or the boundary that is absent. A boundary that both lanes name is not looked up.

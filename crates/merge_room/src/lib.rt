@@ -84,7 +84,7 @@ fn goes(
     let second = lanes[1 + j * LANE];
     !either(
         held(lanes, i, left, right, id),
-        lookup::used_outside(lanes, id, first, second),
+        uses::used_outside(lanes, id, first, second),
     )
 }
 

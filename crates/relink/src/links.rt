@@ -60,10 +60,10 @@ pub fn gapped(
     requires { ⌜ (sortedTable 1024 52 (now lanes) ≡ true) × ((i < word 0 (now lanes)) × ((j < word 0 (now lanes)) × ((sortedTable 4096 5 (now boundaries) ≡ true) × (allStored 5 2 (now coordinates) (now boundaries) ≡ true)))) ⌝ }
     ensures { λ r. ⌜ r ≡ E.gapped tolerance (drawn (now (coordinates .entry)) (now (boundaries .entry))) (laneOf (now (coordinates .entry)) (laneAt (now (lanes .entry)) i)) (laneOf (now (coordinates .entry)) (laneAt (now (lanes .entry)) j)) ⌝ }
 {
-    let fl = lookup::oriented_last(lanes, i, Side::Left, boundaries, coordinates);
-    let fr = lookup::oriented_last(lanes, i, Side::Right, boundaries, coordinates);
-    let tl = lookup::oriented_first(lanes, j, Side::Left, boundaries, coordinates);
-    let tr = lookup::oriented_first(lanes, j, Side::Right, boundaries, coordinates);
+    let fl = lane_lines::oriented_last(lanes, i, Side::Left, boundaries, coordinates);
+    let fr = lane_lines::oriented_last(lanes, i, Side::Right, boundaries, coordinates);
+    let tl = lane_lines::oriented_first(lanes, j, Side::Left, boundaries, coordinates);
+    let tr = lane_lines::oriented_first(lanes, j, Side::Right, boundaries, coordinates);
     let ends = both(both(both(there(fl), there(fr)), there(tl)), there(tr));
     if ends {
         if apart(tolerance, fl, tl) {

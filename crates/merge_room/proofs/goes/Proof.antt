@@ -4,7 +4,7 @@ use Rattle.merge_room.proofs.goes.Tie as tie
 use Rattle.merge_room.proofs.goes.Reads as reads
 use Rattle.merge_room.proofs.goes.Lts as lts
 use Rattle.lookup.proofs.boundary.Reads as boundary-reads
-use Rattle.lookup.proofs.used_outside.Reads as used-outside-reads
+use Rattle.uses.proofs.used_outside.Reads as used-outside-reads
 use Rattle.merge_room.proofs.either.Reads as either-reads
 use Rattle.merge_room.proofs.held.Reads as held-reads
 use native.Mathlib.Omega.{arith}
