@@ -45,7 +45,7 @@ pub fn connect(
     if from == to {
         return Answer::Refused(Refusal::OwnPartner(from));
     }
-    let gap = relink::links::gapped(lanes, i, j, boundaries, coordinates, tolerance.gap);
+    let gap = gaps::gapped(lanes, i, j, boundaries, coordinates, tolerance.gap);
     let linked = relink::links::leads(lanes, i, to);
     relink::links::link(lanes, i, j, linked, gap, modified, warnings)
 }

@@ -23,7 +23,7 @@ use Rattle.step.specs.Step.{Lent, Ended, ended, step, refusing}
 use Rattle.sound_facts.proofs.Found.{sound-formed, lane-there, lane-missing, lanes-sorted, leads-may}
 use Rattle.mentions.specs.declared.Rows.the-variants.{Lanes, Roads, Junctions, Rules}
 use Rattle.mentions.specs.Naming.{tableFormed}
-use Rattle.edit_lane.specs.Parts.{Formed, Removable, Removed, goneWith, without-lane}
+use Rattle.unused.specs.Parts.{Formed, Removable, Removed, goneWith, without-lane}
 use Rattle.edit_lane.proofs.Steps.{lane-absent, step-removed, spread, given}
 
 -- ---- the tables of a sound map

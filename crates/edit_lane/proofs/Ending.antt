@@ -18,8 +18,8 @@ use Rattle.report.specs.declared.Answer.the-variants.{Changed, Refused}
 use Rattle.report.proofs.Warnings.{room}
 use Rattle.mentions.specs.declared.Rows.the-variants.{Rules, Orphans}
 use Rattle.mentions.specs.Naming.{tableFormed, naming}
-use Rattle.edit_lane.specs.declared.Gone.{Gone}
-use Rattle.edit_lane.specs.Parts.{Holds, goneIds, goneWith, touched, leaving, listsFit, Left, leftTables, Removed, removed, without-lane}
+use Rattle.unused.specs.declared.Gone.{Gone}
+use Rattle.unused.specs.Parts.{Holds, goneIds, goneWith, touched, leaving, listsFit, Left, leftTables, Removed, removed, without-lane}
 
 pub orphans-formed : (t : List ℕ) → tableFormed Rules t ≡ true → tableFormed Orphans t ≡ true
 unfolding tableFormed

@@ -1,9 +1,3 @@
-pub mod Lists
-pub mod Tables
 pub mod Steps
-pub mod Boundaries
-pub mod Listed
-pub mod Warned
-pub mod Staying
 pub mod Ending
 pub mod Calls

@@ -37,9 +37,9 @@ use Rattle.report.proofs.Laws.{listed-nil}
 use Rattle.sound_facts.proofs.Found.{sound-map, sound-formed}
 use Rattle.mentions.specs.declared.Rows.the-variants.{Orphans}
 use Rattle.mentions.specs.Naming.{naming}
-use Rattle.edit_lane.specs.Parts as P
-use Rattle.edit_lane.proofs.Lists.{modified-read, deleted-read, warnings-read}
-use Rattle.edit_lane.proofs.Tables.{tables-left}
+use Rattle.unused.specs.Parts as P
+use Rattle.unused.proofs.Lists.{modified-read, deleted-read, warnings-read}
+use Rattle.unused.proofs.Tables.{tables-left}
 
 -- ---- room: a removal only makes things fewer
 

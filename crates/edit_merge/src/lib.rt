@@ -87,9 +87,9 @@ fn write_named(roads: &mut [u64], junctions: &mut [u64], rules: &mut [u64], firs
     requires { ⌜ P.Named (now roads) (now junctions) (now rules) ⌝ }
     ensures { λ _. ⌜ P.named (now (roads .exit)) (now (junctions .exit)) (now (rules .exit)) ≡ P.namedWritten first second (P.named (now (roads .entry)) (now (junctions .entry)) (now (rules .entry))) ⌝ }
 {
-    mentions::forget(roads, Rows::Roads, second);
-    mentions::forget(junctions, Rows::Junctions, second);
-    mentions::replace(rules, first, second);
+    forgets::forget(roads, Rows::Roads, second);
+    forgets::forget(junctions, Rows::Junctions, second);
+    replaces::replace(rules, first, second);
 }
 
 // All tables.
@@ -114,9 +114,9 @@ fn write(
 {
     let first = lanes[1 + i * LANE];
     let second = lanes[1 + j * LANE];
-    let reach = layout::lines_reach(lanes, boundaries, stop_lines, crosswalks);
+    let reach = reach::lines_reach(lanes, boundaries, stop_lines, crosswalks);
     write_named(roads, junctions, rules, first, second);
-    merge_redraw::relay(
+    relay::relay(
         join,
         lanes,
         i,

@@ -1,4 +1,4 @@
-// Rows of a table that name a lane: how many there are, their list, and what they become when the lane goes or reads as another.
+// Rows of a table that name a lane: how many there are, and their list. `forgets` and `replaces` have what they become when the lane goes or reads as another.
 ghost use mathlib.Core.Path.{_≡_};
 ghost use mathlib.Core.Bool.{true};
 ghost use mathlib.Core.List.{[], _∷_};
@@ -9,7 +9,6 @@ ghost use Rattle.lists.specs.Select.{has, each};
 ghost use Rattle.rules.specs.Edit.{refs, when};
 ghost use Rattle.tables.specs.View.{word, idsAt};
 ghost use Rattle.tables.specs.Formed.{laneFormed, ruleFormed};
-ghost use Rattle.store.specs.Rows.{onRows};
 ghost use Rattle.report.specs.Report.{entityWords};
 ghost use Rattle.mentions.specs.Naming as N;
 ghost use Rattle.mentions.specs.declared.Rows.the-variants.{Rules, Orphans};
@@ -42,7 +41,7 @@ pub enum Rows {
     Orphans,
 }
 
-fn row_words(rows: Rows) -> usize
+pub fn row_words(rows: Rows) -> usize
     ensures { λ r. ⌜ r ≡ N.rowWords rows ⌝ }
 {
     match rows {
@@ -79,7 +78,7 @@ pub fn lists_lane(row: &[u64], k: usize, id: u64) -> bool
 }
 
 // Whether the slot at place k of a row names a lane.
-fn slot_names(row: &[u64], k: usize, id: u64) -> bool
+pub fn slot_names(row: &[u64], k: usize, id: u64) -> bool
     requires { ⌜ k + 2 ≤ length (now row) ⌝ }
     ensures { λ r. ⌜ r ≡ N.slotNames id k (now (row .entry)) ⌝ }
 {
@@ -205,122 +204,4 @@ pub fn list(t: &[u64], rows: Rows, id: u64, out: &mut [u64], at: usize) -> usize
         i += 1;
     }
     place
-}
-
-// ---- a lane goes
-
-// A slot that names the lane is freed.
-fn free(row: &mut [u64], k: usize, id: u64)
-    requires { ⌜ k + 2 ≤ length (now row) ⌝ }
-    ensures { λ _. ⌜ now (row .exit) ≡ N.freeAt id k (now (row .entry)) ⌝ }
-{
-    if slot_names(row, k, id) {
-        row[k] = NONE;
-    }
-}
-
-pub fn forget_lane(row: &mut [u64], id: u64)
-    requires { ⌜ (length (now row) ≡ 52) × (laneFormed (now row) ≡ true) ⌝ }
-    ensures { λ _. ⌜ now (row .exit) ≡ N.laneForgets id (now (row .entry)) ⌝ }
-{
-    store::forget(row, SUCCESSORS, id);
-    store::forget(row, PREDECESSORS, id);
-    free(row, RIGHT_SLOT, id);
-    free(row, LEFT_SLOT, id);
-}
-
-fn forget_rule(row: &mut [u64], id: u64)
-    requires { ⌜ (length (now row) ≡ 330) × (ruleFormed (now row) ≡ true) ⌝ }
-    ensures { λ _. ⌜ now (row .exit) ≡ N.ruleForgets id (now (row .entry)) ⌝ }
-{
-    let kind = row[RULE_KIND];
-    store::forget(row, RULE_LANES, id);
-    if kind != RIGHT_OF_WAY {
-        return;
-    }
-    store::forget(row, RULE_PRIORITY, id);
-    store::forget(row, RULE_YIELDING, id);
-}
-
-fn forget_row(row: &mut [u64], rows: Rows, id: u64)
-    requires { ⌜ (length (now row) ≡ N.rowWords rows) × (N.rowFormed rows (now row) ≡ true) ⌝ }
-    ensures { λ _. ⌜ now (row .exit) ≡ N.forgets rows id (now (row .entry)) ⌝ }
-{
-    match rows {
-        Rows::Lanes => {
-            forget_lane(row, id);
-        }
-        Rows::Roads => {
-            store::forget(row, ROAD_LANES, id);
-        }
-        Rows::Junctions => {
-            store::forget(row, JUNCTION_LANES, id);
-        }
-        Rows::Rules => {
-            forget_rule(row, id);
-        }
-        Rows::Orphans => {
-            forget_rule(row, id);
-        }
-    }
-}
-
-// Every row forgets the lane.
-pub fn forget(t: &mut [u64], rows: Rows, id: u64)
-    requires { ⌜ N.tableFormed rows (now t) ≡ true ⌝ }
-    ensures { λ _. ⌜ now (t .exit) ≡ onRows (N.rowWords rows) (N.forgets rows id) (now (t .entry)) ⌝ }
-{
-    let s = row_words(rows);
-    let n = t[0] as usize;
-    let mut i = 0;
-    while i < n {
-        let at = 1 + i * s;
-        let end = at + s;
-        forget_row(&mut t[at..end], rows, id);
-        i += 1;
-    }
-}
-
-// ---- a lane reads as another
-
-// In the list at place k of a row every `from` reads `to`, or goes where `to` stands already.
-fn replace_list(row: &mut [u64], k: usize, to: u64, from: u64)
-    requires { ⌜ k + 1 + word k (now row) ≤ length (now row) ⌝ }
-    ensures { λ _. ⌜ now (row .exit) ≡ N.replaceAt to from k (now (row .entry)) ⌝ }
-{
-    if lists_lane(row, k, to) {
-        store::forget(row, k, from);
-        return;
-    }
-    let start = k + 1;
-    let end = start + row[k] as usize;
-    slots::replace(&mut row[start..end], from, to);
-}
-
-fn replace_rule(row: &mut [u64], to: u64, from: u64)
-    requires { ⌜ (length (now row) ≡ 330) × (ruleFormed (now row) ≡ true) ⌝ }
-    ensures { λ _. ⌜ now (row .exit) ≡ N.ruleReplaces to from (now (row .entry)) ⌝ }
-{
-    let kind = row[RULE_KIND];
-    replace_list(row, RULE_LANES, to, from);
-    if kind != RIGHT_OF_WAY {
-        return;
-    }
-    replace_list(row, RULE_PRIORITY, to, from);
-    replace_list(row, RULE_YIELDING, to, from);
-}
-
-// In the lists of every rule.
-pub fn replace(rules: &mut [u64], to: u64, from: u64)
-    requires { ⌜ N.tableFormed Rules (now rules) ≡ true ⌝ }
-    ensures { λ _. ⌜ now (rules .exit) ≡ onRows 330 (N.ruleReplaces to from) (now (rules .entry)) ⌝ }
-{
-    let n = rules[0] as usize;
-    let mut i = 0;
-    while i < n {
-        let at = 1 + i * RULE;
-        let end = at + RULE;
-        replace_rule(&mut rules[at..end], to, from);
-        i += 1;
-    }
 }

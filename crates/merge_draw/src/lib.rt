@@ -190,9 +190,9 @@ fn relink_row(row: &mut [u64], first: u64, second: u64)
     ensures { λ _. ⌜ now (row .exit) ≡ D.comesFrom first second (now (row .entry)) ⌝ }
 {
     let came = mentions::lists_lane(row, PREDECESSORS, second);
-    mentions::forget_lane(row, second);
+    forgets::forget_lane(row, second);
     if came {
-        store::place(row, PREDECESSORS, first);
+        row_lists::place(row, PREDECESSORS, first);
     }
 }
 
@@ -229,7 +229,7 @@ fn take_over(row: &mut [u64], taken: Taken, successors: &[u64])
     put_ref(row, taken.left, LANE_LEFT, taken.boundary);
     put_ref(row, taken.right, LANE_RIGHT, taken.other);
     put_center(row, taken.center, taken.start, taken.size);
-    store::put_list(row, SUCCESSORS, successors);
+    row_lists::put_list(row, SUCCESSORS, successors);
 }
 
 // A lane's row after the merge.

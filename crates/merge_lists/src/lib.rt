@@ -198,9 +198,9 @@ pub fn warn(notices: Notices, warnings: &mut [u64])
     let right = notices.right;
     let one = notices.one;
     let other = notices.other;
-    let a = report::note(warnings, 0, conflict);
-    let b = report::note(warnings, a, left);
-    let c = report::note(warnings, b, right);
-    let d = report::note(warnings, c, one);
-    report::note(warnings, d, other);
+    let a = warnings::note(warnings, 0, conflict);
+    let b = warnings::note(warnings, a, left);
+    let c = warnings::note(warnings, b, right);
+    let d = warnings::note(warnings, c, one);
+    warnings::note(warnings, d, other);
 }

@@ -1,5 +1,5 @@
-// edit/merge.rs: the tables with lines after a merge. Joined lines are drawn into an array of work behind a copy of the coordinates, the rows point there, and
-// the layout brings every line to its place.
+// edit/merge.rs: the lines and rows of a merge. Joined lines are drawn into an array of work behind a copy of the coordinates, and the rows point there; `relay`
+// has the layout bring every line to its place.
 ghost use mathlib.Core.Path.{_≡_};
 ghost use mathlib.Core.Bool.{true};
 ghost use Prim.Native.Nat.{_+_, _*_, _^_, _≤_, _<_};
@@ -7,7 +7,6 @@ ghost use lib.ListN.{length};
 ghost use Rattle.lists.specs.Rows.{over};
 ghost use Rattle.tables.specs.View.{word, idsAt};
 ghost use Rattle.tables.specs.Formed.{counted};
-ghost use Rattle.layout.specs.Layout.{lineTables};
 ghost use Rattle.lookup.specs.Lookup as K;
 ghost use Rattle.merge_draw.specs.Redrawing.{LanesLinked};
 ghost use Rattle.merge_redraw.specs.Relaying as W;
@@ -27,18 +26,6 @@ use tables::BOUNDARY_ATTRIBUTES;
 use tables::BOUNDARY_KIND;
 use tables::LANE;
 use tables::POINT;
-
-// Floats of the three arrays of work: each has room for 1,536 points behind those that are copied.
-const SMALL: usize = 12288;
-
-const MEDIUM: usize = 49152;
-
-const LARGE: usize = 201216;
-
-// Points that are copied into the smaller two at most.
-const SMALL_REACH: usize = 2560;
-
-const MEDIUM_REACH: usize = 14848;
 
 const LINKS: usize = 16;
 
@@ -132,7 +119,7 @@ fn draw_center(
 }
 
 // The coordinates up to where lines reach, and behind them the joined lines.
-fn draw(
+pub fn draw(
     join: f64,
     lanes: &[u64],
     i: usize,
@@ -182,7 +169,7 @@ fn draw(
 // ---- boundaries
 
 // What a side does to the table of boundaries.
-fn redrawn_of(
+pub fn redrawn_of(
     lanes: &[u64],
     i: usize,
     side: Side,
@@ -247,7 +234,7 @@ fn add_side(t: &mut [u64], side: Redrawn)
 }
 
 // The boundaries that go, those that are joined in place, and the new ones.
-fn redraw_boundaries(t: &mut [u64], gone: &[u64], left: Redrawn, right: Redrawn)
+pub fn redraw_boundaries(t: &mut [u64], gone: &[u64], left: Redrawn, right: Redrawn)
     requires { ⌜ W.Redrawable (now gone) left right (now t) ⌝ }
     ensures { λ _. ⌜ now (t .exit) ≡ W.boundariesRedrawn (now (gone .entry)) left right (now (t .entry)) ⌝ }
 {
@@ -261,7 +248,7 @@ fn redraw_boundaries(t: &mut [u64], gone: &[u64], left: Redrawn, right: Redrawn)
 // ---- lanes
 
 // What the first lane takes over.
-fn taken_of(plan: Plan, next: u64, reach: usize) -> Taken
+pub fn taken_of(plan: Plan, next: u64, reach: usize) -> Taken
     requires { ⌜ (next + W.sideIds (plan .left) < 2 ^ 64) × (W.centerAt plan reach < 2 ^ 64) ⌝ }
     ensures { λ r. ⌜ r ≡ W.takenOf plan next reach ⌝ }
 {
@@ -290,7 +277,7 @@ fn redraw_lanes(t: &mut [u64], first: u64, second: u64, taken: Taken, successors
 }
 
 // The first lane's row takes over a copy of the second's successors.
-fn redraw_followed(t: &mut [u64], i: usize, j: usize, taken: Taken)
+pub fn redraw_followed(t: &mut [u64], i: usize, j: usize, taken: Taken)
     requires { ⌜ (LanesLinked (now t)) × ((K.sortedTable 1024 52 (now t) ≡ true) × ((i < word 0 (now t)) × (j < word 0 (now t)))) ⌝ }
     ensures { λ _. ⌜ now (t .exit) ≡ W.lanesRedrawn (word 0 (K.rowAt 52 (now (t .entry)) i)) (word 0 (K.rowAt 52 (now (t .entry)) j)) taken (idsAt 35 (K.rowAt 52 (now (t .entry)) j)) (now (t .entry)) ⌝ }
 {
@@ -301,255 +288,4 @@ fn redraw_followed(t: &mut [u64], i: usize, j: usize, taken: Taken)
     let n = followed.len();
     slots::copy(followed, &mut held, 0);
     redraw_lanes(t, first, second, taken, &held[..n]);
-}
-
-// ---- all of it
-
-// The tables with lines after the merge of the lanes in rows i and j; `work` is an array of work.
-fn relay_in(
-    join: f64,
-    lanes: &mut [u64],
-    i: usize,
-    j: usize,
-    boundaries: &mut [u64],
-    stop_lines: &mut [u64],
-    crosswalks: &mut [u64],
-    coordinates: &mut [f64],
-    plan: Plan,
-    next: u64,
-    reach: usize,
-    gone: &[u64],
-    work: &mut [f64],
-)
-    requires { ⌜ (W.Relayable join plan next reach (now gone) i j (lineTables (now lanes) (now boundaries) (now «stop_lines») (now crosswalks) (now coordinates))) × ((reach + 1536) * 3 ≤ length (now work)) ⌝ }
-    ensures { λ _. ⌜ lineTables (now (lanes .exit)) (now (boundaries .exit)) (now («stop_lines» .exit)) (now (crosswalks .exit)) (now (coordinates .exit)) ≡ W.relaid join plan next reach (now (gone .entry)) i j (now (work .entry)) (lineTables (now (lanes .entry)) (now (boundaries .entry)) (now («stop_lines» .entry)) (now (crosswalks .entry)) (now (coordinates .entry))) ⌝ }
-{
-    let left = plan.left;
-    let right = plan.right;
-    let taken = taken_of(plan, next, reach);
-    let other = taken.other;
-    let right_at = reach + side_points(left);
-    draw(
-        join,
-        lanes,
-        i,
-        j,
-        boundaries,
-        coordinates,
-        plan,
-        reach,
-        work,
-    );
-    let one = redrawn_of(lanes, i, Side::Left, boundaries, left, next, reach);
-    let two = redrawn_of(lanes, i, Side::Right, boundaries, right, other, right_at);
-    redraw_boundaries(boundaries, gone, one, two);
-    redraw_followed(lanes, i, j, taken);
-    layout::gather_all(lanes, boundaries, stop_lines, crosswalks, work, coordinates);
-}
-
-fn relay_small(
-    join: f64,
-    lanes: &mut [u64],
-    i: usize,
-    j: usize,
-    boundaries: &mut [u64],
-    stop_lines: &mut [u64],
-    crosswalks: &mut [u64],
-    coordinates: &mut [f64],
-    plan: Plan,
-    next: u64,
-    reach: usize,
-    gone: &[u64],
-)
-    requires { ⌜ (W.Relayable join plan next reach (now gone) i j (lineTables (now lanes) (now boundaries) (now «stop_lines») (now crosswalks) (now coordinates))) × ((reach + 1536) * 3 ≤ 12288) ⌝ }
-    ensures { λ _. ⌜ lineTables (now (lanes .exit)) (now (boundaries .exit)) (now («stop_lines» .exit)) (now (crosswalks .exit)) (now (coordinates .exit)) ≡ W.relaid join plan next reach (now (gone .entry)) i j (W.blank 12288) (lineTables (now (lanes .entry)) (now (boundaries .entry)) (now («stop_lines» .entry)) (now (crosswalks .entry)) (now (coordinates .entry))) ⌝ }
-{
-    let mut work = [0.0; SMALL];
-    relay_in(
-        join,
-        lanes,
-        i,
-        j,
-        boundaries,
-        stop_lines,
-        crosswalks,
-        coordinates,
-        plan,
-        next,
-        reach,
-        gone,
-        &mut work,
-    );
-}
-
-fn relay_medium(
-    join: f64,
-    lanes: &mut [u64],
-    i: usize,
-    j: usize,
-    boundaries: &mut [u64],
-    stop_lines: &mut [u64],
-    crosswalks: &mut [u64],
-    coordinates: &mut [f64],
-    plan: Plan,
-    next: u64,
-    reach: usize,
-    gone: &[u64],
-)
-    requires { ⌜ (W.Relayable join plan next reach (now gone) i j (lineTables (now lanes) (now boundaries) (now «stop_lines») (now crosswalks) (now coordinates))) × ((reach + 1536) * 3 ≤ 49152) ⌝ }
-    ensures { λ _. ⌜ lineTables (now (lanes .exit)) (now (boundaries .exit)) (now («stop_lines» .exit)) (now (crosswalks .exit)) (now (coordinates .exit)) ≡ W.relaid join plan next reach (now (gone .entry)) i j (W.blank 49152) (lineTables (now (lanes .entry)) (now (boundaries .entry)) (now («stop_lines» .entry)) (now (crosswalks .entry)) (now (coordinates .entry))) ⌝ }
-{
-    let mut work = [0.0; MEDIUM];
-    relay_in(
-        join,
-        lanes,
-        i,
-        j,
-        boundaries,
-        stop_lines,
-        crosswalks,
-        coordinates,
-        plan,
-        next,
-        reach,
-        gone,
-        &mut work,
-    );
-}
-
-fn relay_large(
-    join: f64,
-    lanes: &mut [u64],
-    i: usize,
-    j: usize,
-    boundaries: &mut [u64],
-    stop_lines: &mut [u64],
-    crosswalks: &mut [u64],
-    coordinates: &mut [f64],
-    plan: Plan,
-    next: u64,
-    reach: usize,
-    gone: &[u64],
-)
-    requires { ⌜ (W.Relayable join plan next reach (now gone) i j (lineTables (now lanes) (now boundaries) (now «stop_lines») (now crosswalks) (now coordinates))) × ((reach + 1536) * 3 ≤ 201216) ⌝ }
-    ensures { λ _. ⌜ lineTables (now (lanes .exit)) (now (boundaries .exit)) (now («stop_lines» .exit)) (now (crosswalks .exit)) (now (coordinates .exit)) ≡ W.relaid join plan next reach (now (gone .entry)) i j (W.blank 201216) (lineTables (now (lanes .entry)) (now (boundaries .entry)) (now («stop_lines» .entry)) (now (crosswalks .entry)) (now (coordinates .entry))) ⌝ }
-{
-    let mut work = [0.0; LARGE];
-    relay_in(
-        join,
-        lanes,
-        i,
-        j,
-        boundaries,
-        stop_lines,
-        crosswalks,
-        coordinates,
-        plan,
-        next,
-        reach,
-        gone,
-        &mut work,
-    );
-}
-
-// The larger two, by how far lines reach.
-fn relay_larger(
-    join: f64,
-    lanes: &mut [u64],
-    i: usize,
-    j: usize,
-    boundaries: &mut [u64],
-    stop_lines: &mut [u64],
-    crosswalks: &mut [u64],
-    coordinates: &mut [f64],
-    plan: Plan,
-    next: u64,
-    reach: usize,
-    gone: &[u64],
-)
-    requires { ⌜ (W.Relayable join plan next reach (now gone) i j (lineTables (now lanes) (now boundaries) (now «stop_lines») (now crosswalks) (now coordinates))) × (2560 < reach) ⌝ }
-    ensures { λ _. ⌜ lineTables (now (lanes .exit)) (now (boundaries .exit)) (now («stop_lines» .exit)) (now (crosswalks .exit)) (now (coordinates .exit)) ≡ W.relaid join plan next reach (now (gone .entry)) i j (W.blank (W.workFloats reach)) (lineTables (now (lanes .entry)) (now (boundaries .entry)) (now («stop_lines» .entry)) (now (crosswalks .entry)) (now (coordinates .entry))) ⌝ }
-{
-    if reach <= MEDIUM_REACH {
-        relay_medium(
-            join,
-            lanes,
-            i,
-            j,
-            boundaries,
-            stop_lines,
-            crosswalks,
-            coordinates,
-            plan,
-            next,
-            reach,
-            gone,
-        );
-        return;
-    }
-    relay_large(
-        join,
-        lanes,
-        i,
-        j,
-        boundaries,
-        stop_lines,
-        crosswalks,
-        coordinates,
-        plan,
-        next,
-        reach,
-        gone,
-    );
-}
-
-// The same with an array of its own, as large as the map asks.
-pub fn relay(
-    join: f64,
-    lanes: &mut [u64],
-    i: usize,
-    j: usize,
-    boundaries: &mut [u64],
-    stop_lines: &mut [u64],
-    crosswalks: &mut [u64],
-    coordinates: &mut [f64],
-    plan: Plan,
-    next: u64,
-    reach: usize,
-    gone: &[u64],
-)
-    requires { ⌜ W.Relayable join plan next reach (now gone) i j (lineTables (now lanes) (now boundaries) (now «stop_lines») (now crosswalks) (now coordinates)) ⌝ }
-    ensures { λ _. ⌜ lineTables (now (lanes .exit)) (now (boundaries .exit)) (now («stop_lines» .exit)) (now (crosswalks .exit)) (now (coordinates .exit)) ≡ W.relaid join plan next reach (now (gone .entry)) i j (W.blank (W.workFloats reach)) (lineTables (now (lanes .entry)) (now (boundaries .entry)) (now («stop_lines» .entry)) (now (crosswalks .entry)) (now (coordinates .entry))) ⌝ }
-{
-    if reach <= SMALL_REACH {
-        relay_small(
-            join,
-            lanes,
-            i,
-            j,
-            boundaries,
-            stop_lines,
-            crosswalks,
-            coordinates,
-            plan,
-            next,
-            reach,
-            gone,
-        );
-        return;
-    }
-    relay_larger(
-        join,
-        lanes,
-        i,
-        j,
-        boundaries,
-        stop_lines,
-        crosswalks,
-        coordinates,
-        plan,
-        next,
-        reach,
-        gone,
-    );
 }

@@ -1,21 +1,18 @@
-// The parts of connect and disconnect: the gap between two lanes, and the links of two rows.
+// The parts of connect and disconnect: the links of two rows. `gaps` has the gap between two lanes.
 ghost use mathlib.Core.Path.{_≡_};
 ghost use mathlib.Core.Bool.{true, cond, _||_};
-ghost use mathlib.Core.List.{[], _∷_};
+ghost use mathlib.Core.List.{[]};
 ghost use Prim.Native.Nat.{_≤_, _<_};
 ghost use lib.ListN.{length, take};
 ghost use Rattle.lists.specs.Select.{has};
 ghost use Rattle.rules.specs.Edit as E;
-ghost use Rattle.tables.specs.View.{word, laneOf};
-ghost use Rattle.row_tests.specs.Returned.{searchable, laneAt};
-ghost use Rattle.lookup.specs.Lookup.{sortedTable, allStored, drawn};
+ghost use Rattle.tables.specs.View.{word};
+ghost use Rattle.row_tests.specs.Returned.{searchable};
 ghost use Rattle.topology.specs.Topology as T;
 ghost use Rattle.relink.specs.Parts as P;
 use entities::IssueCode;
 use entities::Refusal;
-use entities::Side;
 use lists::both;
-use polyline::OptionPoint3;
 use report::Answer;
 use tables::LANE;
 use tables::PREDECESSORS;
@@ -23,58 +20,6 @@ use tables::SUCCESSORS;
 
 // Links in a list, at most.
 const LINKS: u64 = 16;
-
-// ---- the gap between two lanes
-
-fn there(p: OptionPoint3) -> bool
-    ensures { λ r. ⌜ r ≡ E.there p ⌝ }
-{
-    match p {
-        OptionPoint3::None => false,
-        OptionPoint3::Some(_) => true,
-    }
-}
-
-// Whether two ends that are there are further apart than the tolerance.
-fn apart(tolerance: f64, p: OptionPoint3, q: OptionPoint3) -> bool
-    ensures { λ r. ⌜ r ≡ E.farApart tolerance p q ⌝ }
-{
-    let OptionPoint3::Some(a) = p else {
-        return false;
-    };
-    let OptionPoint3::Some(b) = q else {
-        return false;
-    };
-    a.distance(b) > tolerance
-}
-
-// connection_gap above the tolerance, from the end of the lane in row i to the start of the lane in row j.
-pub fn gapped(
-    lanes: &[u64],
-    i: usize,
-    j: usize,
-    boundaries: &[u64],
-    coordinates: &[f64],
-    tolerance: f64,
-) -> bool
-    requires { ⌜ (sortedTable 1024 52 (now lanes) ≡ true) × ((i < word 0 (now lanes)) × ((j < word 0 (now lanes)) × ((sortedTable 4096 5 (now boundaries) ≡ true) × (allStored 5 2 (now coordinates) (now boundaries) ≡ true)))) ⌝ }
-    ensures { λ r. ⌜ r ≡ E.gapped tolerance (drawn (now (coordinates .entry)) (now (boundaries .entry))) (laneOf (now (coordinates .entry)) (laneAt (now (lanes .entry)) i)) (laneOf (now (coordinates .entry)) (laneAt (now (lanes .entry)) j)) ⌝ }
-{
-    let fl = lane_lines::oriented_last(lanes, i, Side::Left, boundaries, coordinates);
-    let fr = lane_lines::oriented_last(lanes, i, Side::Right, boundaries, coordinates);
-    let tl = lane_lines::oriented_first(lanes, j, Side::Left, boundaries, coordinates);
-    let tr = lane_lines::oriented_first(lanes, j, Side::Right, boundaries, coordinates);
-    let ends = both(both(both(there(fl), there(fr)), there(tl)), there(tr));
-    if ends {
-        if apart(tolerance, fl, tl) {
-            return true;
-        }
-        return apart(tolerance, fr, tr);
-    }
-    false
-}
-
-// ---- links
 
 // Whether the lane in row i leads to a lane.
 pub fn leads(lanes: &[u64], i: usize, id: u64) -> bool
@@ -121,7 +66,7 @@ fn link_unless(lanes: &mut [u64], i: usize, j: usize, linked: bool)
     if linked {
         return;
     }
-    topology::add_link(lanes, i, j);
+    linking::add_link(lanes, i, j);
 }
 
 // Links the lanes in rows i and j, where there is room.
@@ -144,8 +89,8 @@ pub fn link(
     let mut ids = [0; 2];
     let n = pair_unless(linked, from, to, &mut ids);
     let room = link_room(lanes, i, j, linked);
-    if both(room, report::fits(n, first, second, modified, warnings)) {
-        let counts = report::report(&ids[..n], first, second, modified, warnings);
+    if both(room, notices::fits(n, first, second, modified, warnings)) {
+        let counts = notices::report(&ids[..n], first, second, modified, warnings);
         link_unless(lanes, i, j, linked);
         return Answer::Changed(counts);
     }
@@ -170,9 +115,9 @@ pub fn unlink(
     let note = report::no_op_where(!linked, from);
     let mut ids = [0; 2];
     let n = pair_unless(!linked, from, to, &mut ids);
-    if report::fits(n, note, none, modified, warnings) {
-        let told = report::report(&ids[..n], note, none, modified, warnings);
-        topology::remove_link(lanes, i, j);
+    if notices::fits(n, note, none, modified, warnings) {
+        let told = notices::report(&ids[..n], note, none, modified, warnings);
+        linking::remove_link(lanes, i, j);
         return Answer::Changed(told);
     }
     Answer::Refused(Refusal::NoRoom)

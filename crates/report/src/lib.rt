@@ -1,48 +1,22 @@
 // diagnostics.rs and the change set of edit/mod.rs: what an accepted edit writes into the lists that are lent for its answer.
 ghost use mathlib.Core.Path.{_≡_};
-ghost use mathlib.Core.Bool.{true, false, cond};
-ghost use mathlib.Core.List.{[], _∷_, _++_};
+ghost use mathlib.Core.Bool.{true, cond};
 ghost use Prim.Native.Nat.{_+_, _*_, _^_, _≤_, _<_};
 ghost use lib.ListN.{length, take};
 ghost use Rattle.lists.specs.Rows.{over};
 ghost use Rattle.lists.specs.Select.{each, has, place, ascending};
-ghost use Rattle.rules.specs.Names.{LaneKind};
 ghost use Rattle.rules.specs.Edit as E;
 ghost use Rattle.report.specs.declared.Notice.the-variants as N;
-ghost use Rattle.store.specs.Store.{flag};
 ghost use Rattle.report.specs.Report as R;
 use entities::EntityKind;
 use entities::IssueCode;
 use entities::OptionEntity;
 use entities::Refusal;
-use entities::Severity;
-use lists::both;
 
 // Words of an entity and of a warning in a lent list.
 pub const ENTITY: usize = 2;
 
 pub const WARNING: usize = 10;
-
-// Words of a warning.
-const SEVERITY: usize = 0;
-
-const CODE: usize = 1;
-
-const KIND: usize = 2;
-
-const ID: usize = 3;
-
-const RELATED: usize = 4;
-
-const RELATED_KIND: usize = 5;
-
-const RELATED_ID: usize = 6;
-
-const SECOND_KIND: usize = 7;
-
-const SECOND_ID: usize = 8;
-
-const FIX: usize = 9;
 
 // How many places of each lent list an accepted call has filled: pairs of words, and rows of ten for warnings.
 pub struct Counts {
@@ -201,173 +175,5 @@ pub fn notice_count(notice: Notice) -> usize
         Notice::Pair(_, _, _) => 1,
         Notice::Unshared(_) => 1,
         Notice::Pieces(_, _, _) => 1,
-    }
-}
-
-// A mark for the removal fix.
-fn fix_mark(fix: bool) -> u64
-    ensures { λ r. ⌜ r ≡ flag fix ⌝ }
-{
-    if fix {
-        return 1;
-    }
-    0
-}
-
-// A warning of one entity, in row `at`.
-fn put_single(
-    warnings: &mut [u64],
-    at: usize,
-    severity: Severity,
-    code: IssueCode,
-    kind: EntityKind,
-    id: u64,
-    fix: bool,
-)
-    requires { ⌜ at * 10 + 10 ≤ length (now warnings) ⌝ }
-    ensures { λ _. ⌜ now (warnings .exit) ≡ R.warnedAt at (now (warnings .entry)) (R.single severity code kind id fix ∷ []) ⌝ }
-{
-    let row = at * WARNING;
-    warnings[row + SEVERITY] = severity.number();
-    warnings[row + CODE] = code.number();
-    warnings[row + KIND] = kind.number();
-    warnings[row + ID] = id;
-    warnings[row + RELATED] = 0;
-    warnings[row + FIX] = fix_mark(fix);
-}
-
-// A warning of a lane and another, in row `at`.
-fn put_pair(warnings: &mut [u64], at: usize, code: IssueCode, lane: u64, other: u64)
-    requires { ⌜ at * 10 + 10 ≤ length (now warnings) ⌝ }
-    ensures { λ _. ⌜ now (warnings .exit) ≡ R.warnedAt at (now (warnings .entry)) (R.issues (N.Pair code lane other)) ⌝ }
-{
-    let row = at * WARNING;
-    warnings[row + SEVERITY] = Severity::Warning.number();
-    warnings[row + CODE] = code.number();
-    warnings[row + KIND] = EntityKind::Lane.number();
-    warnings[row + ID] = lane;
-    warnings[row + RELATED] = 1;
-    warnings[row + RELATED_KIND] = EntityKind::Lane.number();
-    warnings[row + RELATED_ID] = other;
-    warnings[row + FIX] = 0;
-}
-
-// The warning of a boundary and of the two pieces that cut lanes have in its place, in row `at`.
-fn put_pieces(warnings: &mut [u64], at: usize, boundary: u64, first: u64, second: u64)
-    requires { ⌜ at * 10 + 10 ≤ length (now warnings) ⌝ }
-    ensures { λ _. ⌜ now (warnings .exit) ≡ R.warnedAt at (now (warnings .entry)) (R.issues (N.Pieces boundary first second)) ⌝ }
-{
-    let row = at * WARNING;
-    let kind = EntityKind::Boundary.number();
-    warnings[row + SEVERITY] = Severity::Warning.number();
-    warnings[row + CODE] = IssueCode::BoundaryUnshared.number();
-    warnings[row + KIND] = kind;
-    warnings[row + ID] = boundary;
-    warnings[row + RELATED] = 2;
-    warnings[row + RELATED_KIND] = kind;
-    warnings[row + RELATED_ID] = first;
-    warnings[row + SECOND_KIND] = kind;
-    warnings[row + SECOND_ID] = second;
-    warnings[row + FIX] = 0;
-}
-
-// The warning that a rule is left with no lane, in row `at`.
-pub fn put_orphan(warnings: &mut [u64], at: usize, rule: u64)
-    requires { ⌜ at * 10 + 10 ≤ length (now warnings) ⌝ }
-    ensures { λ _. ⌜ now (warnings .exit) ≡ R.warnedAt at (now (warnings .entry)) (R.orphanRule rule ∷ []) ⌝ }
-{
-    let rules = EntityKind::RegulatoryElement;
-    put_single(
-        warnings,
-        at,
-        Severity::Warning,
-        IssueCode::OrphanRule,
-        rules,
-        rule,
-        true,
-    );
-}
-
-fn put_notice(warnings: &mut [u64], at: usize, notice: Notice)
-    requires { ⌜ (at + length (R.issues notice)) * 10 ≤ length (now warnings) ⌝ }
-    ensures { λ _. ⌜ now (warnings .exit) ≡ R.warnedAt at (now (warnings .entry)) (R.issues notice) ⌝ }
-{
-    match notice {
-        Notice::Nothing => {}
-        Notice::NoOp(lane) => {
-            let lanes = EntityKind::Lane;
-            put_single(
-                warnings,
-                at,
-                Severity::Info,
-                IssueCode::NoOp,
-                lanes,
-                lane,
-                false,
-            );
-        }
-        Notice::Pair(code, lane, other) => {
-            put_pair(warnings, at, code, lane, other);
-        }
-        Notice::Unshared(boundary) => {
-            let boundaries = EntityKind::Boundary;
-            put_single(
-                warnings,
-                at,
-                Severity::Warning,
-                IssueCode::BoundaryUnshared,
-                boundaries,
-                boundary,
-                false,
-            );
-        }
-        Notice::Pieces(boundary, first, second) => {
-            put_pieces(warnings, at, boundary, first, second);
-        }
-    }
-}
-
-// A notice in row `at`, or nothing; the row behind.
-pub fn note(warnings: &mut [u64], at: usize, notice: Notice) -> usize
-    requires { ⌜ (at + length (R.issues notice)) * 10 ≤ length (now warnings) ⌝ }
-    ensures { λ r. ⌜ (r ≡ at + length (R.issues notice)) × (now (warnings .exit) ≡ R.warnedAt at (now (warnings .entry)) (R.issues notice)) ⌝ }
-{
-    put_notice(warnings, at, notice);
-    at + notice_count(notice)
-}
-
-// ---- the whole report
-
-// Whether the lists have places for so many lanes and for two notices.
-pub fn fits(ids: usize, first: Notice, second: Notice, modified: &[u64], warnings: &[u64]) -> bool
-    ensures { λ r. ⌜ r ≡ R.reportFits ids (length (R.issues first ++ R.issues second)) (now (modified .entry)) (now (warnings .entry)) ⌝ }
-{
-    let ws = notice_count(first) + notice_count(second);
-    both(
-        ids <= modified.len() / ENTITY,
-        ws <= warnings.len() / WARNING,
-    )
-}
-
-// The lanes and the notices in the lists, and how many there are.
-pub fn report(
-    ids: &[u64],
-    first: Notice,
-    second: Notice,
-    modified: &mut [u64],
-    warnings: &mut [u64],
-) -> Counts
-    requires { ⌜ R.reportFits (length (now ids)) (length (R.issues first ++ R.issues second)) (now modified) (now warnings) ≡ true ⌝ }
-    ensures { λ r. ⌜ (r ≡ record { created = 0; modified = length (now (ids .entry)); deleted = 0; warnings = length (R.issues first ++ R.issues second) }) × ((now (modified .exit) ≡ R.listed (now (modified .entry)) (E.refs LaneKind (now (ids .entry)))) × (now (warnings .exit) ≡ R.warned (now (warnings .entry)) (R.issues first ++ R.issues second))) ⌝ }
-{
-    let kind = EntityKind::Lane;
-    let listed = list_ids(kind, ids, modified, 0);
-    let n = note(warnings, 0, first);
-    let noted = note(warnings, n, second);
-    Counts {
-        created: 0,
-        modified: listed,
-        deleted: 0,
-        warnings: noted,
     }
 }

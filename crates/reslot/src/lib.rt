@@ -145,8 +145,8 @@ pub fn free_slot(
     let second = Notice::Nothing;
     let mut ids = [0; 4];
     let n = touched(free, lane, old, nobody, nobody, &mut ids);
-    if report::fits(n, first, second, modified, warnings) {
-        let counts = report::report(&ids[..n], first, second, modified, warnings);
+    if notices::fits(n, first, second, modified, warnings) {
+        let counts = notices::report(&ids[..n], first, second, modified, warnings);
         clear_unless(lanes, i, side, free);
         return Answer::Changed(counts);
     }
@@ -181,8 +181,8 @@ pub fn set_slot(
     let second = report::pair_where(apart, IssueCode::BoundaryUnshared, lane, beside);
     let mut ids = [0; 4];
     let n = touched(set, lane, old, new, other, &mut ids);
-    if report::fits(n, first, second, modified, warnings) {
-        let counts = report::report(&ids[..n], first, second, modified, warnings);
+    if notices::fits(n, first, second, modified, warnings) {
+        let counts = notices::report(&ids[..n], first, second, modified, warnings);
         set_unless(lanes, i, side, j, direction, set);
         return Answer::Changed(counts);
     }

@@ -8,7 +8,7 @@ use Prim.Native.Nat.{_+_, _*_}
 use native.Mathlib.Omega.{arith}
 use lib.ListN.{getD}
 use Rattle.lookup.proofs.Laws.{sorted-row}
-use Rattle.edit_lane.specs.Parts.{Left, tables, goneWith, removed}
+use Rattle.unused.specs.Parts.{Left, tables, goneWith, removed}
 use Rattle.edit_lane.proofs.Ending.{orphans-formed, gone-few, named-room, gone-room, warn-room, refused-removal, done-removal, lane-read}
 
 mul-lane : tie.Need-mul-lane

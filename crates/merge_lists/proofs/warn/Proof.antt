@@ -3,7 +3,7 @@ use Rattle.merge_lists.proofs.warn.Statement.{statement}
 use Rattle.merge_lists.proofs.warn.Tie as tie
 use Rattle.merge_lists.proofs.warn.Reads as reads
 use Rattle.merge_lists.proofs.warn.Lts as lts
-use Rattle.report.proofs.note.Reads as note-reads
+use Rattle.warnings.proofs.note.Reads as note-reads
 use Rattle.merge_lists.proofs.Noted.{room-1, room-2, room-3, room-4, room-5, all-warned}
 
 -- src/lib.rt:201:9

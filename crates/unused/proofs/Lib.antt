@@ -1,0 +1,4 @@
+pub mod Boundaries
+pub mod Staying
+pub mod Tables
+pub mod Lists
