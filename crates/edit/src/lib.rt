@@ -81,7 +81,7 @@ pub fn disconnect(
         return Answer::Refused(Refusal::LaneAbsent(to));
     };
     let linked = relink::links::leads(lanes, i, to);
-    relink::links::unlink(lanes, i, j, linked, modified, warnings)
+    unlink::unlink(lanes, i, j, linked, modified, warnings)
 }
 
 // Map::set_neighbor: the neighbour of a lane on a side, or none.

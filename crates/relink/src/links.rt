@@ -1,4 +1,4 @@
-// The parts of connect and disconnect: the links of two rows. `gaps` has the gap between two lanes.
+// The part of connect: the link of two rows. `gaps` has the gap between two lanes, `unlink` the part of disconnect.
 ghost use mathlib.Core.Path.{_≡_};
 ghost use mathlib.Core.Bool.{true, cond, _||_};
 ghost use mathlib.Core.List.{[]};
@@ -33,7 +33,7 @@ pub fn leads(lanes: &[u64], i: usize, id: u64) -> bool
 }
 
 // Two lanes in id order, once each, or none.
-fn pair_unless(skip: bool, a: u64, b: u64, ids: &mut [u64]) -> usize
+pub fn pair_unless(skip: bool, a: u64, b: u64, ids: &mut [u64]) -> usize
     requires { ⌜ 2 ≤ length (now ids) ⌝ }
     ensures { λ r. ⌜ (take r (now (ids .exit)) ≡ cond skip [] (P.pairOf a b)) × (r ≡ length (cond skip [] (P.pairOf a b))) ⌝ }
 {
@@ -93,32 +93,6 @@ pub fn link(
         let counts = notices::report(&ids[..n], first, second, modified, warnings);
         link_unless(lanes, i, j, linked);
         return Answer::Changed(counts);
-    }
-    Answer::Refused(Refusal::NoRoom)
-}
-
-// Takes the link from row i to row j out of both lanes.
-pub fn unlink(
-    lanes: &mut [u64],
-    i: usize,
-    j: usize,
-    linked: bool,
-    modified: &mut [u64],
-    warnings: &mut [u64],
-) -> Answer
-    requires { ⌜ P.Linkable (now lanes) i j linked ⌝ }
-    ensures { λ r. ⌜ P.linksWritten (now (lanes .exit)) (now (modified .exit)) (now (warnings .exit)) r ≡ P.unlinking (now (lanes .entry)) i j linked (now (modified .entry)) (now (warnings .entry)) ⌝ }
-{
-    let from = lanes[1 + i * LANE];
-    let to = lanes[1 + j * LANE];
-    let none = report::Notice::Nothing;
-    let note = report::no_op_where(!linked, from);
-    let mut ids = [0; 2];
-    let n = pair_unless(!linked, from, to, &mut ids);
-    if notices::fits(n, note, none, modified, warnings) {
-        let told = notices::report(&ids[..n], note, none, modified, warnings);
-        linking::remove_link(lanes, i, j);
-        return Answer::Changed(told);
     }
     Answer::Refused(Refusal::NoRoom)
 }

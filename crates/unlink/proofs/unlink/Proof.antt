@@ -1,13 +1,13 @@
 -- `edit::links::unlink` meets its contract. Assumes nothing.
 use borrow.Author.Needs.{needs}
-use Rattle.relink.proofs.links.unlink.Statement.{statement}
-use Rattle.relink.proofs.links.unlink.Tie as tie
+use Rattle.unlink.proofs.unlink.Statement.{statement}
+use Rattle.unlink.proofs.unlink.Tie as tie
 use native.Mathlib.Omega.{arith}
 use mathlib.Core.Bool.{not}
 use lib.ListN.{length, getD}
 use Prim.Native.Nat.{_+_, _*_}
 use Rattle.row_tests.proofs.Lanes.{lane-room}
 use Rattle.relink.proofs.Reported.{pair-few, unlink-counted, unlink-fits, unlink-done, unlink-full}
 
 mul-from : tie.Need-mul-from
 mul-from c = omega (arith, lane-room (c .before .before .before .args .lanes .now) (c .before .before .before .pre .0) (c .before .before .before .args .i) (c .before .before .before .pre .1 .0))
