@@ -1,4 +1,4 @@
-// edit/merge.rs: the tables with lines after a merge, whole: drawn and pointed to by `merge_redraw`, laid out by `layout`.
+// edit/merge.rs: the tables with lines after a merge, whole: lines drawn by `merge_redraw`, rows written by `merge_rows`, all laid out by `layout`.
 ghost use mathlib.Core.Path.{_≡_};
 ghost use Prim.Native.Nat.{_+_, _*_, _≤_, _<_};
 ghost use lib.ListN.{length};
@@ -41,7 +41,7 @@ fn relay_in(
 {
     let left = plan.left;
     let right = plan.right;
-    let taken = merge_redraw::taken_of(plan, next, reach);
+    let taken = merge_rows::taken_of(plan, next, reach);
     let other = taken.other;
     let right_at = reach + side_points(left);
     merge_redraw::draw(
@@ -55,10 +55,10 @@ fn relay_in(
         reach,
         work,
     );
-    let one = merge_redraw::redrawn_of(lanes, i, Side::Left, boundaries, left, next, reach);
-    let two = merge_redraw::redrawn_of(lanes, i, Side::Right, boundaries, right, other, right_at);
-    merge_redraw::redraw_boundaries(boundaries, gone, one, two);
-    merge_redraw::redraw_followed(lanes, i, j, taken);
+    let one = merge_rows::redrawn_of(lanes, i, Side::Left, boundaries, left, next, reach);
+    let two = merge_rows::redrawn_of(lanes, i, Side::Right, boundaries, right, other, right_at);
+    merge_rows::redraw_boundaries(boundaries, gone, one, two);
+    merge_rows::redraw_followed(lanes, i, j, taken);
     layout::gather_all(lanes, boundaries, stop_lines, crosswalks, work, coordinates);
 }
 

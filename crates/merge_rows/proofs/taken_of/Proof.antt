@@ -1,7 +1,7 @@
--- `merge_redraw::taken_of` meets its contract. Assumes nothing.
+-- `merge_rows::taken_of` meets its contract. Assumes nothing.
 use borrow.Author.Needs.{needs}
-use Rattle.merge_redraw.proofs.taken_of.Statement.{statement}
-use Rattle.merge_redraw.proofs.taken_of.Tie as tie
+use Rattle.merge_rows.proofs.taken_of.Statement.{statement}
+use Rattle.merge_rows.proofs.taken_of.Tie as tie
 
 is-fresh-requires : tie.Need-is-fresh-requires
 is-fresh-requires c κs = search needs

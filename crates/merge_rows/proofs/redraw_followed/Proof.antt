@@ -1,14 +1,14 @@
--- `merge_redraw::redraw_followed` meets its contract: the successors are read back from the array that holds them. Assumes nothing.
+-- `merge_rows::redraw_followed` meets its contract: the successors are read back from the array that holds them. Assumes nothing.
 use borrow.Author.Needs.{needs}
-use Rattle.merge_redraw.proofs.redraw_followed.Statement.{statement}
-use Rattle.merge_redraw.proofs.redraw_followed.Tie as tie
+use Rattle.merge_rows.proofs.redraw_followed.Statement.{statement}
+use Rattle.merge_rows.proofs.redraw_followed.Tie as tie
 use mathlib.Core.Path.{sym}
 use Prim.Native.Nat.{_≤_}
 use native.Mathlib.Omega.{arith}
 use lib.ListN.{length, replicate}
 use lib.Seq.{length-take-le}
 use Rattle.lookup.proofs.Laws.{sorted-row}
 use Rattle.merge_redraw.proofs.LaneRows.{after-few, after-short, followed}
 
 mul-first : tie.Need-mul-first
 mul-first c = omega (arith, sorted-row 1024 52 (c .before .args .t .now) (c .before .pre .1 .0) (c .before .args .i) (c .before .pre .1 .1 .0))

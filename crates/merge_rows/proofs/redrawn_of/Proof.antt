@@ -1,9 +1,9 @@
--- `merge_redraw::redrawn_of` meets its contract: a boundary that is found lies within the table. Assumes nothing.
+-- `merge_rows::redrawn_of` meets its contract: a boundary that is found lies within the table. Assumes nothing.
 use borrow.Author.Needs.{needs}
-use Rattle.merge_redraw.proofs.redrawn_of.Statement.{statement}
-use Rattle.merge_redraw.proofs.redrawn_of.Tie as tie
+use Rattle.merge_rows.proofs.redrawn_of.Statement.{statement}
+use Rattle.merge_rows.proofs.redrawn_of.Tie as tie
 use native.Mathlib.Omega.{arith}
 use Rattle.merge_redraw.proofs.Sides.{found-room, redrawn-found, redrawn-absent}
 
 boundary-ref-requires : tie.Need-boundary-ref-requires
 boundary-ref-requires c κs = search needs

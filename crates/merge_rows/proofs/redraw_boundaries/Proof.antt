@@ -1,10 +1,10 @@
--- `merge_redraw::redraw_boundaries` meets its contract: each step leaves the table as long as it was, with rows that are counted. Assumes nothing.
+-- `merge_rows::redraw_boundaries` meets its contract: each step leaves the table as long as it was, with rows that are counted. Assumes nothing.
 use borrow.Author.Needs.{needs}
-use Rattle.merge_redraw.proofs.redraw_boundaries.Statement.{statement}
-use Rattle.merge_redraw.proofs.redraw_boundaries.Tie as tie
+use Rattle.merge_rows.proofs.redraw_boundaries.Statement.{statement}
+use Rattle.merge_rows.proofs.redraw_boundaries.Tie as tie
 use native.Mathlib.Omega.{arith}
 use Rattle.row_tests.proofs.Tables.{table-room}
 use Rattle.merge_redraw.proofs.BoundaryRows.{left-counts, pointed-counts, first-room, second-room, all-redrawn}
 
 drop-rows-requires : tie.Need-drop-rows-requires
 drop-rows-requires c κs = (omega arith, table-room 4096 5 (c .before .before .before .args .t .now) (c .before .before .before .pre .counts))

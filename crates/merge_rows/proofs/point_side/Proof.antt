@@ -1,7 +1,7 @@
--- `merge_redraw::point_side` meets its contract: a boundary that is joined in place points to its line, and any other side leaves the table. Assumes nothing.
+-- `merge_rows::point_side` meets its contract: a boundary that is joined in place points to its line, and any other side leaves the table. Assumes nothing.
 use borrow.Author.Needs.{needs}
-use Rattle.merge_redraw.proofs.point_side.Statement.{statement}
-use Rattle.merge_redraw.proofs.point_side.Tie as tie
+use Rattle.merge_rows.proofs.point_side.Statement.{statement}
+use Rattle.merge_rows.proofs.point_side.Tie as tie
 
 enum-told : tie.Need-enum-told
 enum-told c = search needs

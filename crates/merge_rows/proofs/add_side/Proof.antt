@@ -1,7 +1,7 @@
--- `merge_redraw::add_side` meets its contract: a new boundary is written behind the last row, and any other side leaves the table. Assumes nothing.
+-- `merge_rows::add_side` meets its contract: a new boundary is written behind the last row, and any other side leaves the table. Assumes nothing.
 use borrow.Author.Needs.{needs}
-use Rattle.merge_redraw.proofs.add_side.Statement.{statement}
-use Rattle.merge_redraw.proofs.add_side.Tie as tie
+use Rattle.merge_rows.proofs.add_side.Statement.{statement}
+use Rattle.merge_rows.proofs.add_side.Tie as tie
 
 enum-told : tie.Need-enum-told
 enum-told c = search needs

@@ -1,9 +1,9 @@
--- `merge_redraw::redraw_lanes` meets its contract: the rows that stay are as they were. Assumes nothing.
+-- `merge_rows::redraw_lanes` meets its contract: the rows that stay are as they were. Assumes nothing.
 use borrow.Author.Needs.{needs}
-use Rattle.merge_redraw.proofs.redraw_lanes.Statement.{statement}
-use Rattle.merge_redraw.proofs.redraw_lanes.Tie as tie
+use Rattle.merge_rows.proofs.redraw_lanes.Statement.{statement}
+use Rattle.merge_rows.proofs.redraw_lanes.Tie as tie
 use native.Mathlib.Omega.{arith}
 use Rattle.merge_redraw.proofs.LaneRows.{lanes-room, linked-left, lanes-all}
 
 slice-aggregate-drop-rows : tie.Need-slice-aggregate-drop-rows
 slice-aggregate-drop-rows c = search needs
