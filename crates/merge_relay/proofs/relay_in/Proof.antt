@@ -1,7 +1,7 @@
--- `relay::relay_in` meets its contract: the steps put together. Assumes nothing.
+-- `merge_relay::relay_in` meets its contract: the steps put together. Assumes nothing.
 use borrow.Author.Needs.{needs}
-use Rattle.relay.proofs.relay_in.Statement.{statement}
-use Rattle.relay.proofs.relay_in.Tie as tie
+use Rattle.merge_relay.proofs.relay_in.Statement.{statement}
+use Rattle.merge_relay.proofs.relay_in.Tie as tie
 use Rattle.layout.specs.Layout.{lineTables}
 use Rattle.merge_redraw.proofs.Whole.{draw-asks, taken-asks, right-fits, side-asks, lanes-ask, redraw-asks, gather-asks, all-relaid}
 use native.Mathlib.Omega.{arith}
