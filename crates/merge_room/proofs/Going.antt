@@ -19,10 +19,14 @@ use Rattle.lists.proofs.Same.{ascending-same}
 use Rattle.lists.proofs.Select.{has-keep, has-place, ascending-keep, ascending-place}
 use Rattle.tables.specs.View.{word}
 use Rattle.lookup.specs.Lookup.{rowAt, rowUses, sortedTable, placeOf, usedOutside}
-use Rattle.lookup.proofs.Laws.{sorted-ascends}
+use Rattle.lookup.proofs.Laws.{sorted-ascends, sorted-row}
 use Rattle.merge_plan.specs.declared.Joined.{Joined}
 use Rattle.merge_plan.proofs.Laws.{id-read}
-use Rattle.merge_room.specs.Leaving.{held, idle, there, goes, withGone, goneOf}
+use Rattle.merge_room.specs.Leaving.{Leaving, held, idle, there, goes, withGone, goneOf}
+
+-- the rows of both lanes lie within the table
+pub both-rows : {lanes : List ℕ} {i j : ℕ} {boundaries : List ℕ} → Leaving lanes i j boundaries → (1 + i * 52 + 52 ≤ length lanes) × (1 + j * 52 + 52 ≤ length lanes)
+both-rows {lanes} {i} {j} h = (sorted-row 1024 52 lanes (h .lanes-sorted) i (h .first), sorted-row 1024 52 lanes (h .lanes-sorted) j (h .second))
 
 -- ---- a boundary that goes, as it is asked
 

@@ -1,3 +1,4 @@
+-- `merge_room::gone` meets its contract. After each of the four calls those that go so far stand in front. Assumes nothing.
 use borrow.Author.Needs.{needs}
 use mathlib.Core.Path.{ap}
 use mathlib.Core.Bool.{Bool}
@@ -9,10 +10,6 @@ use Rattle.merge_room.specs.Leaving.{goes, withGone}
 use Rattle.merge_room.proofs.Going.{Gathered, gathered-none, gathered-room, gathered-more, gathered-gone}
 use Rattle.merge_room.proofs.gone.Statement.{statement}
 use Rattle.merge_room.proofs.gone.Tie as tie
-use Rattle.merge_room.proofs.gone.Reads as reads
-use Rattle.merge_room.proofs.gone.Lts as lts
-use Rattle.lookup.proofs.boundary_ref.Reads as boundary-ref-reads
-use Rattle.merge_room.proofs.add_gone.Reads as add-gone-reads
 
 -- whether a boundary goes
 abbrev G : tie.Start → ℕ → Bool
@@ -34,49 +31,39 @@ four : (c : tie.After-add-gone4) → Gathered (c .before .before .before .before
 four c =
     gathered-more (c .before .before .before .before .before .before .before .before .before .before .before .before .before .before .before .before .before .before .before .before .before .args .out .now) (c .before .before .before .before .add-gone3 .last .1 .1 .1 .1 .1 .1 .1 .0) 3 (c .before .before .before .before .add-gone3 .result) (withGone (G (c .before .before .before .before .before .before .before .before .before .before .before .before .before .before .before .before .before .before .before .before .before) (c .before .before .before .before .before .before .before .before .before .before .before .before .before .before .before .boundary-ref3 .result .boundary)) (c .before .before .before .before .before .before .before .before .before .before .before .before .before .before .before .boundary-ref3 .result .boundary) (withGone (G (c .before .before .before .before .before .before .before .before .before .before .before .before .before .before .before .before .before .before .before .before .before) (c .before .before .before .before .before .before .before .before .before .before .before .before .before .before .before .before .boundary-ref2 .result .boundary)) (c .before .before .before .before .before .before .before .before .before .before .before .before .before .before .before .before .boundary-ref2 .result .boundary) (withGone (G (c .before .before .before .before .before .before .before .before .before .before .before .before .before .before .before .before .before .before .before .before .before) (c .before .before .before .before .before .before .before .before .before .before .before .before .before .before .before .before .before .boundary-ref .result .boundary)) (c .before .before .before .before .before .before .before .before .before .before .before .before .before .before .before .before .before .boundary-ref .result .boundary) []))) (three (c .before .before .before .before)) (omega (arith, c .before .before .before .before .before .before .before .before .before .before .before .before .before .before .before .before .before .before .before .before .before .pre .1)) (G (c .before .before .before .before .before .before .before .before .before .before .before .before .before .before .before .before .before .before .before .before .before) (c .before .before .before .before .before .before .before .before .before .before .before .before .before .before .boundary-ref4 .result .boundary)) (c .before .before .before .before .before .before .before .before .before .before .before .before .before .before .boundary-ref4 .result .boundary) (c .add-gone4 .result) (c .add-gone4 .last .1 .1 .1 .1 .1 .1 .1 .0) (c .add-gone4 .ensures)
 
--- src/lib.rt:125:13
 boundary-ref-requires : tie.Need-boundary-ref-requires
 boundary-ref-requires c κs = search needs
 
--- src/lib.rt:126:13
 boundary-ref-requires-2 : tie.Need-boundary-ref-requires-2
 boundary-ref-requires-2 c κs = search needs
 
--- src/lib.rt:127:13
 boundary-ref-requires-3 : tie.Need-boundary-ref-requires-3
 boundary-ref-requires-3 c κs = search needs
 
--- src/lib.rt:128:13
 boundary-ref-requires-4 : tie.Need-boundary-ref-requires-4
 boundary-ref-requires-4 c κs = search needs
 
--- src/lib.rt:129:9
 add-gone-requires : tie.Need-add-gone-requires
 add-gone-requires c κs = (c .before .before .before .before .before .before .before .before .pre .0, gathered-room (c .before .before .before .before .before .before .before .before .args .out .now) (c .before .before .before .before .before .before .before .before .args .out .now) 0 0 [] (gathered-none (c .before .before .before .before .before .before .before .before .args .out .now)) (omega (arith, c .before .before .before .before .before .before .before .before .pre .1)))
 
--- src/lib.rt:130:9
 add-gone-requires-2 : tie.Need-add-gone-requires-2
 add-gone-requires-2 c κs =
     let d = one (c .before .before .before) in
     (c .before .before .before .before .before .before .before .before .before .before .before .before .pre .0, gathered-room (c .before .before .before .before .before .before .before .before .before .before .before .before .args .out .now) (c .before .before .before .add-gone .last .1 .1 .1 .1 .1 .1 .1 .0) 1 (c .before .before .before .add-gone .result) _ d (omega (arith, c .before .before .before .before .before .before .before .before .before .before .before .before .pre .1)))
 
--- src/lib.rt:131:9
 add-gone-requires-3 : tie.Need-add-gone-requires-3
 add-gone-requires-3 c κs =
     let d = two (c .before .before .before) in
     (c .before .before .before .before .before .before .before .before .before .before .before .before .before .before .before .before .pre .0, gathered-room (c .before .before .before .before .before .before .before .before .before .before .before .before .before .before .before .before .args .out .now) (c .before .before .before .add-gone2 .last .1 .1 .1 .1 .1 .1 .1 .0) 2 (c .before .before .before .add-gone2 .result) _ d (omega (arith, c .before .before .before .before .before .before .before .before .before .before .before .before .before .before .before .before .pre .1)))
 
--- src/lib.rt:132:5
 add-gone-requires-4 : tie.Need-add-gone-requires-4
 add-gone-requires-4 c κs =
     let d = three (c .before .before .before) in
     (c .before .before .before .before .before .before .before .before .before .before .before .before .before .before .before .before .before .before .before .before .pre .0, gathered-room (c .before .before .before .before .before .before .before .before .before .before .before .before .before .before .before .before .before .before .before .before .args .out .now) (c .before .before .before .add-gone3 .last .1 .1 .1 .1 .1 .1 .1 .0) 3 (c .before .before .before .add-gone3 .result) _ d (omega (arith, c .before .before .before .before .before .before .before .before .before .before .before .before .before .before .before .before .before .before .before .before .pre .1)))
 
--- src/lib.rt:113:1
 same-length : tie.Need-same-length
 same-length c = search needs
 
--- src/lib.rt:113:1
 returns : tie.Need-returns
 returns c =
     let a = c .before .before .before .before .before .before .before .before .before .before .before .before .before .before .before .before .before .before .before .before .before .before .before .args in
