@@ -93,7 +93,7 @@ pub gathered-none : (w : List ℕ) → Gathered w w 0 0 []
 unfolding ascending
 gathered-none w = record { up = refl; count = refl; few = omega arith; list = sym (over-nil w 0) }
 
-module _ (w v : List ℕ) (most n : ℕ) (ids : List ℕ) (h : Gathered w v most n ids) (room : most < length w) where
+module _ {w v : List ℕ} {most n : ℕ} {ids : List ℕ} (h : Gathered w v most n ids) (room : most < length w) where
   fits : 0 + length ids ≤ length w
   fits = omega (arith, h .count, h .few)
 
@@ -117,8 +117,8 @@ module _ (w v : List ℕ) (most n : ℕ) (ids : List ℕ) (h : Gathered w v most
       joined : (z : List ℕ) → drop (0 + length new) z ≡ drop (0 + length new) w → over z 0 new ≡ over w 0 new
       joined z d = unfold over in rw d
 
-  pub gathered-more : (g : Bool) (x r : ℕ) (u : List ℕ) → (r ≡ length (withGone g x (take n v))) × (u ≡ over v 0 (withGone g x (take n v))) → Gathered w u (most + 1) r (withGone g x ids)
-  gathered-more g x r u (p, q) =
+  pub gathered-more : (g : Bool) (x : ℕ) {r : ℕ} {u : List ℕ} → (r ≡ length (withGone g x (take n v))) × (u ≡ over v 0 (withGone g x (take n v))) → Gathered w u (most + 1) r (withGone g x ids)
+  gathered-more g x {r} {u} (p, q) =
       let new = withGone g x ids in
       let l = with-long g x ids (h .up) in
       let c : r ≡ length new = p ∙ ap (λ z. length (withGone g x z)) front in
@@ -175,5 +175,5 @@ module _ (lanes : List ℕ) (i j : ℕ) (l r : Joined) (boundaries : List ℕ) w
         swap false true t = refl
         swap false false t = refl
 
-    pub gathered-gone : (w v : List ℕ) (n : ℕ) → Gathered w v 4 n (four a b c d) → (n ≡ length (goneOf lanes i j l r boundaries)) × (v ≡ over w 0 (goneOf lanes i j l r boundaries))
-    gathered-gone w v n h = let e = four-gone (h .up) in (h .count ∙ ap length e, h .list ∙ ap (over w 0) e)
+    pub gathered-gone : {w v : List ℕ} {n : ℕ} → Gathered w v 4 n (four a b c d) → (n ≡ length (goneOf lanes i j l r boundaries)) × (v ≡ over w 0 (goneOf lanes i j l r boundaries))
+    gathered-gone {w} h = let e = four-gone (h .up) in (h .count ∙ ap length e, h .list ∙ ap (over w 0) e)
