@@ -68,13 +68,13 @@ joins (Fresh n) a b = false
 
 -- both sides of the first lane: how each is merged, and its boundary
 abbrev pub sidesOf : List ℕ → ℕ → Plan → Sides
-sidesOf lanes i p = record { left = p .left; left-id = sideId lanes i Left; right = p .right; right-id = sideId lanes i Right }
+sidesOf lanes i p = record { left = p .left; «left_id» = sideId lanes i Left; right = p .right; «right_id» = sideId lanes i Right }
 
 -- points of a boundary's row: of one that is joined in place those of the joined line, the right side's before the left's
 abbrev pub sizeAfter : Sides → List ℕ → ℕ
 sizeAfter s w =
-    cond (joins (s .right) (s .right-id) (word rowId w)) (sidePoints (s .right))
-    (cond (joins (s .left) (s .left-id) (word rowId w)) (sidePoints (s .left)) (word boundarySize w))
+    cond (joins (s .right) (s .«right_id») (word rowId w)) (sidePoints (s .right))
+    (cond (joins (s .left) (s .«left_id») (word rowId w)) (sidePoints (s .left)) (word boundarySize w))
 
 abbrev pub rowPoints : List ℕ → Sides → List ℕ → ℕ
 rowPoints gone s w = cond (has (word rowId w) gone) 0 (sizeAfter s w)
@@ -110,7 +110,7 @@ pointsAfter lanes i j boundaries stops crosswalks s center gone =
 
 -- the right side's line stands where both sides are joined in place in one boundary
 abbrev pub overdrawn : Sides → Bool
-overdrawn s = joins (s .left) (s .left-id) (s .right-id) && joins (s .right) (s .right-id) (s .right-id)
+overdrawn s = joins (s .left) (s .«left_id») (s .«right_id») && joins (s .right) (s .«right_id») (s .«right_id»)
 
 -- "256 points a line", of the lines that are drawn
 abbrev pub linesFit : Sides → OptionCount → Bool
