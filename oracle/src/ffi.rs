@@ -52,8 +52,8 @@ mod linked {
     use super::{Call, Editor, Lent, Raw, Tables};
 
     /// The edits that are in the library's code, by their place in `COMMANDS`; it answers 10 to the others.
-    /// TODO merge_lanes, split_lane.
-    const THERE: [usize; 4] = [0, 1, 2, 3];
+    /// TODO split_lane.
+    const THERE: [usize; 5] = [0, 1, 2, 3, 4];
 
     /// `Told` of crates/words.
     #[repr(C)]

@@ -2,9 +2,11 @@
 
 use std::collections::BTreeMap;
 
+use vectormap_core::*;
+
 use crate::generate::{Case, Turn};
 use crate::sound;
-use crate::step::{Answer, CODES, COMMANDS};
+use crate::step::{Answer, CODES, COMMANDS, Call};
 
 #[derive(Default)]
 pub struct Tally {
@@ -16,6 +18,8 @@ pub struct Tally {
     warnings: BTreeMap<(u64, usize, u64, u64, u64, u64), usize>,
     faults: BTreeMap<&'static str, usize>,
     passed: BTreeMap<&'static str, usize>,
+    /// What accepted merges did to each side and to the centreline.
+    merges: BTreeMap<&'static str, usize>,
     groups: usize,
     reordered: usize,
     panicked: usize,
@@ -60,6 +64,7 @@ impl Tally {
                 ..
             } => {
                 self.answers[command][0] += 1;
+                self.merge(turn);
                 let cut = created.iter().filter(|e| e.0 == 0).count();
                 self.groups += (second.is_some() && cut > 1) as usize;
                 for w in warnings {
@@ -68,6 +73,45 @@ impl Tally {
                 }
             }
         }
+    }
+
+    fn merge(&mut self, turn: &Turn) {
+        let (Call::MergeLanes { first, second }, Some(m)) = (&turn.call, &turn.before.map) else {
+            return;
+        };
+        let (first, second) = (LaneId(*first), LaneId(*second));
+        let (Some(a), Some(b)) = (m.lane(first), m.lane(second)) else {
+            return;
+        };
+        let alone = |x: BoundaryId, l: LaneId| m.lanes_using_boundary(x) == [l];
+        let mut placed = Vec::new();
+        for side in [Side::Left, Side::Right] {
+            let (ra, rb) = (a.boundary(side), b.boundary(side));
+            let plan = if ra.boundary == rb.boundary {
+                "sides kept"
+            } else if !alone(ra.boundary, first) || !alone(rb.boundary, second) {
+                "sides with a new boundary"
+            } else if ra.reversed {
+                placed.push(ra.boundary);
+                "sides joined in place, stored reversed"
+            } else {
+                placed.push(ra.boundary);
+                "sides joined in place"
+            };
+            *self.merges.entry(plan).or_default() += 1;
+        }
+        if placed.len() == 2 && placed[0] == placed[1] {
+            *self.merges.entry("both sides joined in one boundary").or_default() += 1;
+        }
+        if m.successors(second).contains(&first) {
+            *self.merges.entry("rings of two lanes").or_default() += 1;
+        }
+        let centers = match (a.centerline.is_some(), b.centerline.is_some()) {
+            (true, true) => "explicit centrelines joined",
+            (false, false) => return,
+            _ => "explicit centrelines dropped",
+        };
+        *self.merges.entry(centers).or_default() += 1;
     }
 
     /// The refusals that no call met.
@@ -106,6 +150,9 @@ impl Tally {
         }
         for (passed, n) in &self.passed {
             eprintln!("{n:>8} times 10: {passed}");
+        }
+        for (plan, n) in &self.merges {
+            eprintln!("{n:>8} in merges: {plan}");
         }
         eprintln!("{:>8} splits of more than one lane", self.groups);
         eprintln!("{:>8} times 7 where the Rust panics", self.panicked);

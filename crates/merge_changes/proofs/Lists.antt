@@ -167,7 +167,12 @@ module _ {tol : Tolerance} {counter : ℕ} {t : Tables} {one two i j : ℕ} {p :
 
   pub created-read : cs .created ≡ refs BoundaryKind (upFrom (next k) (sideIds (p .left) + sideIds (p .right)))
   unfolding merged
-  created-read = rw (left-told, right-told) (ap (refs BoundaryKind) (ids-made (view t) (next k) (a k) (pl k) (pr k) (left-planned k) (right-planned k) ∙ new-up (pl k) (pr k) (next k)))
+  created-read =
+      ap (refs BoundaryKind)
+      (ids-made (view t) (next k) (a k) (pl k) (pr k) (left-planned k) (right-planned k) ∙ (new-up (pl k) (pr k) (next k) ∙ ap (upFrom (next k)) (told left-told right-told)))
+    where
+      told : {l m r s : Joined} → l ≡ m → r ≡ s → sideIds m + sideIds s ≡ sideIds l + sideIds r
+      told e f = rw (e, f)
 
   -- the first lane names the second, its successor
   first-names : mentions (b k .id) (a k) ≡ true
@@ -215,9 +220,9 @@ module _ {tol : Tolerance} {counter : ℕ} {t : Tables} {one two i j : ℕ} {p :
       told e f = rw (e, f)
 
   pub modified-read : cs .modified ≡ touched (b k .id) (joinedIds (p .left) (a k .left .boundary) (p .right) (a k .right .boundary)) (t .lanes) (t .roads) (t .junctions) (t .rules)
-  unfolding merged touched
+  unfolding merged touched view
   modified-read =
-      five lanes-read boundaries-read (unfold view in roads-named (b k .id) (t .roads)) (unfold view in junctions-named (b k .id) (t .junctions)) (unfold view in rules-named (b k .id) (t .rules))
+      five lanes-read boundaries-read (roads-named (b k .id) (t .roads)) (junctions-named (b k .id) (t .junctions)) (rules-named (b k .id) (t .rules))
     where
       five : {x y z u v x' y' z' u' v' : List EntityRef} → x ≡ x' → y ≡ y' → z ≡ z' → u ≡ u' → v ≡ v' → x ++ (y ++ (z ++ (u ++ v))) ≡ x' ++ (y' ++ (z' ++ (u' ++ v')))
       five e f g h i = rw (e, f, g, h, i)

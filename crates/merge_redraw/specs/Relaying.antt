@@ -24,37 +24,20 @@ use Rattle.store.specs.Rows.{keptRows, onRows, appendedRows}
 use Rattle.layout.specs.Layout.{lineTables, countedLines, gathered, Gatherable}
 use Rattle.lookup.specs.Lookup.{rowAt, placeOf, sideWord, sortedTable, centersStored, Drawable}
 use Rattle.lookup.specs.declared.OptionCount.{OptionCount}
-use Rattle.lookup.specs.declared.OptionCount.the-variants.{None, Some}
 use Rattle.merge_plan.specs.declared.Joined.{Joined}
 use Rattle.merge_plan.specs.declared.Joined.the-variants.{Kept, InPlace, Fresh}
 use Rattle.merge_plan.specs.declared.Plan.{Plan}
+pub use Rattle.merge_plan.specs.Sides.{sidePoints, sideIds, isFresh, centerPoints, isSome}
 use Rattle.merge_draw.specs.declared.Taken.{Taken}
 use Rattle.merge_draw.specs.Redrawing.{joinedSide, joinedCenters, storedLine, pointedRow, boundaryRow, asGiven, rowMerged, LanesLinked}
 use Rattle.merge_redraw.specs.declared.Redrawn.{Redrawn}
 
 -- ---- lines
 
--- how many points a side draws
-abbrev pub sidePoints : Joined → ℕ
-sidePoints Kept = 0
-sidePoints (InPlace n) = n
-sidePoints (Fresh n) = n
-
 abbrev pub isKept : Joined → Bool
 isKept Kept = true
 isKept (InPlace n) = false
 isKept (Fresh n) = false
-
-abbrev pub isFresh : Joined → Bool
-isFresh Kept = false
-isFresh (InPlace n) = false
-isFresh (Fresh n) = true
-
--- ids that a side allocates
-abbrev pub sideIds : Joined → ℕ
-sideIds Kept = 0
-sideIds (InPlace n) = 0
-sideIds (Fresh n) = 1
 
 -- "In place, a reversed reference stores the joined line reversed; a new boundary stores it forward."
 abbrev pub turned : Joined → Bool → Bool
@@ -68,14 +51,6 @@ sideFloats p reversed l = cond (isKept p) [] (flat (storedLine (turned p reverse
 
 abbrev pub sideDrawn : Float → List Float → List ℕ → List ℕ → ℕ → ℕ → Side → Joined → List Float
 sideDrawn join c lanes boundaries i j side p = sideFloats p (refAt (sideWord side) (rowAt laneWords lanes i) .reversed) (joinedSide join c lanes boundaries i j side)
-
-abbrev pub centerPoints : OptionCount → ℕ
-centerPoints None = 0
-centerPoints (Some n) = n
-
-abbrev pub isSome : OptionCount → Bool
-isSome None = false
-isSome (Some n) = true
 
 abbrev pub centerDrawn : Float → List Float → List ℕ → ℕ → ℕ → OptionCount → List Float
 centerDrawn join c lanes i j o = cond (isSome o) (flat (joinedCenters join c lanes i j)) []

@@ -17,6 +17,11 @@ use lookup::OptionCount;
 use merge_draw::Taken;
 use merge_plan::Joined;
 use merge_plan::Plan;
+use merge_plan::center_points;
+use merge_plan::is_fresh;
+use merge_plan::is_some;
+use merge_plan::side_ids;
+use merge_plan::side_points;
 use tables::BOUNDARY;
 use tables::BOUNDARY_ATTRIBUTES;
 use tables::BOUNDARY_KIND;
@@ -49,27 +54,6 @@ pub struct Redrawn {
 
 // ---- plans
 
-// How many points a side draws.
-pub fn side_points(plan: Joined) -> usize
-    ensures { λ r. ⌜ r ≡ W.sidePoints plan ⌝ }
-{
-    match plan {
-        Joined::Kept => 0,
-        Joined::InPlace(n) => n,
-        Joined::Fresh(n) => n,
-    }
-}
-
-pub fn is_fresh(plan: Joined) -> bool
-    ensures { λ r. ⌜ r ≡ W.isFresh plan ⌝ }
-{
-    match plan {
-        Joined::Kept => false,
-        Joined::InPlace(_) => false,
-        Joined::Fresh(_) => true,
-    }
-}
-
 fn is_kept(plan: Joined) -> bool
     ensures { λ r. ⌜ r ≡ W.isKept plan ⌝ }
 {
@@ -77,17 +61,6 @@ fn is_kept(plan: Joined) -> bool
         Joined::Kept => true,
         Joined::InPlace(_) => false,
         Joined::Fresh(_) => false,
-    }
-}
-
-// How many ids a side allocates.
-pub fn side_ids(plan: Joined) -> usize
-    ensures { λ r. ⌜ r ≡ W.sideIds plan ⌝ }
-{
-    match plan {
-        Joined::Kept => 0,
-        Joined::InPlace(_) => 0,
-        Joined::Fresh(_) => 1,
     }
 }
 
@@ -99,24 +72,6 @@ fn turned(plan: Joined, reversed: bool) -> bool
         Joined::Kept => false,
         Joined::InPlace(_) => reversed,
         Joined::Fresh(_) => false,
-    }
-}
-
-fn center_points(center: OptionCount) -> usize
-    ensures { λ r. ⌜ r ≡ W.centerPoints center ⌝ }
-{
-    match center {
-        OptionCount::None => 0,
-        OptionCount::Some(n) => n,
-    }
-}
-
-fn is_some(center: OptionCount) -> bool
-    ensures { λ r. ⌜ r ≡ W.isSome center ⌝ }
-{
-    match center {
-        OptionCount::None => false,
-        OptionCount::Some(_) => true,
     }
 }
 
@@ -497,6 +452,57 @@ fn relay_large(
     );
 }
 
+// The larger two, by how far lines reach.
+fn relay_larger(
+    join: f64,
+    lanes: &mut [u64],
+    i: usize,
+    j: usize,
+    boundaries: &mut [u64],
+    stop_lines: &mut [u64],
+    crosswalks: &mut [u64],
+    coordinates: &mut [f64],
+    plan: Plan,
+    next: u64,
+    reach: usize,
+    gone: &[u64],
+)
+    requires { ⌜ (W.Relayable join plan next reach (now gone) i j (lineTables (now lanes) (now boundaries) (now «stop_lines») (now crosswalks) (now coordinates))) × (2560 < reach) ⌝ }
+    ensures { λ _. ⌜ lineTables (now (lanes .exit)) (now (boundaries .exit)) (now («stop_lines» .exit)) (now (crosswalks .exit)) (now (coordinates .exit)) ≡ W.relaid join plan next reach (now (gone .entry)) i j (W.blank (W.workFloats reach)) (lineTables (now (lanes .entry)) (now (boundaries .entry)) (now («stop_lines» .entry)) (now (crosswalks .entry)) (now (coordinates .entry))) ⌝ }
+{
+    if reach <= MEDIUM_REACH {
+        relay_medium(
+            join,
+            lanes,
+            i,
+            j,
+            boundaries,
+            stop_lines,
+            crosswalks,
+            coordinates,
+            plan,
+            next,
+            reach,
+            gone,
+        );
+        return;
+    }
+    relay_large(
+        join,
+        lanes,
+        i,
+        j,
+        boundaries,
+        stop_lines,
+        crosswalks,
+        coordinates,
+        plan,
+        next,
+        reach,
+        gone,
+    );
+}
+
 // The same with an array of its own, as large as the map asks.
 pub fn relay(
     join: f64,
@@ -532,24 +538,7 @@ pub fn relay(
         );
         return;
     }
-    if reach <= MEDIUM_REACH {
-        relay_medium(
-            join,
-            lanes,
-            i,
-            j,
-            boundaries,
-            stop_lines,
-            crosswalks,
-            coordinates,
-            plan,
-            next,
-            reach,
-            gone,
-        );
-        return;
-    }
-    relay_large(
+    relay_larger(
         join,
         lanes,
         i,

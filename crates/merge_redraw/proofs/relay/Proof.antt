@@ -3,7 +3,7 @@ use borrow.Author.Needs.{needs}
 use Rattle.merge_redraw.proofs.relay.Statement.{statement}
 use Rattle.merge_redraw.proofs.relay.Tie as tie
 use Rattle.layout.specs.Layout.{lineTables}
-use Rattle.merge_redraw.proofs.Whole.{small-floats, medium-floats, large-floats, relaid-in}
+use Rattle.merge_redraw.proofs.Whole.{small-floats, relaid-in}
 
 relay-small-requires : tie.Need-relay-small-requires
 relay-small-requires c κs = search needs
@@ -30,8 +30,8 @@ returns c =
     relaid-in (a .join) (a .plan) (a .next) (a .reach) (a .gone .now) (a .i) (a .j) (lineTables (a .lanes .now) (a .boundaries .now) (a .stop-lines .now) (a .crosswalks .now) (a .coordinates .now))
     (lineTables (g .1 .0) (g .1 .1 .1 .1 .0) (g .1 .1 .1 .1 .1 .0) (g .1 .1 .1 .1 .1 .1 .0) (g .1 .1 .1 .1 .1 .1 .1 .0)) 12288 (small-floats (a .reach) (c .before .before .before .before .before .before .before .before .before .before .before .before .before .before .before .before .if1 .taken)) (c .before .before .before .before .before .before .before .before .before .before .relay-small .ensures)
 
-relay-medium-requires : tie.Need-relay-medium-requires
-relay-medium-requires c κs = search needs
+relay-larger-requires : tie.Need-relay-larger-requires
+relay-larger-requires c κs = search needs
 
 same-length-6 : tie.Need-same-length-6
 same-length-6 c = search needs
@@ -49,36 +49,7 @@ same-length-10 : tie.Need-same-length-10
 same-length-10 c = search needs
 
 returns-2 : tie.Need-returns-2
-returns-2 c =
-    let a = c .before .before .before .before .before .before .before .before .before .before .before .before .before .before .before .before .before .before .before .before .before .before .before .before .args in
-    let g = c .before .before .before .before .before .before .before .before .before .before .relay-medium .last in
-    relaid-in (a .join) (a .plan) (a .next) (a .reach) (a .gone .now) (a .i) (a .j) (lineTables (a .lanes .now) (a .boundaries .now) (a .stop-lines .now) (a .crosswalks .now) (a .coordinates .now))
-    (lineTables (g .1 .0) (g .1 .1 .1 .1 .0) (g .1 .1 .1 .1 .1 .0) (g .1 .1 .1 .1 .1 .1 .0) (g .1 .1 .1 .1 .1 .1 .1 .0)) 49152 (medium-floats (a .reach) (c .before .before .before .before .before .before .before .before .before .before .before .before .before .before .before .before .before .if1 .left) (c .before .before .before .before .before .before .before .before .before .before .before .before .before .before .before .before .if2 .taken)) (c .before .before .before .before .before .before .before .before .before .before .relay-medium .ensures)
-
-relay-large-requires : tie.Need-relay-large-requires
-relay-large-requires c κs = search needs
-
-same-length-11 : tie.Need-same-length-11
-same-length-11 c = search needs
-
-same-length-12 : tie.Need-same-length-12
-same-length-12 c = search needs
-
-same-length-13 : tie.Need-same-length-13
-same-length-13 c = search needs
-
-same-length-14 : tie.Need-same-length-14
-same-length-14 c = search needs
-
-same-length-15 : tie.Need-same-length-15
-same-length-15 c = search needs
-
-returns-3 : tie.Need-returns-3
-returns-3 c =
-    let a = c .before .before .before .before .before .before .before .before .before .before .before .before .before .before .before .before .before .before .before .before .before .before .before .before .args in
-    let g = c .before .before .before .before .before .before .before .before .before .before .relay-large .last in
-    relaid-in (a .join) (a .plan) (a .next) (a .reach) (a .gone .now) (a .i) (a .j) (lineTables (a .lanes .now) (a .boundaries .now) (a .stop-lines .now) (a .crosswalks .now) (a .coordinates .now))
-    (lineTables (g .1 .0) (g .1 .1 .1 .1 .0) (g .1 .1 .1 .1 .1 .0) (g .1 .1 .1 .1 .1 .1 .0) (g .1 .1 .1 .1 .1 .1 .1 .0)) 201216 (large-floats (a .reach) (c .before .before .before .before .before .before .before .before .before .before .before .before .before .before .before .before .before .if1 .left) (c .before .before .before .before .before .before .before .before .before .before .before .before .before .before .before .before .if2 .left)) (c .before .before .before .before .before .before .before .before .before .before .relay-large .ensures)
+returns-2 c = search needs
 
 pub relay-spec : {M : Type 1} → statement M
 relay-spec =
@@ -91,17 +62,10 @@ relay-spec =
     same-length-4
     same-length-5
     returns
-    relay-medium-requires
+    relay-larger-requires
     same-length-6
     same-length-7
     same-length-8
     same-length-9
     same-length-10
-    returns-2
-    relay-large-requires
-    same-length-11
-    same-length-12
-    same-length-13
-    same-length-14
-    same-length-15
-    returns-3)
+    returns-2)

@@ -1,0 +1,184 @@
+use borrow.Author.Needs.{needs}
+use Rattle.edit_merge.proofs.merge_lanes.Statement.{statement}
+use Rattle.edit_merge.proofs.merge_lanes.Tie as tie
+use Rattle.edit_merge.proofs.merge_lanes.Reads as reads
+use Rattle.edit_merge.proofs.merge_lanes.Lts as lts
+use Rattle.edit_merge.proofs.merge_found.Reads as merge-found-reads
+use Rattle.lookup.proofs.lane.Reads as lane-reads
+use Rattle.merge_plan.proofs.decide.Reads as decide-reads
+use Rattle.merge_plan.proofs.mergeable.Reads as mergeable-reads
+
+-- src/lib.rt:308:9
+lane-requires : tie.Need-lane-requires
+lane-requires c κs = ?
+
+-- src/lib.rt:309:19
+enum-known-found : tie.Need-enum-known-found
+enum-known-found c = search needs
+
+-- src/lib.rt:310:32
+enum-told : tie.Need-enum-told
+enum-told c = search needs
+
+-- src/lib.rt:310:9
+same-length : tie.Need-same-length
+same-length c = search needs
+
+-- src/lib.rt:310:9
+returns : tie.Need-returns
+returns c = ?
+
+-- src/lib.rt:312:9
+lane-requires-2 : tie.Need-lane-requires-2
+lane-requires-2 c κs = ?
+
+-- src/lib.rt:313:19
+enum-known-other : tie.Need-enum-known-other
+enum-known-other c = search needs
+
+-- src/lib.rt:314:32
+enum-told-2 : tie.Need-enum-told-2
+enum-told-2 c = search needs
+
+-- src/lib.rt:314:9
+same-length-2 : tie.Need-same-length-2
+same-length-2 c = search needs
+
+-- src/lib.rt:314:9
+returns-2 : tie.Need-returns-2
+returns-2 c = ?
+
+-- src/lib.rt:316:9
+mergeable-requires : tie.Need-mergeable-requires
+mergeable-requires c κs = ?
+
+-- src/lib.rt:317:9
+same-length-3 : tie.Need-same-length-3
+same-length-3 c = search needs
+
+-- src/lib.rt:317:9
+returns-3 : tie.Need-returns-3
+returns-3 c = ?
+
+-- src/lib.rt:320:9
+decide-requires : tie.Need-decide-requires
+decide-requires c κs = ?
+
+-- src/lib.rt:322:26
+enum-known-planned : tie.Need-enum-known-planned
+enum-known-planned c = search needs
+
+-- src/lib.rt:323:25
+enum-known-planned-2 : tie.Need-enum-known-planned-2
+enum-known-planned-2 c = search needs
+
+-- src/lib.rt:323:34
+merge-found-requires : tie.Need-merge-found-requires
+merge-found-requires c κs = ?
+
+-- src/lib.rt:287:1
+same-length-4 : tie.Need-same-length-4
+same-length-4 c = search needs
+
+-- src/lib.rt:287:1
+same-length-5 : tie.Need-same-length-5
+same-length-5 c = search needs
+
+-- src/lib.rt:287:1
+same-length-6 : tie.Need-same-length-6
+same-length-6 c = search needs
+
+-- src/lib.rt:287:1
+returns-4 : tie.Need-returns-4
+returns-4 c = ?
+
+-- src/lib.rt:287:1
+same-length-7 : tie.Need-same-length-7
+same-length-7 c = ?
+
+-- src/lib.rt:287:1
+same-length-8 : tie.Need-same-length-8
+same-length-8 c = ?
+
+-- src/lib.rt:287:1
+same-length-9 : tie.Need-same-length-9
+same-length-9 c = ?
+
+-- src/lib.rt:287:1
+same-length-10 : tie.Need-same-length-10
+same-length-10 c = ?
+
+-- src/lib.rt:287:1
+same-length-11 : tie.Need-same-length-11
+same-length-11 c = ?
+
+-- src/lib.rt:287:1
+same-length-12 : tie.Need-same-length-12
+same-length-12 c = ?
+
+-- src/lib.rt:287:1
+same-length-13 : tie.Need-same-length-13
+same-length-13 c = ?
+
+-- src/lib.rt:287:1
+same-length-14 : tie.Need-same-length-14
+same-length-14 c = search needs
+
+-- src/lib.rt:287:1
+same-length-15 : tie.Need-same-length-15
+same-length-15 c = search needs
+
+-- src/lib.rt:287:1
+same-length-16 : tie.Need-same-length-16
+same-length-16 c = search needs
+
+-- src/lib.rt:287:1
+same-length-17 : tie.Need-same-length-17
+same-length-17 c = search needs
+
+-- src/lib.rt:287:1
+same-length-18 : tie.Need-same-length-18
+same-length-18 c = search needs
+
+-- src/lib.rt:287:1
+returns-5 : tie.Need-returns-5
+returns-5 c = ?
+
+pub merge-lanes-spec : {M : Type 1} → statement M
+merge-lanes-spec =
+    tie.close
+    (tie.spec
+    lane-requires
+    enum-known-found
+    enum-told
+    same-length
+    returns
+    lane-requires-2
+    enum-known-other
+    enum-told-2
+    same-length-2
+    returns-2
+    mergeable-requires
+    same-length-3
+    returns-3
+    decide-requires
+    enum-known-planned
+    enum-known-planned-2
+    merge-found-requires
+    same-length-4
+    same-length-5
+    same-length-6
+    returns-4
+    same-length-7
+    same-length-8
+    same-length-9
+    same-length-10
+    same-length-11
+    same-length-12
+    same-length-13
+    same-length-14
+    same-length-15
+    same-length-16
+    same-length-17
+    same-length-18
+    returns-5)
