@@ -6,10 +6,12 @@ use mathlib.Core.Bool.{Bool, true, false, not, cond, _&&_}
 use mathlib.Core.List.{List, [], _∷_, _++_}
 use lib.Dec.{leb}
 use lib.Ieee.{Float}
-use lib.ListN.{length, getD, length-append}
+use lib.ListN.{length, getD, take, length-append}
+use Rattle.lists.specs.Rows.{over}
+use Rattle.lists.proofs.Rows.{length-over, take-over}
 use Rattle.lists.proofs.Booleans.{and-fst, and-snd}
 use Rattle.entities.specs.Records.{Issue}
-use Rattle.rules.specs.Names.{LaneKind, BoundaryKind, NoRoom}
+use Rattle.rules.specs.Names.{BoundaryRef, LaneKind, BoundaryKind, NoRoom, NoIds}
 use Rattle.rules.specs.Sound.{nextId}
 use Rattle.rules.specs.Edit.{refs, upFrom}
 use Rattle.tables.specs.View.{Tables, word, tablesOf}
@@ -19,7 +21,7 @@ use Rattle.report.specs.Report.{listed, warned, counterBehind}
 use Rattle.report.specs.declared.Counts.{Counts}
 use Rattle.report.specs.declared.Answer.the-variants.{Changed, Refused}
 use Rattle.report.proofs.Warnings.{room}
-use Rattle.room.specs.Room.{listsFit}
+use Rattle.room.specs.Room.{listsFit, idsLeft}
 use Rattle.merge_plan.specs.declared.Joined.{Joined}
 use Rattle.merge_plan.specs.declared.Joined.the-variants.{Kept, InPlace, Fresh}
 use Rattle.merge_plan.specs.declared.Plan.{Plan}
@@ -27,11 +29,11 @@ use Rattle.merge_plan.specs.Sides.{sideIds}
 use Rattle.merge_plan.proofs.Laws.{id-read}
 use Rattle.merge_room.specs.Leaving.{fitsAfter}
 use Rattle.merge_lists.specs.declared.Notices.{Notices}
-use Rattle.merge_lists.specs.Changes.{Formed, touched, leaving, issuesOf, warningsOf}
+use Rattle.merge_lists.specs.Changes.{Formed, touched, leaving, issuesOf, warningsOf, joinedIds}
 use Rattle.merge_lists.proofs.Standing.{length-refs}
 use Rattle.merge_redraw.specs.Relaying.{Relayable, relaid, blank, workFloats}
-use Rattle.step.specs.Step.{Lent, Ended, ended}
-use Rattle.edit_merge.specs.Parts.{countsOf, Answered, lists, listsWritten, Listable, Naming, named, namedWritten, namedIn, lined, reachOf, written, Writable, mergeMade}
+use Rattle.step.specs.Step.{Lent, Ended, ended, refusing}
+use Rattle.edit_merge.specs.Parts.{countsOf, Answered, lists, listsWritten, Listable, Naming, named, namedWritten, namedIn, lined, reachOf, written, Writable, mergeMade, mergeFound, goneIn, joinedIn, Decided}
 
 pub ids-few : (p : Joined) → sideIds p ≤ 1
 ids-few Kept = omega arith
@@ -71,6 +73,12 @@ module _ (join : Float) (p : Plan) (next : ℕ) (gone : List ℕ) (i j : ℕ) (t
       (ap (λ (x : Tables). x .stop-lines) r) (ap (λ (x : Tables). x .crosswalks) r) (ap (λ (x : Tables). x .coordinates) r)
 
 -- ---- the two tests of room
+
+-- an accepted call's end, part by part
+ended-same : {k k₁ : ℕ} {u v : Tables} {a b : Answered} {q r : Counts} → k ≡ k₁ → u ≡ v → a ≡ b → q ≡ r
+    → _≡_ {A = Ended} (ended (record { counter = k; tables = u; created = a .created; modified = a .modified; deleted = a .deleted; warnings = a .warnings }) (Changed q))
+    (ended (record { counter = k₁; tables = v; created = b .created; modified = b .modified; deleted = b .deleted; warnings = b .warnings }) (Changed r))
+ended-same a b c d = rw (a, b, c, d)
 
 module _ (join : Float) (i j : ℕ) (p : Plan) (gone joined : List ℕ) (l : Lent) where
   abbrev t : Tables
@@ -141,21 +149,67 @@ module _ (join : Float) (i j : ℕ) (p : Plan) (gone joined : List ℕ) (l : Len
               warnings-room = omega (arith, ap length ne, room (n .warnings) (length (l .warnings)) 10 (and-snd (a1 && a2 && a3) a4 all-placed));
             }
 
-        joined-end : {k k₁ : ℕ} {u v : Tables} {c d x y c₁ d₁ x₁ y₁ : List ℕ} {q r : Counts} → k ≡ k₁ → u ≡ v → lists c d x y ≡ lists c₁ d₁ x₁ y₁ → q ≡ r
-            → _≡_ {A = Ended} (ended (record { counter = k; tables = u; created = c; modified = d; deleted = x; warnings = y }) (Changed q))
-            (ended (record { counter = k₁; tables = v; created = c₁; modified = d₁; deleted = x₁; warnings = y₁ }) (Changed r))
-        joined-end a b c d = cc
-
         pub merge-made : (x : ℕ) → x ≡ nextId (l .counter) → (u : Tables) → u ≡ written join p x gone i j t → (c d y z : List ℕ)
             → lists c d y z ≡ listsWritten s x (m .created) gone joined notices (t .lanes) (t .roads) (t .junctions) (t .rules) (lists (l .created) (l .modified) (l .deleted) (l .warnings))
             → ended (record { counter = counterBehind (l .counter) (Changed m); tables = u; created = c; modified = d; deleted = y; warnings = z }) (Changed m) ≡ mergeMade join i j p gone joined l
         unfolding mergeMade
         merge-made x xe u ue c d y z le =
             rw (sym e ∙ f, sym placed ∙ h)
-            (joined-end (ap (λ k. counterBehind (l .counter) (Changed k)) counts-are) (ue ∙ ap (λ k. written join p k gone i j t) xe)
+            (ended-same (ap (λ k. counterBehind (l .counter) (Changed k)) counts-are) (ue ∙ ap (λ k. written join p k gone i j t) xe)
             (le ∙ same xe own ne (ap (λ (k : Counts). k .created) counts-are)) counts-are)
           where
             same : {x y s r v k : ℕ} {ns ms : List Issue} → x ≡ y → s ≡ r → ns ≡ ms → v ≡ k
                 → lists (listed (l .created) (refs BoundaryKind (upFrom x v))) (listed (l .modified) (touched s joined (t .lanes) (t .roads) (t .junctions) (t .rules))) (listed (l .deleted) (leaving s gone)) (warned (l .warnings) ns)
                 ≡ lists (listed (l .created) (refs BoundaryKind (upFrom y k))) (listed (l .modified) (touched r joined (t .lanes) (t .roads) (t .junctions) (t .rules))) (listed (l .deleted) (leaving r gone)) (warned (l .warnings) ms)
             same a b c d = rw (a, b, c, d)
+
+-- ---- what goes and what is joined, as it was found
+
+-- a list at the front of an array
+pub front : (w ids v : List ℕ) (r : ℕ) → length ids ≤ length w → r ≡ length ids → v ≡ over w 0 ids → (r ≤ length v) × (take r v ≡ ids)
+front w ids v r h e p =
+    let z : 0 + length ids ≡ length ids = omega arith in
+    let l : 0 + length ids ≤ length w = omega arith in
+    (omega (arith, ap length p, length-over w 0 ids l), ap (λ k. take k v) e ∙ (ap (take (length ids)) p ∙ (rw z at (take-over w 0 ids l))))
+
+pub write-asks : (join : Float) (p : Plan) (x next : ℕ) (gone : List ℕ) (i j : ℕ) (t : Tables) → x ≡ next → Writable join p next gone i j t → Writable join p x gone i j t
+write-asks join p x next gone i j t e w = subst (λ k. Writable join p k gone i j t) (sym e) w
+
+pub decided-asks : (counter : ℕ) (join : Float) (i j : ℕ) (p : Plan) (g h gone joined : List ℕ) (t : Tables) → g ≡ gone → h ≡ joined → Decided counter join i j p gone joined t → Decided counter join i j p g h t
+decided-asks counter join i j p g h gone joined t e f d = subst (λ x. Decided counter join i j p x h t) (sym e) (subst (λ x. Decided counter join i j p gone x t) (sym f) d)
+
+module _ (join : Float) (i j : ℕ) (p : Plan) (l : Lent) (a b : ℕ) (ae : a ≡ sideIds (p .left)) (be : b ≡ sideIds (p .right)) (r : Bool) (re : r ≡ idsLeft (l .counter) (a + b)) where
+  left-is : r ≡ idsLeft (l .counter) (sideIds (p .left) + sideIds (p .right))
+  left-is = re ∙ (ap (λ z. idsLeft (l .counter) (z + b)) ae ∙ ap (λ z. idsLeft (l .counter) (sideIds (p .left) + z)) be)
+
+  pub no-ids : r ≡ false → ended l (Refused NoIds) ≡ mergeFound join i j p l
+  unfolding mergeFound
+  no-ids f = rw (sym left-is ∙ f)
+
+  pub ids-there : r ≡ true → idsLeft (l .counter) (sideIds (p .left) + sideIds (p .right)) ≡ true
+  ids-there f = sym left-is ∙ f
+
+  pub found-made : r ≡ true → (g h : List ℕ) → g ≡ goneIn (l .tables) i j p → h ≡ joinedIn (l .tables) i p → (x : Ended) → x ≡ mergeMade join i j p g h l → x ≡ mergeFound join i j p l
+  unfolding mergeFound
+  found-made f g h ge he x xe =
+      xe ∙ (ap (λ z. mergeMade join i j p z h l) ge ∙ (ap (λ z. mergeMade join i j p (goneIn (l .tables) i j p) z l) he ∙ sym (ap (λ z. cond z (mergeMade join i j p (goneIn (l .tables) i j p) (joinedIn (l .tables) i p) l) (refusing l NoIds)) (ids-there f))))
+
+-- ---- a test that is negated
+
+pub off : (b : Bool) → not b ≡ true → b ≡ false
+off true e = sym e
+off false e = refl
+
+pub on : (b : Bool) → not b ≡ false → b ≡ true
+on true e = refl
+on false e = sym e
+
+-- ---- the boundaries of the first lane, as they were read
+
+pub both-refs : (l r : Joined) (a b x y : BoundaryRef) → a ≡ x → b ≡ y → (w v : List ℕ) (n : ℕ)
+    → (n ≡ length (joinedIds l (a .boundary) r (b .boundary))) × (v ≡ over w 0 (joinedIds l (a .boundary) r (b .boundary)))
+    → (n ≡ length (joinedIds l (x .boundary) r (y .boundary))) × (v ≡ over w 0 (joinedIds l (x .boundary) r (y .boundary)))
+both-refs l r a b x y e f w v n h =
+    let q : joinedIds l (a .boundary) r (b .boundary) ≡ joinedIds l (x .boundary) r (y .boundary) =
+    ap (λ (z : BoundaryRef). joinedIds l (z .boundary) r (b .boundary)) e ∙ ap (λ (z : BoundaryRef). joinedIds l (x .boundary) r (z .boundary)) f in
+    (h .0 ∙ ap length q, h .1 ∙ ap (over w 0) q)

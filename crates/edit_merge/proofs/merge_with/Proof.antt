@@ -11,6 +11,16 @@ use Rattle.merge_lists.proofs.notices_of.Reads as notices-of-reads
 use Rattle.merge_room.proofs.fits.Reads as fits-reads
 use Rattle.room.proofs.lists_fit.Reads as lists-fit-reads
 use Rattle.room.proofs.next_id.Reads as next-id-reads
+use native.Mathlib.Omega.{arith}
+use Rattle.step.specs.Step.{tablesOf, lentOf}
+use mathlib.Core.Path.{refl, sym, ap, _∙_}
+use Prim.Native.Nat.{_+_, _*_}
+use lib.ListN.{getD}
+use Rattle.merge_lists.specs.Changes.{warningsOf}
+use Rattle.rules.specs.Sound.{nextId}
+use Rattle.lookup.proofs.Laws.{sorted-row}
+use Rattle.edit_merge.proofs.Parts.{no-map-room, no-list-room, lists-ask, write-asks, merge-made}
+use Rattle.edit_merge.proofs.Parts.{no-map-room, no-list-room, lists-ask, write-asks, merge-made, off, on}
 
 -- src/lib.rt:162:9
 next-id-requires : tie.Need-next-id-requires
@@ -18,19 +28,19 @@ next-id-requires c κs = search needs
 
 -- src/lib.rt:165:28
 mul-second : tie.Need-mul-second
-mul-second c = ?
+mul-second c = let s = c .before .before .before .before .before .before .before .before .before .before .before .before .before .before .before in omega (arith, sorted-row 1024 52 (s .args .lanes .now) (s .pre .looked .0) (s .args .j) (s .pre .looked .1 .1))
 
 -- src/lib.rt:165:24
 add-second : tie.Need-add-second
-add-second c = ?
+add-second c = let s = c .before .before .before .before .before .before .before .before .before .before .before .before .before .before .before in omega (arith, sorted-row 1024 52 (s .args .lanes .now) (s .pre .looked .0) (s .args .j) (s .pre .looked .1 .1))
 
 -- src/lib.rt:165:18
 mul-second-2 : tie.Need-mul-second-2
-mul-second-2 c = ?
+mul-second-2 c = let s = c .before .before .before .before .before .before .before .before .before .before .before .before .before .before .before in omega (arith, sorted-row 1024 52 (s .args .lanes .now) (s .pre .looked .0) (s .args .j) (s .pre .looked .1 .1))
 
 -- src/lib.rt:165:18
 slice-read-second : tie.Need-slice-read-second
-slice-read-second c = ?
+slice-read-second c = let s = c .before .before .before .before .before .before .before .before .before .before .before .before .before .before .before .before in omega (arith, sorted-row 1024 52 (s .args .lanes .now) (s .pre .looked .0) (s .args .j) (s .pre .looked .1 .1))
 
 -- src/lib.rt:166:9
 notices-of-requires : tie.Need-notices-of-requires
@@ -46,7 +56,7 @@ count-requires c κs = search needs
 
 -- src/lib.rt:178:9
 fits-requires : tie.Need-fits-requires
-fits-requires c κs = ?
+fits-requires c κs = c .before .before .before .before .before .before .before .before .before .before .before .before .before .before .before .before .before .before .before .before .before .before .before .before .before .before .before .before .before .pre .countable
 
 -- src/lib.rt:189:9
 same-length : tie.Need-same-length
@@ -82,7 +92,7 @@ same-length-8 c = search needs
 
 -- src/lib.rt:189:9
 returns : tie.Need-returns
-returns c = ?
+returns c = let s = c .before .before .before .before .before .before .before .before .before .before .before .before .before .before .before .before .before .before .before .before .before .before .before .before .before .before .before .before .before .before .before in no-map-room (s .args .join) (s .args .i) (s .args .j) (s .args .plan) (s .args .gone .now) (s .args .joined .now) (lentOf (s .args .counter) (s .args .lanes .now) (s .args .boundaries .now) (s .args .roads .now) (s .args .junctions .now) (s .args .rules .now) (s .args .stop-lines .now) (s .args .crosswalks .now) (s .args .coordinates .now) (s .args .created .now) (s .args .modified .now) (s .args .deleted .now) (s .args .warnings .now)) (c .before .fits2 .result) (c .before .fits2 .ensures) (off (c .before .fits2 .result) (c .if1 .taken))
 
 -- src/lib.rt:191:9
 lists-fit-requires : tie.Need-lists-fit-requires
@@ -138,15 +148,15 @@ same-length-20 c = search needs
 
 -- src/lib.rt:192:9
 returns-2 : tie.Need-returns-2
-returns-2 c = ?
+returns-2 c = let s = c .before .before .before .before .before .before .before .before .before .before .before .before .before .before .before .before .before .before .before .before .before .before .before .before .before .before .before .before .before .before .before .before .before .before .before .before .before in no-list-room (s .args .join) (s .args .i) (s .args .j) (s .args .plan) (s .args .gone .now) (s .args .joined .now) (lentOf (s .args .counter) (s .args .lanes .now) (s .args .boundaries .now) (s .args .roads .now) (s .args .junctions .now) (s .args .rules .now) (s .args .stop-lines .now) (s .args .crosswalks .now) (s .args .coordinates .now) (s .args .created .now) (s .args .modified .now) (s .args .deleted .now) (s .args .warnings .now)) (c .before .before .before .before .before .before .before .fits2 .result) (c .before .before .before .before .before .before .before .fits2 .ensures) (on (c .before .before .before .before .before .before .before .fits2 .result) (c .before .before .before .before .before .before .if1 .left)) (getD (s .args .lanes .now) (1 + s .args .j * 52) 0) refl (c .before .before .before .before .before .before .before .before .before .before .before .before .before .before .before .before .before .before .before .notices-of .result) (c .before .before .before .before .before .before .before .before .before .before .before .before .before .before .before .before .before .before .before .notices-of .ensures ∙ ap (warningsOf (s .args .lanes .now) (s .args .i) (s .args .j) (s .args .plan .left) (s .args .plan .right)) (c .before .before .before .before .before .before .before .before .before .before .before .before .before .before .before .before .before .before .before .before .before .before .next-id .ensures)) (c .before .before .before .before .before .before .before .before .before .before .before .before .before .before .before .before .before .before .count-notices .result) (c .before .before .before .before .before .before .before .before .before .before .before .before .before .before .before .before .before .before .count-notices .ensures) (c .before .before .before .before .before .before .before .before .before .before .before .before .before .count .result) (c .before .before .before .before .before .before .before .before .before .before .before .before .before .count .ensures) (c .before .lists-fit .result) (c .before .lists-fit .ensures) (off (c .before .lists-fit .result) (c .if2 .taken))
 
 -- src/lib.rt:194:5
 write-lists-requires : tie.Need-write-lists-requires
-write-lists-requires c κs = ?
+write-lists-requires c κs = let s = c .before .before .before .before .before .before .before .before .before .before .before .before .before .before .before .before .before .before .before .before .before .before .before .before .before .before .before .before .before .before .before .before .before .before .before .before .before .before .before .before .before .before .before .before .before in lists-ask (s .args .join) (s .args .i) (s .args .j) (s .args .plan) (s .args .gone .now) (s .args .joined .now) (lentOf (s .args .counter) (s .args .lanes .now) (s .args .boundaries .now) (s .args .roads .now) (s .args .junctions .now) (s .args .rules .now) (s .args .stop-lines .now) (s .args .crosswalks .now) (s .args .coordinates .now) (s .args .created .now) (s .args .modified .now) (s .args .deleted .now) (s .args .warnings .now)) (c .before .before .before .before .before .before .before .before .before .before .before .before .before .before .before .fits2 .result) (c .before .before .before .before .before .before .before .before .before .before .before .before .before .before .before .fits2 .ensures) (on (c .before .before .before .before .before .before .before .before .before .before .before .before .before .before .before .fits2 .result) (c .before .before .before .before .before .before .before .before .before .before .before .before .before .before .if1 .left)) (getD (s .args .lanes .now) (1 + s .args .j * 52) 0) refl (c .before .before .before .before .before .before .before .before .before .before .before .before .before .before .before .before .before .before .before .before .before .before .before .before .before .before .before .notices-of .result) (c .before .before .before .before .before .before .before .before .before .before .before .before .before .before .before .before .before .before .before .before .before .before .before .before .before .before .before .notices-of .ensures ∙ ap (warningsOf (s .args .lanes .now) (s .args .i) (s .args .j) (s .args .plan .left) (s .args .plan .right)) (c .before .before .before .before .before .before .before .before .before .before .before .before .before .before .before .before .before .before .before .before .before .before .before .before .before .before .before .before .before .before .next-id .ensures)) (c .before .before .before .before .before .before .before .before .before .before .before .before .before .before .before .before .before .before .before .before .before .before .before .before .before .before .count-notices .result) (c .before .before .before .before .before .before .before .before .before .before .before .before .before .before .before .before .before .before .before .before .before .before .before .before .before .before .count-notices .ensures) (c .before .before .before .before .before .before .before .before .before .before .before .before .before .before .before .before .before .before .before .before .before .count .result) (c .before .before .before .before .before .before .before .before .before .before .before .before .before .before .before .before .before .before .before .before .before .count .ensures) (c .before .before .before .before .before .before .before .before .before .lists-fit .result) (c .before .before .before .before .before .before .before .before .before .lists-fit .ensures) (on (c .before .before .before .before .before .before .before .before .before .lists-fit .result) (c .before .before .before .before .before .before .before .before .if2 .left)) (s .pre .formed) (c .before .before .before .before .before .before .before .before .before .before .before .before .before .before .before .before .before .before .before .before .before .before .before .before .before .before .before .before .before .before .next-id .result) (c .before .before .before .before .before .before .before .before .before .before .before .before .before .before .before .before .before .before .before .before .before .before .before .before .before .before .before .before .before .before .next-id .ensures) (s .pre .ids-left)
 
 -- src/lib.rt:210:5
 write-requires : tie.Need-write-requires
-write-requires c κs = ?
+write-requires c κs = let s = c .before .before .before .before .before .before .before .before .before .before .before .before .before .before .before .before .before .before .before .before .before .before .before .before .before .before .before .before .before .before .before .before .before .before .before .before .before .before .before .before .before .before .before .before .before .before .before .before .before .before .before .before .before .before .before .before .before .before .before .before .before .before in write-asks (s .args .join) (s .args .plan) (c .before .before .before .before .before .before .before .before .before .before .before .before .before .before .before .before .before .before .before .before .before .before .before .before .before .before .before .before .before .before .before .before .before .before .before .before .before .before .before .before .before .before .before .before .before .before .before .next-id .result) (nextId (s .args .counter)) (s .args .gone .now) (s .args .i) (s .args .j) (tablesOf (s .args .lanes .now) (s .args .boundaries .now) (s .args .roads .now) (s .args .junctions .now) (s .args .rules .now) (s .args .stop-lines .now) (s .args .crosswalks .now) (s .args .coordinates .now)) (c .before .before .before .before .before .before .before .before .before .before .before .before .before .before .before .before .before .before .before .before .before .before .before .before .before .before .before .before .before .before .before .before .before .before .before .before .before .before .before .before .before .before .before .before .before .before .before .next-id .ensures) (s .pre .writable (sym (c .before .before .before .before .before .before .before .before .before .before .before .before .before .before .before .before .before .before .before .before .before .before .before .before .before .before .before .before .before .before .before .before .fits2 .ensures) ∙ on (c .before .before .before .before .before .before .before .before .before .before .before .before .before .before .before .before .before .before .before .before .before .before .before .before .before .before .before .before .before .before .before .before .fits2 .result) (c .before .before .before .before .before .before .before .before .before .before .before .before .before .before .before .before .before .before .before .before .before .before .before .before .before .before .before .before .before .before .before .if1 .left)))
 
 -- src/lib.rt:138:1
 same-length-21 : tie.Need-same-length-21
@@ -182,15 +192,15 @@ same-length-28 c = search needs
 
 -- src/lib.rt:138:1
 same-length-29 : tie.Need-same-length-29
-same-length-29 c = ?
+same-length-29 c = c .before .before .before .before .before .before .before .before .before .before .before .before .before .before .before .before .before .before .before .before .before .before .before .before .before .before .before .before .before .before .before .before .before .write-lists .kept .1 .1 .1 .1 .1 .1 .1 .1 .1 .1 .0
 
 -- src/lib.rt:138:1
 same-length-30 : tie.Need-same-length-30
-same-length-30 c = ?
+same-length-30 c = c .before .before .before .before .before .before .before .before .before .before .before .before .before .before .before .before .before .before .before .before .before .before .before .before .before .before .before .before .before .before .before .before .before .write-lists .kept .1 .1 .1 .1 .1 .1 .1 .1 .1 .1 .1 .0
 
 -- src/lib.rt:138:1
 same-length-31 : tie.Need-same-length-31
-same-length-31 c = ?
+same-length-31 c = c .before .before .before .before .before .before .before .before .before .before .before .before .before .before .before .before .before .before .before .before .before .before .before .before .before .before .before .before .before .before .before .before .before .write-lists .kept .1 .1 .1 .1 .1 .1 .1 .1 .1 .1 .1 .1 .0
 
 -- src/lib.rt:138:1
 same-length-32 : tie.Need-same-length-32
@@ -198,7 +208,7 @@ same-length-32 c = search needs
 
 -- src/lib.rt:138:1
 returns-3 : tie.Need-returns-3
-returns-3 c = ?
+returns-3 c = let s = c .before .before .before .before .before .before .before .before .before .before .before .before .before .before .before .before .before .before .before .before .before .before .before .before .before .before .before .before .before .before .before .before .before .before .before .before .before .before .before .before .before .before .before .before .before .before .before .before .before .before .before .before .before .before .before .before .before .before .before .before .before .before .before .before .before .before .before .before .before .before .before .before .before .before .before .before .before .before .before in merge-made (s .args .join) (s .args .i) (s .args .j) (s .args .plan) (s .args .gone .now) (s .args .joined .now) (lentOf (s .args .counter) (s .args .lanes .now) (s .args .boundaries .now) (s .args .roads .now) (s .args .junctions .now) (s .args .rules .now) (s .args .stop-lines .now) (s .args .crosswalks .now) (s .args .coordinates .now) (s .args .created .now) (s .args .modified .now) (s .args .deleted .now) (s .args .warnings .now)) (c .before .before .before .before .before .before .before .before .before .before .before .before .before .before .before .before .before .before .before .before .before .before .before .before .before .before .before .before .before .before .before .before .before .before .before .before .before .before .before .before .before .before .before .before .before .before .before .before .before .fits2 .result) (c .before .before .before .before .before .before .before .before .before .before .before .before .before .before .before .before .before .before .before .before .before .before .before .before .before .before .before .before .before .before .before .before .before .before .before .before .before .before .before .before .before .before .before .before .before .before .before .before .before .fits2 .ensures) (on (c .before .before .before .before .before .before .before .before .before .before .before .before .before .before .before .before .before .before .before .before .before .before .before .before .before .before .before .before .before .before .before .before .before .before .before .before .before .before .before .before .before .before .before .before .before .before .before .before .before .fits2 .result) (c .before .before .before .before .before .before .before .before .before .before .before .before .before .before .before .before .before .before .before .before .before .before .before .before .before .before .before .before .before .before .before .before .before .before .before .before .before .before .before .before .before .before .before .before .before .before .before .before .if1 .left)) (getD (s .args .lanes .now) (1 + s .args .j * 52) 0) refl (c .before .before .before .before .before .before .before .before .before .before .before .before .before .before .before .before .before .before .before .before .before .before .before .before .before .before .before .before .before .before .before .before .before .before .before .before .before .before .before .before .before .before .before .before .before .before .before .before .before .before .before .before .before .before .before .before .before .before .before .before .before .notices-of .result) (c .before .before .before .before .before .before .before .before .before .before .before .before .before .before .before .before .before .before .before .before .before .before .before .before .before .before .before .before .before .before .before .before .before .before .before .before .before .before .before .before .before .before .before .before .before .before .before .before .before .before .before .before .before .before .before .before .before .before .before .before .before .notices-of .ensures ∙ ap (warningsOf (s .args .lanes .now) (s .args .i) (s .args .j) (s .args .plan .left) (s .args .plan .right)) (c .before .before .before .before .before .before .before .before .before .before .before .before .before .before .before .before .before .before .before .before .before .before .before .before .before .before .before .before .before .before .before .before .before .before .before .before .before .before .before .before .before .before .before .before .before .before .before .before .before .before .before .before .before .before .before .before .before .before .before .before .before .before .before .before .next-id .ensures)) (c .before .before .before .before .before .before .before .before .before .before .before .before .before .before .before .before .before .before .before .before .before .before .before .before .before .before .before .before .before .before .before .before .before .before .before .before .before .before .before .before .before .before .before .before .before .before .before .before .before .before .before .before .before .before .before .before .before .before .before .before .count-notices .result) (c .before .before .before .before .before .before .before .before .before .before .before .before .before .before .before .before .before .before .before .before .before .before .before .before .before .before .before .before .before .before .before .before .before .before .before .before .before .before .before .before .before .before .before .before .before .before .before .before .before .before .before .before .before .before .before .before .before .before .before .before .count-notices .ensures) (c .before .before .before .before .before .before .before .before .before .before .before .before .before .before .before .before .before .before .before .before .before .before .before .before .before .before .before .before .before .before .before .before .before .before .before .before .before .before .before .before .before .before .before .before .before .before .before .before .before .before .before .before .before .before .before .count .result) (c .before .before .before .before .before .before .before .before .before .before .before .before .before .before .before .before .before .before .before .before .before .before .before .before .before .before .before .before .before .before .before .before .before .before .before .before .before .before .before .before .before .before .before .before .before .before .before .before .before .before .before .before .before .before .before .count .ensures) (c .before .before .before .before .before .before .before .before .before .before .before .before .before .before .before .before .before .before .before .before .before .before .before .before .before .before .before .before .before .before .before .before .before .before .before .before .before .before .before .before .before .before .before .lists-fit .result) (c .before .before .before .before .before .before .before .before .before .before .before .before .before .before .before .before .before .before .before .before .before .before .before .before .before .before .before .before .before .before .before .before .before .before .before .before .before .before .before .before .before .before .before .lists-fit .ensures) (on (c .before .before .before .before .before .before .before .before .before .before .before .before .before .before .before .before .before .before .before .before .before .before .before .before .before .before .before .before .before .before .before .before .before .before .before .before .before .before .before .before .before .before .before .lists-fit .result) (c .before .before .before .before .before .before .before .before .before .before .before .before .before .before .before .before .before .before .before .before .before .before .before .before .before .before .before .before .before .before .before .before .before .before .before .before .before .before .before .before .before .before .if2 .left)) (c .before .before .before .before .before .before .before .before .before .before .before .before .before .before .before .before .before .before .before .before .before .before .before .before .before .before .before .before .before .before .before .before .before .before .before .before .before .before .before .before .before .before .before .before .before .before .before .before .before .before .before .before .before .before .before .before .before .before .before .before .before .before .before .before .next-id .result) (c .before .before .before .before .before .before .before .before .before .before .before .before .before .before .before .before .before .before .before .before .before .before .before .before .before .before .before .before .before .before .before .before .before .before .before .before .before .before .before .before .before .before .before .before .before .before .before .before .before .before .before .before .before .before .before .before .before .before .before .before .before .before .before .before .next-id .ensures) (tablesOf (c .before .before .before .before .before .before .before .before .before .before .before .before .before .before .before .before .write .last .1 .0) (c .before .before .before .before .before .before .before .before .before .before .before .before .before .before .before .before .write .last .1 .1 .1 .1 .0) (c .before .before .before .before .before .before .before .before .before .before .before .before .before .before .before .before .write .last .1 .1 .1 .1 .1 .0) (c .before .before .before .before .before .before .before .before .before .before .before .before .before .before .before .before .write .last .1 .1 .1 .1 .1 .1 .0) (c .before .before .before .before .before .before .before .before .before .before .before .before .before .before .before .before .write .last .1 .1 .1 .1 .1 .1 .1 .0) (c .before .before .before .before .before .before .before .before .before .before .before .before .before .before .before .before .write .last .1 .1 .1 .1 .1 .1 .1 .1 .0) (c .before .before .before .before .before .before .before .before .before .before .before .before .before .before .before .before .write .last .1 .1 .1 .1 .1 .1 .1 .1 .1 .0) (c .before .before .before .before .before .before .before .before .before .before .before .before .before .before .before .before .write .last .1 .1 .1 .1 .1 .1 .1 .1 .1 .1 .0)) (c .before .before .before .before .before .before .before .before .before .before .before .before .before .before .before .before .write .ensures) (c .before .before .before .before .before .before .before .before .before .before .before .before .before .before .before .before .before .before .before .before .before .before .before .before .before .before .before .before .before .before .before .before .before .write-lists .last .1 .1 .1 .1 .1 .1 .1 .1 .1 .1 .0) (c .before .before .before .before .before .before .before .before .before .before .before .before .before .before .before .before .before .before .before .before .before .before .before .before .before .before .before .before .before .before .before .before .before .write-lists .last .1 .1 .1 .1 .1 .1 .1 .1 .1 .1 .1 .0) (c .before .before .before .before .before .before .before .before .before .before .before .before .before .before .before .before .before .before .before .before .before .before .before .before .before .before .before .before .before .before .before .before .before .write-lists .last .1 .1 .1 .1 .1 .1 .1 .1 .1 .1 .1 .1 .0) (c .before .before .before .before .before .before .before .before .before .before .before .before .before .before .before .before .before .before .before .before .before .before .before .before .before .before .before .before .before .before .before .before .before .write-lists .last .1 .1 .1 .1 .1 .1 .1 .1 .1 .1 .1 .1 .1 .0) (c .before .before .before .before .before .before .before .before .before .before .before .before .before .before .before .before .before .before .before .before .before .before .before .before .before .before .before .before .before .before .before .before .before .write-lists .ensures)
 
 pub merge-with-spec : {M : Type 1} → statement M
 merge-with-spec =

@@ -7,6 +7,7 @@ use Rattle.merge_lists.proofs.list_created.Reads as list-created-reads
 use Rattle.merge_lists.proofs.list_deleted.Reads as list-deleted-reads
 use Rattle.merge_lists.proofs.list_modified.Reads as list-modified-reads
 use Rattle.merge_lists.proofs.warn.Reads as warn-reads
+use Rattle.edit_merge.proofs.Parts.{four-lists}
 
 -- src/lib.rt:77:5
 list-created-requires : tie.Need-list-created-requires
@@ -42,7 +43,7 @@ same-length-4 c = search needs
 
 -- src/lib.rt:58:1
 returns : tie.Need-returns
-returns c = ?
+returns c = four-lists (c .before .before .before .before .before .before .before .before .before .before .before .before .before .before .list-created .ensures) (c .before .before .before .before .before .before .before .before .before .before .list-modified .ensures) (c .before .before .before .before .before .before .list-deleted .ensures) (c .before .before .warn .ensures)
 
 pub write-lists-spec : {M : Type 1} → statement M
 write-lists-spec =

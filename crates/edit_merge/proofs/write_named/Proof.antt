@@ -5,6 +5,7 @@ use Rattle.edit_merge.proofs.write_named.Reads as reads
 use Rattle.edit_merge.proofs.write_named.Lts as lts
 use Rattle.mentions.proofs.forget.Reads as forget-reads
 use Rattle.mentions.proofs.replace.Reads as replace-reads
+use Rattle.edit_merge.proofs.Parts.{three-tables}
 
 -- src/lib.rt:90:5
 forget-requires : tie.Need-forget-requires
@@ -32,7 +33,7 @@ same-length-3 c = search needs
 
 -- src/lib.rt:86:1
 returns : tie.Need-returns
-returns c = ?
+returns c = three-tables (c .before .before .before .before .before .before .before .before .before .before .forget .ensures) (c .before .before .before .before .before .before .forget2 .ensures) (c .before .before .replace .ensures)
 
 pub write-named-spec : {M : Type 1} → statement M
 write-named-spec =
