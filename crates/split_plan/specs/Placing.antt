@@ -16,7 +16,7 @@ use Rattle.rules.specs.Map.{boundary, centerline, station, flatPoint}
 use Rattle.rules.specs.Edit.{Res, refuse, yield, _>>=_, Passed, passed, check, require}
 use Rattle.rules.specs.Split.{cutStation, cuttable, crosses, groupOf}
 use Rattle.tables.specs.View.{word, rows, laneOf}
-use Rattle.tables.specs.Columns.{laneLeft, laneRight, laneWords, rowCount, rowId}
+use Rattle.tables.specs.Columns.{laneLeft, laneRight, laneWords, rowId}
 use Rattle.group.specs.Walk.{laneMap, idsOf}
 use Rattle.lookup.specs.Lookup.{rowAt, drawn, centerLine, pointsOr}
 use Rattle.split_plan.specs.declared.Cut.{Cut}

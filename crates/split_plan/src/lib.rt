@@ -7,7 +7,6 @@ ghost use lib.ListN.{length};
 ghost use Rattle.lists.specs.Every.{all};
 ghost use Rattle.lists.specs.Rows.{over};
 ghost use Rattle.polyline.specs.Polyline.{points};
-ghost use Rattle.entities.specs.Types.{crossingMargin};
 ghost use Rattle.rules.specs.Split as D;
 ghost use Rattle.tables.specs.View.{word};
 ghost use Rattle.row_tests.specs.Returned.{searchable};
