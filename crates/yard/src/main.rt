@@ -207,6 +207,7 @@ fn make(
 
 fn each_call(
     map: usize,
+    n: usize,
     lanes: &mut [u64],
     boundaries: &mut [u64],
     roads: &mut [u64],
@@ -220,7 +221,6 @@ fn each_call(
     deleted: &mut [u64],
     warnings: &mut [u64],
 ) {
-    let n = calls(map);
     let mut i = 0;
     while i < n {
         make(
@@ -260,6 +260,7 @@ fn with_lists(
     let mut warnings = [0; 40];
     each_call(
         map,
+        calls(map),
         lanes,
         boundaries,
         roads,
@@ -355,31 +356,43 @@ fn behind(lanes: &mut [u64], i: usize, first: u64, second: u64)
 }
 
 // Lane 1 between the boundaries 101 and 102, and right of it lane 2 between 102 and 103, both ten metres long and in one direction.
-fn lay_beside(lanes: &mut [u64], boundaries: &mut [u64], coordinates: &mut [f64]) {
+fn beside_lanes(lanes: &mut [u64]) {
     put(lanes, 0, 2);
     lane(lanes, 0, 1, 101, 102);
     lane(lanes, 1, 2, 102, 103);
     beside(lanes, 0, 1, 2);
+}
+
+fn beside_boundaries(boundaries: &mut [u64]) {
     put(boundaries, 0, 3);
     boundary(boundaries, 0, 101);
     boundary(boundaries, 1, 102);
     boundary(boundaries, 2, 103);
+}
+
+fn beside_lines(coordinates: &mut [f64]) {
     line(coordinates, 0, 0.0, 10.0, 2.0);
     line(coordinates, 1, 0.0, 10.0, -2.0);
     line(coordinates, 2, 0.0, 10.0, -6.0);
 }
 
 // Lane 1 cut after five metres: its second half between the boundaries 200 and 201.
-fn lay_halves(lanes: &mut [u64], boundaries: &mut [u64], coordinates: &mut [f64]) {
+fn halves_lanes(lanes: &mut [u64]) {
     put(lanes, 0, 2);
     lane(lanes, 0, 1, 101, 102);
     lane(lanes, 1, SECOND, 200, 201);
     behind(lanes, 0, 1, SECOND);
+}
+
+fn halves_boundaries(boundaries: &mut [u64]) {
     put(boundaries, 0, 4);
     boundary(boundaries, 0, 101);
     boundary(boundaries, 1, 102);
     boundary(boundaries, 2, 200);
     boundary(boundaries, 3, 201);
+}
+
+fn halves_lines(coordinates: &mut [f64]) {
     line(coordinates, 0, 0.0, 5.0, 2.0);
     line(coordinates, 1, 0.0, 5.0, -2.0);
     line(coordinates, 2, 5.0, 10.0, 2.0);
@@ -388,10 +401,14 @@ fn lay_halves(lanes: &mut [u64], boundaries: &mut [u64], coordinates: &mut [f64]
 
 fn lay_out(map: usize, lanes: &mut [u64], boundaries: &mut [u64], coordinates: &mut [f64]) {
     if map < 2 {
-        lay_beside(lanes, boundaries, coordinates);
+        beside_lanes(lanes);
+        beside_boundaries(boundaries);
+        beside_lines(coordinates);
         return;
     }
-    lay_halves(lanes, boundaries, coordinates);
+    halves_lanes(lanes);
+    halves_boundaries(boundaries);
+    halves_lines(coordinates);
 }
 
 // ---- answers
