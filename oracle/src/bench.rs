@@ -93,11 +93,11 @@ fn time(name: &str, m: &Map, call: Call) {
     println!("{name:34}{alone:>10.1}{first:>14.1}{editor}");
 }
 
-/// 1,024 lanes, 4,096 boundaries, 65,536 points, 256 roads, 256 junctions and 512 rules: the limits of document 01.
-fn full() -> Map {
+/// 1,024 lanes, 4,096 boundaries, 65,536 points, 256 roads, 256 junctions and 512 rules: the limits of document 01, less `spare` boundaries that no lane has.
+fn full(spare: usize) -> Map {
     let each = POINTS / LIMIT[BOUNDARIES];
     let mut m = grid(128, 8, each);
-    for i in m.boundary_count()..LIMIT[BOUNDARIES] {
+    for i in m.boundary_count()..LIMIT[BOUNDARIES] - spare {
         let line = (0..each)
             .map(|k| Point3::new(k as f64, i as f64, 0.0))
             .collect();
@@ -144,7 +144,14 @@ pub fn run() -> bool {
     time("split_lane, one, with rules", &furnished, split(false));
     time("split_lane, ten, with rules", &furnished, split(true));
 
-    let full = full();
+    // Room for two joined lines.
+    let spared = full(8);
+    let ahead = Call::MergeLanes {
+        first: 514,
+        second: 522,
+    };
+    time("merge_lanes, full map", &spared, ahead);
+    let full = full(0);
     // Lanes in no order, with gaps between their ids: the worst for a search that begins near by.
     let scattered = grid_by(100, 10, 8, |place| 1 + 7 * (place as u64 * 389 % 1000) + place as u64 % 7);
     println!("the test of soundness");

@@ -1,6 +1,6 @@
 -- A call of merge_lanes, by how it ends, as the one equation with `step`. Assumes nothing.
 use mathlib.Core.Path.{_≡_, refl, sym, ap, _∙_}
-use Prim.Native.Nat.{ℕ, _+_, _/_, _^_, _≤_, _<_}
+use Prim.Native.Nat.{ℕ, _+_, _/_, _^_, _≤_, _<_, min}
 use native.Mathlib.Omega.{arith}
 use mathlib.Core.Bool.{Bool, true, false, cond, _&&_}
 use mathlib.Core.List.{List, [], _∷_, _++_}
@@ -32,7 +32,7 @@ use Rattle.step.specs.Step.{Lent, Ended, ended, step, stateOf, listsOf, refusin
 use Rattle.step.proofs.Steps.{step-refused, step-exhausted, step-decided}
 use Rattle.sound_facts.proofs.Found.{sound-formed, lane-there, lane-missing}
 use Rattle.room.specs.Room.{idsLeft, listsFit}
-use Rattle.merge_plan.specs.Deciding.{laneIn, counted, follows, planned}
+use Rattle.merge_plan.specs.Deciding.{laneIn, follows, planned}
 use Rattle.merge_plan.specs.Sides.{sideIds}
 use Rattle.merge_plan.specs.declared.Plan.{Plan}
 use Rattle.merge_plan.specs.declared.Planned.the-variants as N
@@ -40,12 +40,34 @@ use Rattle.merge_plan.proofs.Whole.{Plans, merge-unfit, merge-refused, merge-pl
 use Rattle.merge_room.specs.Leaving.{fitsAfter}
 use Rattle.merge_lists.specs.Changes.{touched, leaving, warningsOf}
 use Rattle.merge_lists.proofs.Standing.{length-refs}
+use Rattle.merge_laid.proofs.Planning.{Planning}
 use Rattle.merge_laid.proofs.Merging.{Merging}
 use Rattle.merge_laid.proofs.Whole.{linesOf, lines-spans, relay-laid}
 use Rattle.merge_changes.proofs.Lists.{plan-ids, created-read, modified-read, deleted-read, warnings-read}
 use Rattle.merge_changes.proofs.Tables.{roads-forget, junctions-forget, rules-replace}
-use Rattle.merge_limits.proofs.Whole.{gone-is, fits-is}
-use Rattle.edit_merge.specs.Parts.{countsOf, namedWritten, namedIn, reachOf, written, mergeMade, mergeFound, goneIn, joinedIn}
+use Rattle.merge_limits.proofs.Asked as M
+use Rattle.merge_limits.proofs.Gone.{gone-is}
+use Rattle.merge_limits.proofs.Whole.{gone-few, fits-is, ids-left, ids-below, merging}
+use Rattle.lists.specs.Every.{all}
+use Rattle.lists.specs.Select.{ascending}
+use Rattle.lists.proofs.Booleans.{and-both}
+use Rattle.rules.specs.Names.{Left, Right}
+use Rattle.tables.specs.Formed.{counted, laneFormed, ruleFormed}
+use Rattle.row_tests.specs.Good.{allRows}
+use Rattle.apart.specs.Marks.{within}
+use Rattle.soundness.proofs.Counts as S
+use Rattle.soundness.proofs.Back.{formed-parts}
+use Rattle.layout.specs.Layout.{lineTables, countedLines}
+use Rattle.layout.proofs.Room.{all-within-more}
+use Rattle.lookup.proofs.Laws.{place-within}
+use Rattle.sound_facts.proofs.Stored.{formed-counts}
+use Rattle.sound_facts.proofs.Facts.{facts}
+use Rattle.mentions.specs.Naming.{tableFormed}
+use Rattle.merge_plan.specs.Sides.{sideId}
+use Rattle.merge_lists.specs.Changes.{Formed, Looked, withJoined}
+use Rattle.merge_lists.proofs.Listed.{joined-more}
+use Rattle.merge_laid.proofs.Whole.{relayable}
+use Rattle.edit_merge.specs.Parts.{MayMerge, countsOf, namedWritten, namedIn, reachOf, written, mergeMade, mergeFound, goneIn, joinedIn}
 
 -- ---- refused by what is named
 
@@ -114,8 +136,11 @@ module _ (tol : Tolerance) (l : Lent) (h : soundTables (l .counter) (l .tables) 
   abbrev second : Lane
   second = laneIn (t .coordinates) (t .lanes) j
 
-  plans : Plans tol next one two (view t) first second p
+  pub plans : Plans tol next one two (view t) first second p
   plans = merge-planned tol next one two t i j ei ej f p e
+
+  abbrev pub planning : Planning tol (l .counter) t one two i j p
+  planning = record { sane = h; small = small; first = ei; second = ej; follow = f; plans = plans }
 
   abbrev done : E.Edited
   done = merged tol next (view t) first second (plans .left) (plans .right)
@@ -138,10 +163,15 @@ module _ (tol : Tolerance) (l : Lent) (h : soundTables (l .counter) (l .tables) 
     ids : leb (O.counterAfter (l .counter) (done .ids)) lastCounter ≡ true
     ids = ap (λ n. leb (O.counterAfter (l .counter) n) lastCounter) ids-told ∙ left
 
+    planned-ids : leb (O.counterAfter (l .counter) (planIds (plans .left) + planIds (plans .right))) lastCounter ≡ true
+    planned-ids = sym (ids-left planning) ∙ left
+
+    same : fitsAfter (t .lanes) i j (t .boundaries) (t .stop-lines) (t .crosswalks) (t .coordinates) p gone ≡ fitsRoom (roomOf t) (done .result)
+    same = fits-is planning planned-ids
+
     module _ (room : fitsRoom (roomOf t) (done .result) ≡ true) where
-      pub merging : Merging tol (l .counter) t one two i j p (reachOf t) gone
-      unfolding merged
-      merging =
+      abbrev known : Merging tol (l .counter) t one two i j p (reachOf t) gone
+      known =
           record {
             sane = h;
             small = small;
@@ -149,9 +179,9 @@ module _ (tol : Tolerance) (l : Lent) (h : soundTables (l .counter) (l .tables) 
             second = ej;
             follow = f;
             plans = plans;
-            ids = ids;
+            ids = planned-ids;
             reaches = ap lastPoint (lines-spans t []);
-            goes = gone-is tol (l .counter) t one two i j p h small ei ej f plans ids;
+            goes = gone-is planning planned-ids;
             room = room;
           }
 
@@ -162,17 +192,17 @@ module _ (tol : Tolerance) (l : Lent) (h : soundTables (l .counter) (l .tables) 
       n = countsOf (word 0 (rowAt 52 (t .lanes) j)) p (length gone) (joinedIn t i p) (length (warningsOf (t .lanes) i j (p .left) (p .right) next)) (t .lanes) (t .roads) (t .junctions) (t .rules)
 
       created-count : length (cs .created) ≡ sideIds (p .left) + sideIds (p .right)
-      created-count = ap length (created-read merging) ∙ (length-refs BoundaryKind (upFrom next (sideIds (p .left) + sideIds (p .right))) ∙ length-up next (sideIds (p .left) + sideIds (p .right)))
+      created-count = ap length (created-read known) ∙ (length-refs BoundaryKind (upFrom next (sideIds (p .left) + sideIds (p .right))) ∙ length-up next (sideIds (p .left) + sideIds (p .right)))
 
       deleted-count : length (cs .deleted) ≡ length gone + 1
-      deleted-count = omega (arith, ap length (deleted-read merging), length-append (refs LaneKind (second .id ∷ [])) (refs BoundaryKind gone), length-refs BoundaryKind gone)
+      deleted-count = omega (arith, ap length (deleted-read known), length-append (refs LaneKind (second .id ∷ [])) (refs BoundaryKind gone), length-refs BoundaryKind gone)
 
       modified-count : length (cs .modified) ≡ n .modified
       unfolding laneOf
-      modified-count = ap length (modified-read merging)
+      modified-count = ap length (modified-read known)
 
       warnings-count : length (cs .warnings) ≡ n .warnings
-      warnings-count = ap length (warnings-read merging)
+      warnings-count = ap length (warnings-read known)
 
       counted-told : counts cs ≡ n
       counted-told = four created-count modified-count deleted-count warnings-count
@@ -209,38 +239,19 @@ module _ (tol : Tolerance) (l : Lent) (h : soundTables (l .counter) (l .tables) 
       accepted : changing (O.MergeLanes one two) l after cs (done .second) ≡ made
       unfolding merged laneOf
       accepted =
-          joined (ap (O.counterAfter (l .counter)) ids-told) (sym (tables-written merging)) (created-read merging) (modified-read merging) (deleted-read merging) (warnings-read merging) counted-told
+          joined (ap (O.counterAfter (l .counter)) ids-told) (sym (tables-written known)) (created-read known) (modified-read known) (deleted-read known) (warnings-read known) counted-told
 
     -- by room
     ends : (x : Bool) → fitsRoom (roomOf t) (done .result) ≡ x
         → cond (x && O.fitsLists (listsOf l) (done .changes)) (changing (O.MergeLanes one two) l (record { map = done .result; counter = O.counterAfter (l .counter) (done .ids) }) (done .changes) (done .second)) (refusing l NoRoom)
         ≡ mergeMade (tol .join) i j p gone (joinedIn t i p) l
     unfolding mergeMade
-    ends false q = sym (ap (λ z. cond z (cond (listsFit (count) (l .created) (l .modified) (l .deleted) (l .warnings)) (whole) (refusing l NoRoom)) (refusing l NoRoom)) (same ∙ q))
-      where
-        count : Counts
-        count = countsOf (word 0 (rowAt 52 (t .lanes) j)) p (length gone) (joinedIn t i p) (length (warningsOf (t .lanes) i j (p .left) (p .right) next)) (t .lanes) (t .roads) (t .junctions) (t .rules)
-
-        whole : Ended
-        whole =
-            ended
-            (record {
-              counter = O.counterAfter (l .counter) (count .created);
-              tables = written (tol .join) p next gone i j t;
-              created = listed (l .created) (refs BoundaryKind (upFrom next (count .created)));
-              modified = listed (l .modified) (touched (word 0 (rowAt 52 (t .lanes) j)) (joinedIn t i p) (t .lanes) (t .roads) (t .junctions) (t .rules));
-              deleted = listed (l .deleted) (leaving (word 0 (rowAt 52 (t .lanes) j)) gone);
-              warnings = warned (l .warnings) (warningsOf (t .lanes) i j (p .left) (p .right) next);
-            })
-            (Changed count)
-
-        same : fitsAfter (t .lanes) i j (t .boundaries) (t .stop-lines) (t .crosswalks) (t .coordinates) p gone ≡ fitsRoom (roomOf t) (done .result)
-        same = fits-is tol (l .counter) t one two i j p h small ei ej f plans ids
+    ends false q = rw (same ∙ q)
     ends true q =
-        two (fits-is tol (l .counter) t one two i j p h small ei ej f plans ids ∙ q) (lists-told q) (accepted q)
+        pair (same ∙ q) (lists-told q) (accepted q)
       where
-        two : {x y z : Bool} {u v : Ended} → x ≡ true → y ≡ z → u ≡ v → cond y u (refusing l NoRoom) ≡ cond x (cond z v (refusing l NoRoom)) (refusing l NoRoom)
-        two p q r = rw (p, q, r)
+        pair : {x y z : Bool} {u v : Ended} → x ≡ true → y ≡ z → u ≡ v → cond y u (refusing l NoRoom) ≡ cond x (cond z v (refusing l NoRoom)) (refusing l NoRoom)
+        pair p q r = rw (p, q, r)
 
   pub merge-ends : mergeFound (tol .join) i j p l ≡ step tol (O.MergeLanes one two) l
   unfolding mergeFound
@@ -249,3 +260,60 @@ module _ (tol : Tolerance) (l : Lent) (h : soundTables (l .counter) (l .tables) 
       go : (x : Bool) → idsLeft (l .counter) (sideIds (p .left) + sideIds (p .right)) ≡ x → cond x (mergeMade (tol .join) i j p gone (joinedIn t i p) l) (refusing l NoIds) ≡ step tol (O.MergeLanes one two) l
       go false q = step-exhausted tol (O.MergeLanes one two) l h done yields (ap (λ n. leb (O.counterAfter (l .counter) n) lastCounter) ids-told ∙ q)
       go true q = sym (step-decided tol (O.MergeLanes one two) l h done yields (ids q) ∙ ends q (fitsRoom (roomOf t) (done .result)) refl)
+
+  -- ---- what a merge asks of a sound map
+
+  looked : Looked (t .lanes) i j
+  looked = (facts (l .counter) t h .drawable .lanes-sorted, (place-within 52 (t .lanes) one i ei, place-within 52 (t .lanes) two j ej))
+
+  sound-counts : S.Counts t
+  sound-counts = formed-counts t (sound-formed (l .counter) t h)
+
+  all-formed : Formed (t .lanes) (t .roads) (t .junctions) (t .rules)
+  unfolding tableFormed
+  all-formed =
+      let n = sound-counts in
+      let q = formed-parts t (sound-formed (l .counter) t h) in
+      record {
+        lanes = and-both (counted 1024 52 (t .lanes)) (allRows 52 laneFormed (t .lanes)) (n .lanes) (q .lanes);
+        roads = and-both (counted 256 68 (t .roads)) (allRows 68 (λ w. leb (word 3 w) 64) (t .roads)) (n .roads) (q .roads);
+        junctions = and-both (counted 256 69 (t .junctions)) (allRows 69 (λ w. leb (word 4 w) 64) (t .junctions)) (n .junctions) (q .junctions);
+        rules = and-both (counted 512 330 (t .rules)) (allRows 330 ruleFormed (t .rules)) (n .rules) (q .rules);
+      }
+
+  lines-counted : countedLines (lineTables (t .lanes) (t .boundaries) (t .stop-lines) (t .crosswalks) []) ≡ true
+  unfolding countedLines
+  lines-counted = let n = sound-counts in rw (n .lanes, n .boundaries, n .stop-lines, n .crosswalks)
+
+  reaching : all (within 65536) (spans (lineTables (t .lanes) (t .boundaries) (t .stop-lines) (t .crosswalks) [])) ≡ true
+  reaching =
+      ap (all (within 65536)) (lines-spans t [])
+      ∙ all-within-more (min 65536 (length (t .coordinates) / 3)) 65536 (spans t) (omega arith) (facts (l .counter) t h .parts .store)
+
+  joined-few : length (joinedIn t i p) ≤ 2
+  joined-few =
+      let up = joined-more (p .left) (sideId (t .lanes) i Left) [] (unfold ascending in refl) in
+      omega (arith, up .1 .0, joined-more (p .right) (sideId (t .lanes) i Right) (withJoined (p .left) (sideId (t .lanes) i Left) []) (up .1 .1) .1 .0)
+
+  pub may-merge : MayMerge (l .counter) (tol .join) i j p t
+  may-merge =
+      record {
+        leaving = M.leaving planning;
+        decided = λ left.
+            record {
+              formed = all-formed;
+              looked = looked;
+              ids-left = ids-below planning (planned-ids left);
+              gone-few = gone-few planning .0;
+              joined-few = joined-few;
+              countable = M.countable planning;
+              writable = λ fit.
+                  record {
+                    looked = looked;
+                    counts = lines-counted;
+                    reaching = reaching;
+                    naming = record { roads = all-formed .roads; junctions = all-formed .junctions; rules = all-formed .rules };
+                    relayable = relayable (merging planning (planned-ids left) fit (reachOf t) (ap lastPoint (lines-spans t [])));
+                  };
+            };
+      }

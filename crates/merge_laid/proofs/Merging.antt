@@ -2,59 +2,53 @@
 use mathlib.Core.Path.{_≡_, refl, sym, ap, _∙_}
 use Prim.Native.Nat.{ℕ, _+_, _*_, _/_, _^_, _≤_, _<_, min}
 use native.Mathlib.Omega.{arith}
-use mathlib.Core.Bool.{Bool, true, false, not, _&&_, _||_, cond, true≢false}
+use mathlib.Core.Bool.{true, not, _&&_, _||_}
 use mathlib.Core.List.{List, [], _∷_, _++_, map}
 use mathlib.Core.Option.{some}
 use lib.Dec.{eqb, leb}
 use lib.Ieee.{Float}
-use lib.ListN.{length, drop, length-map, length-append, length-drop, length-take}
-use borrow.Author.Tests.{leb-true, eqb-true}
+use lib.ListN.{length, drop, length-map, length-append, length-drop}
+use borrow.Author.Tests.{leb-true}
 use Rattle.lists.specs.Every.{all}
 use Rattle.lists.specs.Rows.{keys}
-use Rattle.lists.specs.Select.{keep, any, find, has, ascending, sameNumbers}
+use Rattle.lists.specs.Select.{keep, has, ascending, sameNumbers}
 use Rattle.lists.specs.declared.Found.the-variants.{At}
-use Rattle.lists.proofs.Booleans.{and-fst, and-snd}
-use Rattle.lists.proofs.Select.{all-numbers, has-keep, keep-map, keep-same}
+use Rattle.lists.proofs.Booleans.{and-fst}
 use Rattle.entities.specs.Records.{Lane, Boundary, Map}
-use Rattle.rules.specs.Names.{Tolerance, Left, Right}
-use Rattle.rules.specs.Map.{lane, uses}
+use Rattle.rules.specs.Names.{Tolerance}
+use Rattle.rules.specs.Map.{lane}
 use Rattle.rules.specs.Sound as S
 use Rattle.rules.specs.Sound.{nextId, lastCounter, fitsRoom, withinLimits}
 use Rattle.rules.specs.Lane.{unused}
-use Rattle.rules.specs.Merge.{SidePlan, kept, in-place, fresh, planIds, joinedBoundary, merged}
+use Rattle.rules.specs.Merge.{SidePlan, planIds, joinedBoundary, merged}
 use Rattle.rules.specs.Ops.{counterAfter}
 use Rattle.tables.specs.View.{Tables, word, idsAt, rows, view, laneOf, boundaryOf, stopLineOf, crosswalkOf}
-use Rattle.tables.specs.Formed.{spans, centerSpan, stored, formed, soundTables, laneFormed}
+use Rattle.tables.specs.Formed.{spans, centerSpan, stored, soundTables, laneFormed}
 use Rattle.row_tests.specs.Good.{allRows}
-use Rattle.row_tests.proofs.Formed.{lane-after}
 use Rattle.apart.specs.Marks.{within}
 use Rattle.apart.proofs.Marks.{counted-facts}
 use Rattle.soundness.proofs.Counts.{Counts}
 use Rattle.soundness.proofs.Rows.{all-rows}
-use Rattle.soundness.proofs.Whole.{ids-keys, rows-count}
+use Rattle.soundness.proofs.Whole.{rows-count}
 use Rattle.store.specs.Store.{roomOf}
 use Rattle.store.specs.Rows.{keptRows}
-use Rattle.store.proofs.Packing.{keep-passing, keptOnes, kept-records}
-use Rattle.store.proofs.Whole.{all-keyed}
-use Rattle.laws.proofs.Merge.{mergedLanes, mergedMap, newOnes, stillUsed}
-use Rattle.laws.proofs.MergePlans.{Planned, side-planned, planNew, bothNew, ids-made}
-use Rattle.laws.proofs.MergeIds.{Free, kept-joined, old-not-new}
-use Rattle.laws.proofs.MergeCounter.{counter-free}
+use Rattle.store.proofs.Packing.{keptOnes, kept-records}
+use Rattle.laws.proofs.Merge.{mergedMap, newOnes, stillUsed}
+use Rattle.laws.proofs.MergePlans.{Planned, bothNew}
 use Rattle.layout.specs.Layout.{lastPoint, countedLines}
 use Rattle.layout.specs.Pointed.{HasRoom}
 use Rattle.layout.proofs.Reach.{within-reach, reach-least}
 use Rattle.layout.proofs.Standing.{Rowwise, spans-rowwise, both-pass}
-use Rattle.lookup.specs.Lookup.{placeOf, rowAt}
-use Rattle.lookup.proofs.Laws.{find-at, place-id, place-within, row-passes, sorted-ascends}
-use Rattle.lookup.proofs.Good.{rows-weaker}
-use Rattle.sound_facts.proofs.Stored.{formed-counts}
+use Rattle.lookup.specs.Lookup.{placeOf}
 use Rattle.sound_facts.proofs.LaidPlaces.{roomy}
-use Rattle.sound_facts.proofs.Facts.{Facts, facts}
+use Rattle.sound_facts.proofs.Facts.{Facts}
 use Rattle.sound_facts.proofs.Room.{Limits, limits}
 use Rattle.merge_plan.specs.Deciding.{laneIn, follows}
 use Rattle.merge_plan.specs.declared.Plan.{Plan}
 use Rattle.merge_plan.proofs.Whole.{Plans}
 use Rattle.merge_laid.proofs.Lanes.{all-one, leadsOnly, takesRow}
+use Rattle.merge_laid.proofs.Planning.{Planning}
+use Rattle.merge_laid.proofs.Planning as P
 
 -- Lanes `one` and `two` stand in rows i and j of sound tables, the second follows the first, p is the plan of their merge, the boundaries `gone` go, the lines
 -- reach to point `reach`, and there are ids and room enough.
@@ -77,6 +71,11 @@ module _ {tol : Tolerance} {counter : ℕ} {t : Tables} {one two i j : ℕ} {p :
   abbrev c : List Float
   c = t .coordinates
 
+  -- ---- what is known before
+
+  abbrev pub planning : Planning tol counter t one two i j p
+  planning = record { sane = k .sane; small = k .small; first = k .first; second = k .second; follow = k .follow; plans = k .plans }
+
   abbrev pub a : Lane
   a = laneIn (t .coordinates) (t .lanes) i
 
@@ -93,52 +92,64 @@ module _ {tol : Tolerance} {counter : ℕ} {t : Tables} {one two i j : ℕ} {p :
   next = nextId counter
 
   pub view-boundaries : view t .boundaries ≡ rows 5 (boundaryOf (t .coordinates)) (t .boundaries)
-  unfolding view
-  view-boundaries = refl
+  view-boundaries = P.view-boundaries planning
 
   -- the merged map
   abbrev pub done : Map
   done = mergedMap tol (nextId counter) (view t) a b pl pr
 
   pub known : Facts counter t
-  known = facts counter t (k .sane)
+  known = P.known planning
+
+  pub counts : Counts t
+  counts = P.counts planning
 
   pub here-first : i < word 0 (t .lanes)
-  here-first = place-within 52 (t .lanes) one i (k .first)
+  here-first = P.here-first planning
 
   pub here-second : j < word 0 (t .lanes)
-  here-second = place-within 52 (t .lanes) two j (k .second)
+  here-second = P.here-second planning
 
-  -- the first lane is found by its id
   pub found : lane (view t) (a .id) ≡ some a
-  unfolding lane view laneOf
-  found =
-      let e : word 0 (rowAt 52 (t .lanes) i) ≡ one = place-id 52 (t .lanes) one i (k .first) in
-      ap (λ n. find (λ l. eqb (l .id) n) (rows 52 (laneOf c) (t .lanes))) e ∙ find-at 52 (laneOf c) (λ l. l .id) (λ w. refl) (t .lanes) one i (k .first)
+  found = P.found planning
 
-  -- the second alone comes after it
   pub leads : sameNumbers (a .successors) (b .id ∷ []) ≡ true
-  unfolding laneOf
-  leads =
-      let x = not (eqb (a .id) (b .id)) in
-      let y = sameNumbers (a .successors) (b .id ∷ []) in
-      let z = sameNumbers (b .predecessors) (a .id ∷ []) in
-      and-fst y z (and-snd x (y && z) (k .follow))
-
-  -- ---- rows of lanes
+  leads = P.leads planning
 
   pub stored-rows : Rowwise (stored c) t
-  stored-rows = spans-rowwise (stored c) t (known .parts .store)
+  stored-rows = P.stored-rows planning
 
   pub links-up : all (λ b. b) (rows 52 (λ w. ascending (idsAt 18 w)) (t .lanes)) ≡ true
-  unfolding S.linksAscend view laneOf
-  links-up =
-      rows-weaker 52 (λ w. ascending (idsAt 18 w) && ascending (idsAt 35 w)) (λ w. ascending (idsAt 18 w)) (λ w h. and-fst (ascending (idsAt 18 w)) (ascending (idsAt 35 w)) h) (t .lanes)
-      (sym (all-rows 52 (laneOf c) (λ l. ascending (l .predecessors) && ascending (l .successors)) (t .lanes)) ∙ known .clauses .links-ascend)
+  links-up = P.links-up planning
 
   pub lanes-up : ascending (map (λ l. l .id) (rows 52 (laneOf c) (t .lanes))) ≡ true
-  unfolding laneOf
-  lanes-up = ap ascending (ids-keys 52 (laneOf c) (λ l. l .id) (t .lanes) (λ w. refl)) ∙ sorted-ascends 1024 52 (t .lanes) (known .drawable .lanes-sorted)
+  lanes-up = P.lanes-up planning
+
+  pub few-after : length (b .successors) ≤ 16
+  few-after = P.few-after planning
+
+  pub boundary-keys : map (λ x. x .id) (view t .boundaries) ≡ keys 5 (word 0 (t .boundaries)) (drop 1 (t .boundaries))
+  boundary-keys = P.boundary-keys planning
+
+  pub left-planned : Planned (view t) (a .left .boundary) pl
+  left-planned = P.left-planned planning
+
+  pub right-planned : Planned (view t) (a .right .boundary) pr
+  right-planned = P.right-planned planning
+
+  pub new-fresh : all (λ i. not (has i (keys 5 (word 0 (t .boundaries)) (drop 1 (t .boundaries))))) (bothNew pl pr next) ≡ true
+  new-fresh = P.new-fresh planning (k .ids)
+
+  pub ids-small : next + planIds pl < 2 ^ 64
+  ids-small = P.ids-small planning (k .ids)
+
+  pub stay-kept : keep (λ x. not (has (x .id) gone)) (view t .boundaries) ≡ keep (stillUsed tol next (view t) a b pl pr) (view t .boundaries)
+  stay-kept = P.stay-kept planning gone (k .goes)
+
+  pub boundaries-done : map (joinedBoundary pl pr a) (keep (λ x. not (has (x .id) gone)) (view t .boundaries)) ++ newOnes next (view t) a pl pr ≡ done .boundaries
+  boundaries-done = P.boundaries-done planning gone (k .goes)
+
+  -- ---- rows of lanes
 
   lead-rows : all (λ b. b) (rows 52 (leadsOnly a b) (t .lanes)) ≡ true
   unfolding view laneOf allRows lane
@@ -152,42 +163,6 @@ module _ {tol : Tolerance} {counter : ℕ} {t : Tables} {one two i j : ℕ} {p :
       (both-pass 52 (λ w. ascending (idsAt 18 w)) (λ w. all (stored c) (centerSpan w) && leadsOnly a b w) (t .lanes) links-up
       (both-pass 52 (λ w. all (stored c) (centerSpan w)) (leadsOnly a b) (t .lanes) (stored-rows .centerlines) lead-rows))
 
-  pub few-after : length (b .successors) ≤ 16
-  unfolding laneOf
-  few-after =
-      let w = rowAt 52 (t .lanes) j in
-      let f = lane-after w (row-passes 52 laneFormed (t .lanes) (unfold allRows in known .parts .lanes) j here-second) in
-      omega (arith, length-take (word 35 w) (drop 36 w))
-
-  -- ---- plans
-
-  pub left-planned : Planned (view t) (a .left .boundary) pl
-  left-planned = side-planned (view t) (known .clauses .reach) tol Left a b pl (k .plans .left-plan)
-
-  pub right-planned : Planned (view t) (a .right .boundary) pr
-  right-planned = side-planned (view t) (known .clauses .reach) tol Right a b pr (k .plans .right-plan)
-
-  free : Free next (view t) pl pr
-  free = counter-free counter (planIds pl + planIds pr) (view t) (known .clauses .counter-above) (k .ids)
-
-  pub boundary-keys : map (λ x. x .id) (view t .boundaries) ≡ keys 5 (word 0 (t .boundaries)) (drop 1 (t .boundaries))
-  unfolding view boundaryOf
-  boundary-keys = ids-keys 5 (boundaryOf c) (λ x. x .id) (t .boundaries) (λ w. refl)
-
-  pub new-fresh : all (λ i. not (has i (keys 5 (word 0 (t .boundaries)) (drop 1 (t .boundaries))))) (bothNew pl pr next) ≡ true
-  new-fresh = all-numbers (λ n. not (has n (keys 5 (word 0 (t .boundaries)) (drop 1 (t .boundaries))))) (bothNew pl pr next) (λ n h. go n h (has n (keys 5 (word 0 (t .boundaries)) (drop 1 (t .boundaries)))) refl)
-    where
-      go : (n : ℕ) → has n (bothNew pl pr next) ≡ true → (z : Bool) → has n (keys 5 (word 0 (t .boundaries)) (drop 1 (t .boundaries))) ≡ z → not z ≡ true
-      go n h true e = absurd (true≢false (sym h ∙ old-not-new tol next (view t) a b pl pr left-planned right-planned free n (ap (has n) boundary-keys ∙ e)))
-      go n h false e = refl
-
-  pub ids-small : next + planIds pl < 2 ^ 64
-  ids-small = go (eqb (planIds pl + planIds pr) 0) refl (k .ids)
-    where
-      go : (z : Bool) → eqb (planIds pl + planIds pr) 0 ≡ z → leb (cond z counter (nextId counter + (planIds pl + planIds pr))) lastCounter ≡ true → next + planIds pl < 2 ^ 64
-      go true e h = let n = eqb-true (planIds pl + planIds pr) 0 e in let s = k .small in omega arith
-      go false e h = let n = leb-true (nextId counter + (planIds pl + planIds pr)) lastCounter h in omega arith
-
   -- ---- how far lines reach
 
   pub near-all : reach ≤ min 65536 (length c / 3)
@@ -195,35 +170,6 @@ module _ {tol : Tolerance} {counter : ℕ} {t : Tables} {one two i j : ℕ} {p :
 
   pub reached-rows : Rowwise (within reach) t
   reached-rows = spans-rowwise (within reach) t (rw (k .reaches) (within-reach (spans t)))
-
-  -- ---- boundaries that stay
-
-  pub stay-kept : keep (λ x. not (has (x .id) gone)) (view t .boundaries) ≡ keep (stillUsed tol next (view t) a b pl pr) (view t .boundaries)
-  unfolding merged
-  stay-kept =
-      keep-same (λ x. not (has (x .id) gone)) (λ x. not (has (x .id) (map (λ x. x .id) bs) && drops (x .id))) bs (λ x. ap not (ap (has (x .id)) (k .goes) ∙ gone-has (x .id)))
-      ∙ (sym (keep-passing (λ x. has (x .id) (map (λ x. x .id) bs)) (λ x. not (has (x .id) (map (λ x. x .id) bs) && drops (x .id))) bs (all-keyed (λ x. x .id) bs))
-      ∙ (keep-same (λ x. has (x .id) (map (λ x. x .id) bs) && not (has (x .id) (map (λ x. x .id) bs) && drops (x .id))) (λ x. has (x .id) (map (λ x. x .id) bs) && not (drops (x .id))) bs
-      (λ x. both (has (x .id) (map (λ x. x .id) bs)) (drops (x .id)))
-      ∙ keep-passing (λ x. has (x .id) (map (λ x. x .id) bs)) (λ x. not (drops (x .id))) bs (all-keyed (λ x. x .id) bs)))
-    where
-      bs : List Boundary
-      bs = view t .boundaries
-
-      drops : ℕ → Bool
-      drops n = any (uses n) (a ∷ b ∷ []) && not (any (uses n) (mergedLanes tol next (view t) a b pl pr))
-
-      gone-has : (n : ℕ) → has n (map (λ x. x .id) (keep (λ (x : Boundary). drops (x .id)) bs)) ≡ (has n (map (λ x. x .id) bs) && drops n)
-      gone-has n = ap (has n) (sym (keep-map drops (λ (x : Boundary). x .id) bs)) ∙ has-keep n drops (map (λ x. x .id) bs)
-
-      both : (x y : Bool) → (x && not (x && y)) ≡ (x && not y)
-      both true y = refl
-      both false y = refl
-
-  pub boundaries-done : map (joinedBoundary pl pr a) (keep (λ x. not (has (x .id) gone)) (view t .boundaries)) ++ newOnes next (view t) a pl pr ≡ done .boundaries
-  boundaries-done =
-      ap (λ z. map (joinedBoundary pl pr a) z ++ newOnes next (view t) a pl pr) stay-kept
-      ∙ ap (λ z. z ++ newOnes next (view t) a pl pr) (sym (kept-joined tol next (view t) a b pl pr left-planned right-planned))
 
   -- ---- room
 
@@ -240,18 +186,6 @@ module _ {tol : Tolerance} {counter : ℕ} {t : Tables} {one two i j : ℕ} {p :
       let u = leb (S.pointCount done) (roomOf t .points) in
       limits done (and-fst x y (and-fst (x && y) z (and-fst (x && y && z) u fit)))
 
-  pub counts : Counts t
-  unfolding soundTables
-  counts = formed-counts t (and-fst (formed t) (S.sound counter (view t)) (k .sane))
-
-  both-count : (l r : SidePlan) (n : ℕ) → length (bothNew l r n) ≡ planIds l + planIds r
-  both-count l r n = length-append (planNew l n) (planNew r (n + planIds l)) ∙ (ap (λ z. z + length (planNew r (n + planIds l))) (go l n) ∙ ap (λ z. planIds l + z) (go r (n + planIds l)))
-    where
-      go : (q : SidePlan) (n : ℕ) → length (planNew q n) ≡ planIds q
-      go kept n = refl
-      go (in-place l) n = refl
-      go (fresh l) n = refl
-
   -- as many boundaries as rows that stay, and new ones
   done-count : length (done .boundaries) ≡ word 0 (keptRows 5 (λ n. not (has n gone)) (t .boundaries)) + (planIds pl + planIds pr)
   unfolding view boundaryOf keptRows
@@ -260,7 +194,7 @@ module _ {tol : Tolerance} {counter : ℕ} {t : Tables} {one two i j : ℕ} {p :
       let new = newOnes next (view t) a pl pr in
       let u : length rest ≡ length (keptOnes 5 (λ n. not (has n gone)) (t .boundaries)) =
       ap length (kept-records 5 (λ n. not (has n gone)) (t .boundaries) (λ x. x .id) (boundaryOf c) (λ w. refl)) ∙ length-map (keptOnes 5 (λ n. not (has n gone)) (t .boundaries)) (boundaryOf c) in
-      let v : length new ≡ planIds pl + planIds pr = sym (length-map new (λ x. x .id)) ∙ (ap length (ids-made (view t) next a pl pr left-planned right-planned) ∙ both-count pl pr next) in
+      let v : length new ≡ planIds pl + planIds pr = P.new-count planning in
       sym (ap length boundaries-done)
       ∙ (length-append (map (joinedBoundary pl pr a) rest) new ∙ (ap (λ z. z + length new) (length-map rest (joinedBoundary pl pr a) ∙ u) ∙ ap (λ z. length (keptOnes 5 (λ n. not (has n gone)) (t .boundaries)) + z) v))
 

@@ -74,7 +74,7 @@ without-shorter x (y ∷ ys) h = go (eqb x y) h (without-shorter x ys)
     go false t r = omega (arith, r t)
 
 -- a number put in its place
-place-longer : (x : ℕ) (ys : List ℕ) → ascending ys ≡ true → (length ys ≤ length (place x ys)) × (length (place x ys) ≤ length ys + 1)
+pub place-longer : (x : ℕ) (ys : List ℕ) → ascending ys ≡ true → (length ys ≤ length (place x ys)) × (length (place x ys) ≤ length ys + 1)
 place-longer x ys up = go (has x ys) refl
   where
     go : (b : Bool) → has x ys ≡ b → (length ys ≤ length (place x ys)) × (length (place x ys) ≤ length ys + 1)

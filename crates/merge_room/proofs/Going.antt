@@ -19,10 +19,14 @@ use Rattle.lists.proofs.Same.{ascending-same}
 use Rattle.lists.proofs.Select.{has-keep, has-place, ascending-keep, ascending-place}
 use Rattle.tables.specs.View.{word}
 use Rattle.lookup.specs.Lookup.{rowAt, rowUses, sortedTable, placeOf, usedOutside}
-use Rattle.lookup.proofs.Laws.{sorted-ascends}
+use Rattle.lookup.proofs.Laws.{sorted-ascends, sorted-row}
 use Rattle.merge_plan.specs.declared.Joined.{Joined}
 use Rattle.merge_plan.proofs.Laws.{id-read}
-use Rattle.merge_room.specs.Leaving.{held, idle, there, goes, withGone, goneOf}
+use Rattle.merge_room.specs.Leaving.{Leaving, held, idle, there, goes, withGone, goneOf}
+
+-- the rows of both lanes lie within the table
+pub both-rows : {lanes : List ℕ} {i j : ℕ} {boundaries : List ℕ} → Leaving lanes i j boundaries → (1 + i * 52 + 52 ≤ length lanes) × (1 + j * 52 + 52 ≤ length lanes)
+both-rows {lanes} {i} {j} h = (sorted-row 1024 52 lanes (h .lanes-sorted) i (h .first), sorted-row 1024 52 lanes (h .lanes-sorted) j (h .second))
 
 -- ---- a boundary that goes, as it is asked
 
@@ -89,7 +93,7 @@ pub gathered-none : (w : List ℕ) → Gathered w w 0 0 []
 unfolding ascending
 gathered-none w = record { up = refl; count = refl; few = omega arith; list = sym (over-nil w 0) }
 
-module _ (w v : List ℕ) (most n : ℕ) (ids : List ℕ) (h : Gathered w v most n ids) (room : most < length w) where
+module _ {w v : List ℕ} {most n : ℕ} {ids : List ℕ} (h : Gathered w v most n ids) (room : most < length w) where
   fits : 0 + length ids ≤ length w
   fits = omega (arith, h .count, h .few)
 
@@ -113,8 +117,8 @@ module _ (w v : List ℕ) (most n : ℕ) (ids : List ℕ) (h : Gathered w v most
       joined : (z : List ℕ) → drop (0 + length new) z ≡ drop (0 + length new) w → over z 0 new ≡ over w 0 new
       joined z d = unfold over in rw d
 
-  pub gathered-more : (g : Bool) (x r : ℕ) (u : List ℕ) → (r ≡ length (withGone g x (take n v))) × (u ≡ over v 0 (withGone g x (take n v))) → Gathered w u (most + 1) r (withGone g x ids)
-  gathered-more g x r u (p, q) =
+  pub gathered-more : (g : Bool) (x : ℕ) {r : ℕ} {u : List ℕ} → (r ≡ length (withGone g x (take n v))) × (u ≡ over v 0 (withGone g x (take n v))) → Gathered w u (most + 1) r (withGone g x ids)
+  gathered-more g x {r} {u} (p, q) =
       let new = withGone g x ids in
       let l = with-long g x ids (h .up) in
       let c : r ≡ length new = p ∙ ap (λ z. length (withGone g x z)) front in
@@ -171,5 +175,5 @@ module _ (lanes : List ℕ) (i j : ℕ) (l r : Joined) (boundaries : List ℕ) w
         swap false true t = refl
         swap false false t = refl
 
-    pub gathered-gone : (w v : List ℕ) (n : ℕ) → Gathered w v 4 n (four a b c d) → (n ≡ length (goneOf lanes i j l r boundaries)) × (v ≡ over w 0 (goneOf lanes i j l r boundaries))
-    gathered-gone w v n h = let e = four-gone (h .up) in (h .count ∙ ap length e, h .list ∙ ap (over w 0) e)
+    pub gathered-gone : {w v : List ℕ} {n : ℕ} → Gathered w v 4 n (four a b c d) → (n ≡ length (goneOf lanes i j l r boundaries)) × (v ≡ over w 0 (goneOf lanes i j l r boundaries))
+    gathered-gone {w} h = let e = four-gone (h .up) in (h .count ∙ ap length e, h .list ∙ ap (over w 0) e)

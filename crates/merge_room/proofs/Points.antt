@@ -1,4 +1,4 @@
--- How many points a row counts at most: a joined line has at most 512, any other at most 256. Assumes nothing.
+-- How much a row or a side counts at most: a joined line has at most 512 points, any other at most 256. Assumes nothing.
 use mathlib.Core.Path.{_≡_}
 use mathlib.Core.Bool.{Bool, true, false, not, cond, _||_}
 use mathlib.Core.List.{List}
@@ -11,9 +11,11 @@ use Rattle.tables.specs.View.{word, mark}
 use Rattle.lookup.specs.Lookup.{rowAt, allShort}
 use Rattle.lookup.specs.declared.OptionCount.{OptionCount}
 use Rattle.lookup.proofs.Laws.{row-passes}
-use Rattle.merge_plan.specs.Sides.{sidePoints, centerPoints}
+use Rattle.merge_plan.specs.declared.Joined.{Joined}
+use Rattle.merge_plan.specs.declared.Joined.the-variants.{Kept, InPlace, Fresh}
+use Rattle.merge_plan.specs.Sides.{sidePoints, sideIds, centerPoints}
 use Rattle.merge_room.specs.declared.Sides.{Sides}
-use Rattle.merge_room.specs.Leaving.{joins, rowPoints, centerAfter, centersShort}
+use Rattle.merge_room.specs.Leaving.{joins, rowPoints, newPoints, centerAfter, centersShort}
 
 pub boundary-few : (gone : List ℕ) (s : Sides) (t : List ℕ) → allShort 5 2 t ≡ true → sidePoints (s .left) ≤ 512 → sidePoints (s .right) ≤ 512 → (i : ℕ) → i < word 0 t
     → rowPoints gone s (rowAt 5 t i) ≤ 512
@@ -41,3 +43,14 @@ center-few first second center t h m i k =
     go n false true c g = m
     go n false false true g = omega (arith, leb-true n 256 g)
     go n false false false g = omega arith
+
+-- what a side adds
+pub new-few : (p : Joined) → newPoints p ≤ sidePoints p
+new-few Kept = omega arith
+new-few (InPlace n) = omega arith
+new-few (Fresh n) = omega arith
+
+pub ids-few : (p : Joined) → sideIds p ≤ 1
+ids-few Kept = omega arith
+ids-few (InPlace n) = omega arith
+ids-few (Fresh n) = omega arith

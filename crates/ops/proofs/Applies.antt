@@ -7,7 +7,7 @@ use Rattle.rules.specs.Ops as O
 use Rattle.tables.specs.Formed.{soundTables}
 use Rattle.report.specs.Report.{counterBehind}
 use Rattle.report.specs.declared.Answer.{Answer}
-use Rattle.step.specs.Step.{Lent, ended, step, refusing}
+use Rattle.step.specs.Step.{Lent, Ended, ended, step, refusing}
 use Rattle.step.proofs.Steps.{step-unsound}
 use Rattle.step.proofs.Counter.{withCounter, counter-told}
 use Rattle.ops.specs.Applying.{InCode, applying}
@@ -30,3 +30,8 @@ module _ (tol : Tolerance) (l : Lent) where
       → ended (withCounter (counterBehind (l .counter) a) after) a ≡ applying tol c l
   unfolding applying
   made c d after a f i e = rw (f, i) (counter-told tol d l after a e)
+
+  -- the same of an edit that tells the counter itself
+  pub made-as : (c d : O.Command) (x : Ended) → c ≡ d → InCode d ≡ true → x ≡ step tol d l → x ≡ applying tol c l
+  unfolding applying
+  made-as c d x f i e = rw (f, i) e

@@ -8,13 +8,14 @@ use native.Mathlib.Omega.{arith}
 use lib.Dec.{leb}
 use lib.ListN.{length, getD, drop, drop-of-length-le}
 use lib.Seq.{drop-cons, drop-drop}
-use borrow.Author.Tests.{leb-true}
+use borrow.Author.Tests.{leb-true, le-leb}
 use Rattle.lists.proofs.Rows.{length-reads, getD-reads}
 use Rattle.rules.specs.Sound.{total}
 use Rattle.tables.specs.View.{word, rows}
+use Rattle.tables.specs.Formed.{counted}
 use Rattle.row_tests.proofs.Tables.{rowOf}
-use Rattle.lookup.specs.Lookup.{rowAt, allShort}
-use Rattle.lookup.proofs.Laws.{next-in, row-passes}
+use Rattle.lookup.specs.Lookup.{rowAt, sortedTable, allShort}
+use Rattle.lookup.proofs.Laws.{sorted-few, sorted-room, next-in, row-passes}
 
 -- the rows before number i count `points`
 pub record Summed (s : ℕ) (g : List ℕ → ℕ) (t : List ℕ) (most i points : ℕ) : Type 0 where
@@ -59,3 +60,11 @@ module _ (s k : ℕ) (t : List ℕ) (i : ℕ) where
   size-few h m l =
       let g : word (suc k) (rowAt s t i) ≤ 256 = leb-true (word (suc k) (rowAt s t i)) 256 (row-passes s (λ w. leb (word (suc k) w) 256) t h i l) in
       omega (arith, next-in s t i k m)
+
+-- a table in id order is one whose lines can be counted
+pub columns-counted : (limit s : ℕ) (t : List ℕ) → limit ≤ 4096 → sortedTable limit s t ≡ true → counted 4096 s t ≡ true
+columns-counted limit s t l h =
+    let r = sorted-room limit s t h in
+    let a : 1 ≤ length t = omega arith in
+    let b : word 0 t ≤ 4096 = omega (arith, sorted-few limit s t h) in
+    rw (le-leb 1 (length t) a, le-leb (word 0 t) 4096 b, le-leb (1 + word 0 t * s) (length t) r)

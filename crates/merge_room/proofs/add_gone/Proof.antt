@@ -1,32 +1,24 @@
+-- `merge_room::add_gone` meets its contract. Assumes nothing.
 use borrow.Author.Needs.{needs}
 use Rattle.merge_room.proofs.add_gone.Statement.{statement}
 use Rattle.merge_room.proofs.add_gone.Tie as tie
-use Rattle.merge_room.proofs.add_gone.Reads as reads
-use Rattle.merge_room.proofs.add_gone.Lts as lts
-use Rattle.merge_room.proofs.goes.Reads as goes-reads
-use Rattle.report.proofs.named.Reads as named-reads
 use Rattle.merge_room.specs.Leaving.{goes}
 use Rattle.merge_room.proofs.Going.{gone-added, gone-kept}
 
--- src/lib.rt:106:8
 goes-requires : tie.Need-goes-requires
 goes-requires c κs = search needs
 
--- src/lib.rt:107:9
 named-requires : tie.Need-named-requires
 named-requires c κs = search needs
 
--- src/lib.rt:107:9
 same-length : tie.Need-same-length
 same-length c = search needs
 
--- src/lib.rt:107:9
 returns : tie.Need-returns
 returns c =
     let a = c .before .before .before .before .before .before .before .before .before .args in
     gone-added (a .out .now) (a .n) (a .id) (c .before .before .before .before .before .before .before .before .before .pre .1 .0) (c .before .before .before .before .before .goes .result) (goes (a .lanes .now) (a .i) (a .j) (a .left) (a .right) (a .boundaries .now) (a .id)) (c .before .before .before .before .before .goes .ensures) (c .before .before .before .before .if1 .taken) (c .before .before .named .last .0) (c .before .before .named .result) (c .before .before .named .ensures)
 
--- src/lib.rt:92:1
 returns-2 : tie.Need-returns-2
 returns-2 c =
     let a = c .before .before .before .before .before .args in

@@ -1,8 +1,6 @@
+-- `merge_room::boundary_points` meets its contract. The invariant: what is counted are the points of the rows before i. The measure is how many rows are left. Assumes nothing.
 use Rattle.merge_room.proofs.boundary_points.Statement.{statement}
 use Rattle.merge_room.proofs.boundary_points.Tie as tie
-use Rattle.merge_room.proofs.boundary_points.Reads as reads
-use Rattle.merge_room.proofs.boundary_points.Lts as lts
-use Rattle.merge_room.proofs.row_points.Reads as row-points-reads
 use mathlib.Core.Path.{_≡_, ap, _∙_}
 use Prim.Native.Nat.{_+_, _-_, _*_, _≤_, _<_}
 use native.Mathlib.Omega.{arith}
@@ -38,70 +36,55 @@ few c =
     let s = c .before .before .before .before .before .before .before in
     omega (arith, counted c, boundary-few (s .args .gone .now) (s .args .sides) (s .args .boundaries .now) (s .pre .1 .0) (s .pre .1 .1 .0) (s .pre .1 .1 .1) (c .before .before .before .loop .i) (c .before .before .loop-test .taken))
 
--- src/lib.rt:183:13
 shared-slice-read-n : tie.Need-shared-slice-read-n Inv-loop μ-loop
 shared-slice-read-n c = omega (arith, sorted-room 4096 5 (c .before .before .before .args .boundaries .now) (c .before .before .before .pre .0))
 
--- src/lib.rt:186:5
 loop-holds : tie.Need-loop-holds Inv-loop μ-loop
 loop-holds c =
     let a = c .before .before .before .args in
     sum-starts 5 (rowPoints (a .gone .now) (a .sides)) (a .boundaries .now) 512
 
--- src/lib.rt:187:22
 mul-at : tie.Need-mul-at Inv-loop μ-loop
 mul-at c = omega (arith, row (c))
 
--- src/lib.rt:187:18
 add-at : tie.Need-add-at Inv-loop μ-loop
 add-at c = omega (arith, row (c))
 
--- src/lib.rt:188:19
 add-end : tie.Need-add-end Inv-loop μ-loop
 add-end c = omega (arith, row (c))
 
--- src/lib.rt:189:30
 mul-row-points : tie.Need-mul-row-points Inv-loop μ-loop
 mul-row-points c = omega (arith, row (c))
 
--- src/lib.rt:189:30
 sub-row-points : tie.Need-sub-row-points Inv-loop μ-loop
 sub-row-points c = omega (arith, row (c))
 
--- src/lib.rt:189:30
 part-row-points-start : tie.Need-part-row-points-start Inv-loop μ-loop
 part-row-points-start c = omega (arith, row (c))
 
--- src/lib.rt:189:30
 part-row-points-end : tie.Need-part-row-points-end Inv-loop μ-loop
 part-row-points-end c = omega (arith, row (c))
 
--- src/lib.rt:189:19
 row-points-requires : tie.Need-row-points-requires Inv-loop μ-loop
 row-points-requires c κs =
     let s = c .before .before .before .before .before .before in
     row-length 4096 5 (s .args .boundaries .now) (sorted-counted 4096 5 (s .args .boundaries .now) (s .pre .0)) (c .before .before .loop .i) (c .before .loop-test .taken)
 
--- src/lib.rt:189:9
 add-points : tie.Need-add-points Inv-loop μ-loop
 add-points c = omega (arith, few (c), passed (c .before .before), c .before .before .before .loop .inv .few)
 
--- src/lib.rt:190:9
 add-i : tie.Need-add-i Inv-loop μ-loop
 add-i c = omega (arith, passed (c .before .before))
 
--- src/lib.rt:186:5
 loop-less : tie.Need-loop-less Inv-loop μ-loop
 loop-less c = omega (arith, c .before .before .loop-test .taken)
 
--- src/lib.rt:186:5
 loop-again : tie.Need-loop-again Inv-loop μ-loop
 loop-again c =
     let a = c .before .before .before .before .before .before .before .args in
     let l = c .before .before .before .loop in
     sum-turns 5 (rowPoints (a .gone .now) (a .sides)) (a .boundaries .now) 512 (l .i) (l .points) (l .inv) (c .row-points .result) (c .before .before .loop-test .taken) (counted (c)) (few (c))
 
--- src/lib.rt:179:1
 returns : tie.Need-returns Inv-loop μ-loop
 unfolding boundaryPoints
 returns c =

@@ -1,71 +1,54 @@
+-- `merge_room::fits` meets its contract. Assumes nothing.
 use borrow.Author.Needs.{needs}
 use Rattle.merge_room.proofs.fits.Statement.{statement}
 use Rattle.merge_room.proofs.fits.Tie as tie
-use Rattle.merge_room.proofs.fits.Reads as reads
-use Rattle.merge_room.proofs.fits.Lts as lts
-use Rattle.lists.proofs.both.Reads as both-reads
-use Rattle.merge_plan.proofs.side_ids.Reads as side-ids-reads
-use Rattle.merge_room.proofs.lines_fit.Reads as lines-fit-reads
-use Rattle.merge_room.proofs.points_after.Reads as points-after-reads
-use Rattle.merge_room.proofs.sides_of.Reads as sides-of-reads
-use Rattle.room.proofs.points_fit.Reads as points-fit-reads
-use Rattle.room.proofs.rows_fit.Reads as rows-fit-reads
+use native.Mathlib.Omega.{arith}
+use Rattle.lookup.proofs.Laws.{sorted-few, sorted-room}
+use Rattle.merge_room.specs.Leaving.{fitsAfter}
+use Rattle.merge_room.proofs.Points.{ids-few}
 
--- src/lib.rt:312:9
 sides-of-requires : tie.Need-sides-of-requires
 sides-of-requires c κs = search needs
 
--- src/lib.rt:313:16
 shared-slice-read-rows : tie.Need-shared-slice-read-rows
-shared-slice-read-rows c = ?
+shared-slice-read-rows c = omega (arith, sorted-room 4096 5 (c .before .before .before .before .before .before .before .before .args .boundaries .now) (c .before .before .before .before .before .before .before .before .pre .counting .leaving .boundaries-sorted))
 
--- src/lib.rt:313:16
 sub-rows : tie.Need-sub-rows
 sub-rows c = search needs
 
--- src/lib.rt:313:55
 side-ids-requires : tie.Need-side-ids-requires
 side-ids-requires c κs = search needs
 
--- src/lib.rt:313:72
 side-ids-requires-2 : tie.Need-side-ids-requires-2
 side-ids-requires-2 c κs = search needs
 
--- src/lib.rt:313:55
 add-rows : tie.Need-add-rows
-add-rows c = ?
+add-rows c = omega (arith, c .before .side-ids .ensures, c .side-ids2 .ensures, ids-few (c .before .before .before .before .before .before .before .before .before .before .args .plan .left), ids-few (c .before .before .before .before .before .before .before .before .before .before .args .plan .right))
 
--- src/lib.rt:313:16
 add-rows-2 : tie.Need-add-rows-2
-add-rows-2 c = ?
+add-rows-2 c = omega (arith, c .before .side-ids .ensures, c .side-ids2 .ensures, ids-few (c .before .before .before .before .before .before .before .before .before .before .args .plan .left), ids-few (c .before .before .before .before .before .before .before .before .before .before .args .plan .right), sorted-few 4096 5 (c .before .before .before .before .before .before .before .before .before .before .args .boundaries .now) (c .before .before .before .before .before .before .before .before .before .before .pre .counting .leaving .boundaries-sorted))
 
--- src/lib.rt:314:9
 points-after-requires : tie.Need-points-after-requires
-points-after-requires c κs = ?
+points-after-requires c κs = rw (c .before .before .before .sides-of .ensures) (c .before .before .before .before .before .before .before .before .before .before .pre .counting)
 
--- src/lib.rt:327:13
 rows-fit-requires : tie.Need-rows-fit-requires
-rows-fit-requires c κs = ?
+rows-fit-requires c κs = (omega arith, omega (arith, sorted-room 4096 5 (c .before .before .before .before .before .before .before .before .before .before .before .args .boundaries .now) (c .before .before .before .before .before .before .before .before .before .before .before .pre .counting .leaving .boundaries-sorted)))
 
--- src/lib.rt:328:13
 lines-fit-requires : tie.Need-lines-fit-requires
 lines-fit-requires c κs = search needs
 
--- src/lib.rt:326:9
 both-requires : tie.Need-both-requires
 both-requires c κs = search needs
 
--- src/lib.rt:330:9
 points-fit-requires : tie.Need-points-fit-requires
 points-fit-requires c κs = search needs
 
--- src/lib.rt:325:5
 both-requires-2 : tie.Need-both-requires-2
 both-requires-2 c κs = search needs
 
--- src/lib.rt:295:1
 returns : tie.Need-returns
-returns c = ?
+unfolding fitsAfter
+returns c = rw (c .both2 .ensures, c .before .before .both .ensures, c .before .before .before .before .rows-fit .ensures, c .before .before .before .lines-fit .ensures, c .before .points-fit .ensures, c .before .before .before .before .before .points-after .ensures, c .before .before .before .before .before .before .before .before .before .sides-of .ensures, c .before .before .before .before .before .before .before .side-ids .ensures, c .before .before .before .before .before .before .side-ids2 .ensures)
 
 pub fits-spec : {M : Type 1} → statement M
 fits-spec =

@@ -1,8 +1,6 @@
+-- `merge_room::lane_points` meets its contract. The invariant: what is counted are the points of the rows before i. The measure is how many rows are left. Assumes nothing.
 use Rattle.merge_room.proofs.lane_points.Statement.{statement}
 use Rattle.merge_room.proofs.lane_points.Tie as tie
-use Rattle.merge_room.proofs.lane_points.Reads as reads
-use Rattle.merge_room.proofs.lane_points.Lts as lts
-use Rattle.merge_room.proofs.center_after.Reads as center-after-reads
 use mathlib.Core.Path.{_≡_, ap, _∙_}
 use Prim.Native.Nat.{_+_, _-_, _*_, _≤_, _<_}
 use native.Mathlib.Omega.{arith}
@@ -38,70 +36,55 @@ few c =
     let s = c .before .before .before .before .before .before in
     omega (arith, counted c, center-few (s .args .first) (s .args .second) (s .args .center) (s .args .lanes .now) (s .pre .1 .0) (s .pre .1 .1) (c .before .before .before .loop .i) (c .before .before .loop-test .taken))
 
--- src/lib.rt:218:13
 shared-slice-read-n : tie.Need-shared-slice-read-n Inv-loop μ-loop
 shared-slice-read-n c = omega (arith, sorted-room 1024 52 (c .before .before .args .lanes .now) (c .before .before .pre .0))
 
--- src/lib.rt:221:5
 loop-holds : tie.Need-loop-holds Inv-loop μ-loop
 loop-holds c =
     let a = c .before .before .args in
     sum-starts 52 (centerAfter (a .first) (a .second) (a .center)) (a .lanes .now) 512
 
--- src/lib.rt:222:22
 mul-at : tie.Need-mul-at Inv-loop μ-loop
 mul-at c = omega (arith, row (c))
 
--- src/lib.rt:222:18
 add-at : tie.Need-add-at Inv-loop μ-loop
 add-at c = omega (arith, row (c))
 
--- src/lib.rt:223:19
 add-end : tie.Need-add-end Inv-loop μ-loop
 add-end c = omega (arith, row (c))
 
--- src/lib.rt:224:32
 mul-center-after : tie.Need-mul-center-after Inv-loop μ-loop
 mul-center-after c = omega (arith, row (c))
 
--- src/lib.rt:224:32
 sub-center-after : tie.Need-sub-center-after Inv-loop μ-loop
 sub-center-after c = omega (arith, row (c))
 
--- src/lib.rt:224:32
 part-center-after-start : tie.Need-part-center-after-start Inv-loop μ-loop
 part-center-after-start c = omega (arith, row (c))
 
--- src/lib.rt:224:32
 part-center-after-end : tie.Need-part-center-after-end Inv-loop μ-loop
 part-center-after-end c = omega (arith, row (c))
 
--- src/lib.rt:224:19
 center-after-requires : tie.Need-center-after-requires Inv-loop μ-loop
 center-after-requires c κs =
     let s = c .before .before .before .before .before in
     row-length 1024 52 (s .args .lanes .now) (sorted-counted 1024 52 (s .args .lanes .now) (s .pre .0)) (c .before .before .loop .i) (c .before .loop-test .taken)
 
--- src/lib.rt:224:9
 add-points : tie.Need-add-points Inv-loop μ-loop
 add-points c = omega (arith, few (c), passed (c .before .before), c .before .before .before .loop .inv .few)
 
--- src/lib.rt:225:9
 add-i : tie.Need-add-i Inv-loop μ-loop
 add-i c = omega (arith, passed (c .before .before))
 
--- src/lib.rt:221:5
 loop-less : tie.Need-loop-less Inv-loop μ-loop
 loop-less c = omega (arith, c .before .before .loop-test .taken)
 
--- src/lib.rt:221:5
 loop-again : tie.Need-loop-again Inv-loop μ-loop
 loop-again c =
     let a = c .before .before .before .before .before .before .args in
     let l = c .before .before .before .loop in
     sum-turns 52 (centerAfter (a .first) (a .second) (a .center)) (a .lanes .now) 512 (l .i) (l .points) (l .inv) (c .center-after .result) (c .before .before .loop-test .taken) (counted (c)) (few (c))
 
--- src/lib.rt:214:1
 returns : tie.Need-returns Inv-loop μ-loop
 unfolding lanePoints
 returns c =

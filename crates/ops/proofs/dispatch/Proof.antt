@@ -7,290 +7,337 @@ use Rattle.edit.proofs.connect.Reads as connect-reads
 use Rattle.edit.proofs.disconnect.Reads as disconnect-reads
 use Rattle.edit.proofs.set_neighbor.Reads as set-neighbor-reads
 use Rattle.edit_lane.proofs.remove_lane.Reads as remove-lane-reads
-use Rattle.step.specs.Step.{Lent, lentOf}
+use Rattle.edit_merge.proofs.merge_lanes.Reads as merge-lanes-reads
+use Rattle.step.specs.Step.{lentOf}
 use Rattle.rules.specs.Ops as O
-use Rattle.ops.proofs.Applies.{not-yet, made}
+use Rattle.ops.proofs.Applies.{not-yet, made, made-as}
 use mathlib.Core.Path.{_≡_, refl, sym, ap, _∙_}
 use Rattle.ops.specs.Applying.{InCode}
-
--- what is lent
-abbrev lent : tie.Start → Lent
-lent s =
-    lentOf (s .args .counter) (s .args .lanes .now) (s .args .boundaries .now) (s .args .roads .now) (s .args .junctions .now) (s .args .rules .now) (s .args .stop-lines .now)
-    (s .args .crosswalks .now) (s .args .coordinates .now) (s .args .created .now) (s .args .modified .now) (s .args .deleted .now) (s .args .warnings .now)
 
 -- src/lib.rt:39:30
 enum-told : tie.Need-enum-told
 enum-told c = search needs
 
--- src/lib.rt:43:30
-enum-told-2 : tie.Need-enum-told-2
-enum-told-2 c = search needs
-
--- src/lib.rt:44:33
+-- src/lib.rt:40:31
 enum-known-command : tie.Need-enum-known-command
 enum-known-command c = search needs
 
--- src/lib.rt:44:47
-connect-requires : tie.Need-connect-requires
-connect-requires c κs = search needs
+-- src/lib.rt:40:50
+merge-lanes-requires : tie.Need-merge-lanes-requires
+merge-lanes-requires c κs = search needs
 
--- src/lib.rt:62:36
+-- src/lib.rt:58:33
 enum-known-command-2 : tie.Need-enum-known-command-2
 enum-known-command-2 c = search needs
 
--- src/lib.rt:62:50
-disconnect-requires : tie.Need-disconnect-requires
-disconnect-requires c κs = search needs
+-- src/lib.rt:58:47
+connect-requires : tie.Need-connect-requires
+connect-requires c κs = search needs
 
--- src/lib.rt:81:13
+-- src/lib.rt:76:36
 enum-known-command-3 : tie.Need-enum-known-command-3
 enum-known-command-3 c = search needs
 
--- src/lib.rt:84:14
-set-neighbor-requires : tie.Need-set-neighbor-requires
-set-neighbor-requires c κs = search needs
+-- src/lib.rt:76:50
+disconnect-requires : tie.Need-disconnect-requires
+disconnect-requires c κs = search needs
 
--- src/lib.rt:103:31
+-- src/lib.rt:95:13
 enum-known-command-4 : tie.Need-enum-known-command-4
 enum-known-command-4 c = search needs
 
--- src/lib.rt:103:41
+-- src/lib.rt:98:14
+set-neighbor-requires : tie.Need-set-neighbor-requires
+set-neighbor-requires c κs = search needs
+
+-- src/lib.rt:117:31
+enum-known-command-5 : tie.Need-enum-known-command-5
+enum-known-command-5 c = search needs
+
+-- src/lib.rt:117:41
 remove-lane-requires : tie.Need-remove-lane-requires
 remove-lane-requires c κs = search needs
 
 -- src/lib.rt:14:1
 returns : tie.Need-returns
-returns c = let s = c .before .before .before .before .before .before .before .before .before .before .before .before .before .before in not-yet (s .args .tolerance) (lent s) (s .args .command) (ap InCode (c .enum-told .given .1)) (s .pre)
-
--- src/lib.rt:14:1
-returns-2 : tie.Need-returns-2
-returns-2 c = let s = c .before .before .before .before .before .before .before .before .before .before .before .before .before .before in not-yet (s .args .tolerance) (lent s) (s .args .command) (ap InCode (c .enum-told2 .given .1)) (s .pre)
+returns c = let s = c .before .before .before .before .before .before .before .before .before .before .before .before .before .before in not-yet (s .args .tolerance) (lentOf (s .args .counter) (s .args .lanes .now) (s .args .boundaries .now) (s .args .roads .now) (s .args .junctions .now) (s .args .rules .now) (s .args .stop-lines .now) (s .args .crosswalks .now) (s .args .coordinates .now) (s .args .created .now) (s .args .modified .now) (s .args .deleted .now) (s .args .warnings .now)) (s .args .command) (ap InCode (c .enum-told .given .1)) (s .pre)
 
 -- src/lib.rt:14:1
 same-length : tie.Need-same-length
-same-length c = search needs
+same-length c = c .before .before .before .before .before .before .before .before .before .before .before .before .before .before .before .before .before .before .before .before .before .before .before .before .merge-lanes .kept .1 .1 .0
 
 -- src/lib.rt:14:1
 same-length-2 : tie.Need-same-length-2
-same-length-2 c = search needs
+same-length-2 c = c .before .before .before .before .before .before .before .before .before .before .before .before .before .before .before .before .before .before .before .before .before .before .before .before .merge-lanes .kept .1 .1 .1 .0
 
 -- src/lib.rt:14:1
 same-length-3 : tie.Need-same-length-3
-same-length-3 c = search needs
+same-length-3 c = c .before .before .before .before .before .before .before .before .before .before .before .before .before .before .before .before .before .before .before .before .before .before .before .before .merge-lanes .kept .1 .1 .1 .1 .0
 
 -- src/lib.rt:14:1
 same-length-4 : tie.Need-same-length-4
-same-length-4 c = search needs
+same-length-4 c = c .before .before .before .before .before .before .before .before .before .before .before .before .before .before .before .before .before .before .before .before .before .before .before .before .merge-lanes .kept .1 .1 .1 .1 .1 .0
 
 -- src/lib.rt:14:1
 same-length-5 : tie.Need-same-length-5
-same-length-5 c = search needs
+same-length-5 c = c .before .before .before .before .before .before .before .before .before .before .before .before .before .before .before .before .before .before .before .before .before .before .before .before .merge-lanes .kept .1 .1 .1 .1 .1 .1 .0
 
 -- src/lib.rt:14:1
 same-length-6 : tie.Need-same-length-6
-same-length-6 c = search needs
+same-length-6 c = c .before .before .before .before .before .before .before .before .before .before .before .before .before .before .before .before .before .before .before .before .before .before .before .before .merge-lanes .kept .1 .1 .1 .1 .1 .1 .1 .0
 
 -- src/lib.rt:14:1
 same-length-7 : tie.Need-same-length-7
-same-length-7 c = search needs
+same-length-7 c = c .before .before .before .before .before .before .before .before .before .before .before .before .before .before .before .before .before .before .before .before .before .before .before .before .merge-lanes .kept .1 .1 .1 .1 .1 .1 .1 .1 .0
 
 -- src/lib.rt:14:1
 same-length-8 : tie.Need-same-length-8
-same-length-8 c = search needs
+same-length-8 c = c .before .before .before .before .before .before .before .before .before .before .before .before .before .before .before .before .before .before .before .before .before .before .before .before .merge-lanes .kept .1 .1 .1 .1 .1 .1 .1 .1 .1 .0
 
 -- src/lib.rt:14:1
 same-length-9 : tie.Need-same-length-9
-same-length-9 c = search needs
+same-length-9 c = c .before .before .before .before .before .before .before .before .before .before .before .before .before .before .before .before .before .before .before .before .before .before .before .before .merge-lanes .kept .1 .1 .1 .1 .1 .1 .1 .1 .1 .1 .1 .1 .0
 
 -- src/lib.rt:14:1
 same-length-10 : tie.Need-same-length-10
-same-length-10 c = search needs
+same-length-10 c = c .before .before .before .before .before .before .before .before .before .before .before .before .before .before .before .before .before .before .before .before .before .before .before .before .merge-lanes .kept .1 .1 .1 .1 .1 .1 .1 .1 .1 .1 .1 .1 .1 .0
 
 -- src/lib.rt:14:1
 same-length-11 : tie.Need-same-length-11
-same-length-11 c = search needs
+same-length-11 c = c .before .before .before .before .before .before .before .before .before .before .before .before .before .before .before .before .before .before .before .before .before .before .before .before .merge-lanes .kept .1 .1 .1 .1 .1 .1 .1 .1 .1 .1 .1 .1 .1 .1 .0
 
 -- src/lib.rt:14:1
 same-length-12 : tie.Need-same-length-12
-same-length-12 c = search needs
+same-length-12 c = c .before .before .before .before .before .before .before .before .before .before .before .before .before .before .before .before .before .before .before .before .before .before .before .before .merge-lanes .kept .1 .1 .1 .1 .1 .1 .1 .1 .1 .1 .1 .1 .1 .1 .1 .0
 
 -- src/lib.rt:14:1
-returns-3 : tie.Need-returns-3
-returns-3 c = let s = c .before .before .before .before .before .before .before .before .before .before .before .before .before .before .before .before .before .before .before .before .before .before .before .before .before .before .before .before .before .before .before .before .before .before in made (s .args .tolerance) (lent s) (s .args .command) _ _ (c .before .before .before .before .before .before .connect .result) (c .before .before .before .before .before .before .before .before .before .before .before .before .before .before .before .before .before .before .before .before .command .given .1) refl (c .before .before .before .before .before .before .connect .ensures)
+returns-2 : tie.Need-returns-2
+returns-2 c = let s = c .before .before .before .before .before .before .before .before .before .before .before .before .before .before .before .before .before .before .before .before .before .before .before .before .before .before .before .before .before .before .before .before .before .before .before .before .before .before .before .before .before .before .before .before .before .before .before .before .before .before .before .before in made-as (s .args .tolerance) (lentOf (s .args .counter) (s .args .lanes .now) (s .args .boundaries .now) (s .args .roads .now) (s .args .junctions .now) (s .args .rules .now) (s .args .stop-lines .now) (s .args .crosswalks .now) (s .args .coordinates .now) (s .args .created .now) (s .args .modified .now) (s .args .deleted .now) (s .args .warnings .now)) (s .args .command) _ _ (c .before .before .before .before .before .before .before .before .before .before .before .before .before .before .before .before .before .before .before .before .before .before .before .before .before .before .before .before .before .before .before .before .before .before .before .before .before .before .command .given .1) refl (c .before .before .before .before .before .before .before .before .before .before .before .before .before .before .before .before .before .before .before .before .before .before .before .before .merge-lanes .ensures)
 
 -- src/lib.rt:14:1
 same-length-13 : tie.Need-same-length-13
-same-length-13 c = search needs
+same-length-13 c = c .before .before .before .before .before .before .connect .kept .1 .1 .0
 
 -- src/lib.rt:14:1
 same-length-14 : tie.Need-same-length-14
-same-length-14 c = search needs
+same-length-14 c = refl
 
 -- src/lib.rt:14:1
 same-length-15 : tie.Need-same-length-15
-same-length-15 c = search needs
+same-length-15 c = refl
 
 -- src/lib.rt:14:1
 same-length-16 : tie.Need-same-length-16
-same-length-16 c = search needs
+same-length-16 c = refl
 
 -- src/lib.rt:14:1
 same-length-17 : tie.Need-same-length-17
-same-length-17 c = search needs
+same-length-17 c = refl
 
 -- src/lib.rt:14:1
 same-length-18 : tie.Need-same-length-18
-same-length-18 c = search needs
+same-length-18 c = refl
 
 -- src/lib.rt:14:1
 same-length-19 : tie.Need-same-length-19
-same-length-19 c = search needs
+same-length-19 c = refl
 
 -- src/lib.rt:14:1
 same-length-20 : tie.Need-same-length-20
-same-length-20 c = search needs
+same-length-20 c = refl
 
 -- src/lib.rt:14:1
 same-length-21 : tie.Need-same-length-21
-same-length-21 c = search needs
+same-length-21 c = refl
 
 -- src/lib.rt:14:1
 same-length-22 : tie.Need-same-length-22
-same-length-22 c = search needs
+same-length-22 c = c .before .before .before .before .before .before .connect .kept .1 .1 .1 .1 .1 .1 .1 .1 .1 .1 .1 .1 .1 .0
 
 -- src/lib.rt:14:1
 same-length-23 : tie.Need-same-length-23
-same-length-23 c = search needs
+same-length-23 c = refl
 
 -- src/lib.rt:14:1
 same-length-24 : tie.Need-same-length-24
-same-length-24 c = search needs
+same-length-24 c = c .before .before .before .before .before .before .connect .kept .1 .1 .1 .1 .1 .1 .1 .1 .1 .1 .1 .1 .1 .1 .1 .0
 
 -- src/lib.rt:14:1
-returns-4 : tie.Need-returns-4
-returns-4 c = let s = c .before .before .before .before .before .before .before .before .before .before .before .before .before .before .before .before .before .before .before .before .before .before .before .before .before .before .before .before .before .before .before .before .before .before in made (s .args .tolerance) (lent s) (s .args .command) _ _ (c .before .before .before .before .before .before .disconnect .result) (c .before .before .before .before .before .before .before .before .before .before .before .before .before .before .before .before .before .before .before .before .command2 .given .1) refl (c .before .before .before .before .before .before .disconnect .ensures)
+returns-3 : tie.Need-returns-3
+returns-3 c = let s = c .before .before .before .before .before .before .before .before .before .before .before .before .before .before .before .before .before .before .before .before .before .before .before .before .before .before .before .before .before .before .before .before .before .before in made (s .args .tolerance) (lentOf (s .args .counter) (s .args .lanes .now) (s .args .boundaries .now) (s .args .roads .now) (s .args .junctions .now) (s .args .rules .now) (s .args .stop-lines .now) (s .args .crosswalks .now) (s .args .coordinates .now) (s .args .created .now) (s .args .modified .now) (s .args .deleted .now) (s .args .warnings .now)) (s .args .command) _ _ (c .before .before .before .before .before .before .connect .result) (c .before .before .before .before .before .before .before .before .before .before .before .before .before .before .before .before .before .before .before .before .command2 .given .1) refl (c .before .before .before .before .before .before .connect .ensures)
 
 -- src/lib.rt:14:1
 same-length-25 : tie.Need-same-length-25
-same-length-25 c = search needs
+same-length-25 c = c .before .before .before .before .before .before .disconnect .kept .1 .1 .0
 
 -- src/lib.rt:14:1
 same-length-26 : tie.Need-same-length-26
-same-length-26 c = search needs
+same-length-26 c = refl
 
 -- src/lib.rt:14:1
 same-length-27 : tie.Need-same-length-27
-same-length-27 c = search needs
+same-length-27 c = refl
 
 -- src/lib.rt:14:1
 same-length-28 : tie.Need-same-length-28
-same-length-28 c = search needs
+same-length-28 c = refl
 
 -- src/lib.rt:14:1
 same-length-29 : tie.Need-same-length-29
-same-length-29 c = search needs
+same-length-29 c = refl
 
 -- src/lib.rt:14:1
 same-length-30 : tie.Need-same-length-30
-same-length-30 c = search needs
+same-length-30 c = refl
 
 -- src/lib.rt:14:1
 same-length-31 : tie.Need-same-length-31
-same-length-31 c = search needs
+same-length-31 c = refl
 
 -- src/lib.rt:14:1
 same-length-32 : tie.Need-same-length-32
-same-length-32 c = search needs
+same-length-32 c = refl
 
 -- src/lib.rt:14:1
 same-length-33 : tie.Need-same-length-33
-same-length-33 c = search needs
+same-length-33 c = refl
 
 -- src/lib.rt:14:1
 same-length-34 : tie.Need-same-length-34
-same-length-34 c = search needs
+same-length-34 c = c .before .before .before .before .before .before .disconnect .kept .1 .1 .1 .1 .1 .1 .1 .1 .1 .1 .1 .1 .1 .0
 
 -- src/lib.rt:14:1
 same-length-35 : tie.Need-same-length-35
-same-length-35 c = search needs
+same-length-35 c = refl
 
 -- src/lib.rt:14:1
 same-length-36 : tie.Need-same-length-36
-same-length-36 c = search needs
+same-length-36 c = c .before .before .before .before .before .before .disconnect .kept .1 .1 .1 .1 .1 .1 .1 .1 .1 .1 .1 .1 .1 .1 .1 .0
 
 -- src/lib.rt:14:1
-returns-5 : tie.Need-returns-5
-returns-5 c = let s = c .before .before .before .before .before .before .before .before .before .before .before .before .before .before .before .before .before .before .before .before .before .before .before .before .before .before .before .before .before .before .before .before .before .before in made (s .args .tolerance) (lent s) (s .args .command) _ _ (c .before .before .before .before .before .before .set-neighbor .result) (c .before .before .before .before .before .before .before .before .before .before .before .before .before .before .before .before .before .before .before .before .command3 .given .1) refl (c .before .before .before .before .before .before .set-neighbor .ensures)
+returns-4 : tie.Need-returns-4
+returns-4 c = let s = c .before .before .before .before .before .before .before .before .before .before .before .before .before .before .before .before .before .before .before .before .before .before .before .before .before .before .before .before .before .before .before .before .before .before in made (s .args .tolerance) (lentOf (s .args .counter) (s .args .lanes .now) (s .args .boundaries .now) (s .args .roads .now) (s .args .junctions .now) (s .args .rules .now) (s .args .stop-lines .now) (s .args .crosswalks .now) (s .args .coordinates .now) (s .args .created .now) (s .args .modified .now) (s .args .deleted .now) (s .args .warnings .now)) (s .args .command) _ _ (c .before .before .before .before .before .before .disconnect .result) (c .before .before .before .before .before .before .before .before .before .before .before .before .before .before .before .before .before .before .before .before .command3 .given .1) refl (c .before .before .before .before .before .before .disconnect .ensures)
 
 -- src/lib.rt:14:1
 same-length-37 : tie.Need-same-length-37
-same-length-37 c = search needs
+same-length-37 c = c .before .before .before .before .before .before .set-neighbor .kept .1 .1 .0
 
 -- src/lib.rt:14:1
 same-length-38 : tie.Need-same-length-38
-same-length-38 c = search needs
+same-length-38 c = refl
 
 -- src/lib.rt:14:1
 same-length-39 : tie.Need-same-length-39
-same-length-39 c = search needs
+same-length-39 c = refl
 
 -- src/lib.rt:14:1
 same-length-40 : tie.Need-same-length-40
-same-length-40 c = search needs
+same-length-40 c = refl
 
 -- src/lib.rt:14:1
 same-length-41 : tie.Need-same-length-41
-same-length-41 c = search needs
+same-length-41 c = refl
 
 -- src/lib.rt:14:1
 same-length-42 : tie.Need-same-length-42
-same-length-42 c = search needs
+same-length-42 c = refl
 
 -- src/lib.rt:14:1
 same-length-43 : tie.Need-same-length-43
-same-length-43 c = search needs
+same-length-43 c = refl
 
 -- src/lib.rt:14:1
 same-length-44 : tie.Need-same-length-44
-same-length-44 c = search needs
+same-length-44 c = refl
 
 -- src/lib.rt:14:1
 same-length-45 : tie.Need-same-length-45
-same-length-45 c = search needs
+same-length-45 c = refl
 
 -- src/lib.rt:14:1
 same-length-46 : tie.Need-same-length-46
-same-length-46 c = search needs
+same-length-46 c = c .before .before .before .before .before .before .set-neighbor .kept .1 .1 .1 .1 .1 .1 .1 .1 .1 .1 .1 .1 .1 .1 .0
 
 -- src/lib.rt:14:1
 same-length-47 : tie.Need-same-length-47
-same-length-47 c = search needs
+same-length-47 c = refl
 
 -- src/lib.rt:14:1
 same-length-48 : tie.Need-same-length-48
-same-length-48 c = search needs
+same-length-48 c = c .before .before .before .before .before .before .set-neighbor .kept .1 .1 .1 .1 .1 .1 .1 .1 .1 .1 .1 .1 .1 .1 .1 .1 .0
+
+-- src/lib.rt:14:1
+returns-5 : tie.Need-returns-5
+returns-5 c = let s = c .before .before .before .before .before .before .before .before .before .before .before .before .before .before .before .before .before .before .before .before .before .before .before .before .before .before .before .before .before .before .before .before .before .before in made (s .args .tolerance) (lentOf (s .args .counter) (s .args .lanes .now) (s .args .boundaries .now) (s .args .roads .now) (s .args .junctions .now) (s .args .rules .now) (s .args .stop-lines .now) (s .args .crosswalks .now) (s .args .coordinates .now) (s .args .created .now) (s .args .modified .now) (s .args .deleted .now) (s .args .warnings .now)) (s .args .command) _ _ (c .before .before .before .before .before .before .set-neighbor .result) (c .before .before .before .before .before .before .before .before .before .before .before .before .before .before .before .before .before .before .before .before .command4 .given .1) refl (c .before .before .before .before .before .before .set-neighbor .ensures)
+
+-- src/lib.rt:14:1
+same-length-49 : tie.Need-same-length-49
+same-length-49 c = c .before .before .before .before .before .before .before .before .before .before .before .before .before .before .before .before .remove-lane .kept .1 .1 .0
+
+-- src/lib.rt:14:1
+same-length-50 : tie.Need-same-length-50
+same-length-50 c = c .before .before .before .before .before .before .before .before .before .before .before .before .before .before .before .before .remove-lane .kept .1 .1 .1 .0
+
+-- src/lib.rt:14:1
+same-length-51 : tie.Need-same-length-51
+same-length-51 c = c .before .before .before .before .before .before .before .before .before .before .before .before .before .before .before .before .remove-lane .kept .1 .1 .1 .1 .0
+
+-- src/lib.rt:14:1
+same-length-52 : tie.Need-same-length-52
+same-length-52 c = c .before .before .before .before .before .before .before .before .before .before .before .before .before .before .before .before .remove-lane .kept .1 .1 .1 .1 .1 .0
+
+-- src/lib.rt:14:1
+same-length-53 : tie.Need-same-length-53
+same-length-53 c = c .before .before .before .before .before .before .before .before .before .before .before .before .before .before .before .before .remove-lane .kept .1 .1 .1 .1 .1 .1 .0
+
+-- src/lib.rt:14:1
+same-length-54 : tie.Need-same-length-54
+same-length-54 c = refl
+
+-- src/lib.rt:14:1
+same-length-55 : tie.Need-same-length-55
+same-length-55 c = refl
+
+-- src/lib.rt:14:1
+same-length-56 : tie.Need-same-length-56
+same-length-56 c = refl
+
+-- src/lib.rt:14:1
+same-length-57 : tie.Need-same-length-57
+same-length-57 c = refl
+
+-- src/lib.rt:14:1
+same-length-58 : tie.Need-same-length-58
+same-length-58 c = c .before .before .before .before .before .before .before .before .before .before .before .before .before .before .before .before .remove-lane .kept .1 .1 .1 .1 .1 .1 .1 .1 .1 .1 .1 .1 .0
+
+-- src/lib.rt:14:1
+same-length-59 : tie.Need-same-length-59
+same-length-59 c = c .before .before .before .before .before .before .before .before .before .before .before .before .before .before .before .before .remove-lane .kept .1 .1 .1 .1 .1 .1 .1 .1 .1 .1 .1 .1 .1 .0
+
+-- src/lib.rt:14:1
+same-length-60 : tie.Need-same-length-60
+same-length-60 c = c .before .before .before .before .before .before .before .before .before .before .before .before .before .before .before .before .remove-lane .kept .1 .1 .1 .1 .1 .1 .1 .1 .1 .1 .1 .1 .1 .1 .0
 
 -- src/lib.rt:14:1
 returns-6 : tie.Need-returns-6
-returns-6 c = let s = c .before .before .before .before .before .before .before .before .before .before .before .before .before .before .before .before .before .before .before .before .before .before .before .before .before .before .before .before .before .before .before .before .before .before .before .before .before .before .before .before .before .before .before .before in made (s .args .tolerance) (lent s) (s .args .command) _ _ (c .before .before .before .before .before .before .before .before .before .before .before .before .before .before .before .before .remove-lane .result) (c .before .before .before .before .before .before .before .before .before .before .before .before .before .before .before .before .before .before .before .before .before .before .before .before .before .before .before .before .before .before .command4 .given .1) refl (c .before .before .before .before .before .before .before .before .before .before .before .before .before .before .before .before .remove-lane .ensures)
+returns-6 c = let s = c .before .before .before .before .before .before .before .before .before .before .before .before .before .before .before .before .before .before .before .before .before .before .before .before .before .before .before .before .before .before .before .before .before .before .before .before .before .before .before .before .before .before .before .before in made (s .args .tolerance) (lentOf (s .args .counter) (s .args .lanes .now) (s .args .boundaries .now) (s .args .roads .now) (s .args .junctions .now) (s .args .rules .now) (s .args .stop-lines .now) (s .args .crosswalks .now) (s .args .coordinates .now) (s .args .created .now) (s .args .modified .now) (s .args .deleted .now) (s .args .warnings .now)) (s .args .command) _ _ (c .before .before .before .before .before .before .before .before .before .before .before .before .before .before .before .before .remove-lane .result) (c .before .before .before .before .before .before .before .before .before .before .before .before .before .before .before .before .before .before .before .before .before .before .before .before .before .before .before .before .before .before .command5 .given .1) refl (c .before .before .before .before .before .before .before .before .before .before .before .before .before .before .before .before .remove-lane .ensures)
 
 pub dispatch-spec : {M : Type 1} → statement M
 dispatch-spec =
     tie.close
     (tie.spec
     enum-told
-    enum-told-2
     enum-known-command
-    connect-requires
+    merge-lanes-requires
     enum-known-command-2
-    disconnect-requires
+    connect-requires
     enum-known-command-3
-    set-neighbor-requires
+    disconnect-requires
     enum-known-command-4
+    set-neighbor-requires
+    enum-known-command-5
     remove-lane-requires
     returns
-    returns-2
     same-length
     same-length-2
     same-length-3
@@ -303,7 +350,7 @@ dispatch-spec =
     same-length-10
     same-length-11
     same-length-12
-    returns-3
+    returns-2
     same-length-13
     same-length-14
     same-length-15
@@ -316,7 +363,7 @@ dispatch-spec =
     same-length-22
     same-length-23
     same-length-24
-    returns-4
+    returns-3
     same-length-25
     same-length-26
     same-length-27
@@ -329,7 +376,7 @@ dispatch-spec =
     same-length-34
     same-length-35
     same-length-36
-    returns-5
+    returns-4
     same-length-37
     same-length-38
     same-length-39
@@ -342,4 +389,17 @@ dispatch-spec =
     same-length-46
     same-length-47
     same-length-48
+    returns-5
+    same-length-49
+    same-length-50
+    same-length-51
+    same-length-52
+    same-length-53
+    same-length-54
+    same-length-55
+    same-length-56
+    same-length-57
+    same-length-58
+    same-length-59
+    same-length-60
     returns-6)

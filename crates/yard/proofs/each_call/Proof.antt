@@ -11,12 +11,12 @@ use lib.ListN.{length}
 use native.Mathlib.Omega.{arith}
 
 abbrev Inv-loop : tie.InvT-loop
-Inv-loop lanes₀ boundaries₀ roads₀ junctions₀ rules₀ stop-lines₀ crosswalks₀ coordinates₀ created₀ modified₀ deleted₀ warnings₀ i₀ lanes boundaries roads junctions rules stop-lines crosswalks coordinates created modified deleted warnings i =
-    (i ≤ 17) × ((length lanes ≡ length lanes₀) × ((length boundaries ≡ length boundaries₀) × ((length roads ≡ length roads₀) × ((length junctions ≡ length junctions₀) × ((length rules ≡ length rules₀) × ((length stop-lines ≡ length stop-lines₀) × ((length crosswalks ≡ length crosswalks₀) × ((length coordinates ≡ length coordinates₀) × ((length created ≡ length created₀) × ((length modified ≡ length modified₀) × ((length deleted ≡ length deleted₀) × ((length warnings ≡ length warnings₀)))))))))))))
+Inv-loop map n lanes₀ boundaries₀ roads₀ junctions₀ rules₀ stop-lines₀ crosswalks₀ coordinates₀ created₀ modified₀ deleted₀ warnings₀ i₀ lanes boundaries roads junctions rules stop-lines crosswalks coordinates created modified deleted warnings i =
+    (i ≤ n) × ((length lanes ≡ length lanes₀) × ((length boundaries ≡ length boundaries₀) × ((length roads ≡ length roads₀) × ((length junctions ≡ length junctions₀) × ((length rules ≡ length rules₀) × ((length stop-lines ≡ length stop-lines₀) × ((length crosswalks ≡ length crosswalks₀) × ((length coordinates ≡ length coordinates₀) × ((length created ≡ length created₀) × ((length modified ≡ length modified₀) × ((length deleted ≡ length deleted₀) × ((length warnings ≡ length warnings₀)))))))))))))
 
 abbrev μ-loop : tie.MeasureT-loop
-μ-loop lanes₀ boundaries₀ roads₀ junctions₀ rules₀ stop-lines₀ crosswalks₀ coordinates₀ created₀ modified₀ deleted₀ warnings₀ i₀ lanes boundaries roads junctions rules stop-lines crosswalks coordinates created modified deleted warnings i =
-    17 - i
+μ-loop map n lanes₀ boundaries₀ roads₀ junctions₀ rules₀ stop-lines₀ crosswalks₀ coordinates₀ created₀ modified₀ deleted₀ warnings₀ i₀ lanes boundaries roads junctions rules stop-lines crosswalks coordinates created modified deleted warnings i =
+    n - i
 
 -- src/main.rt:164:5
 loop-holds : tie.Need-loop-holds Inv-loop μ-loop
@@ -32,7 +32,7 @@ make-requires c κs = search needs
 
 -- src/main.rt:180:9
 add-i : tie.Need-add-i Inv-loop μ-loop
-add-i c = omega (arith, c .before .before .before .before .before .before .before .before .before .before .before .before .before .before .before .before .before .before .before .before .before .before .before .before .before .before .before .before .before .before .before .before .before .before .before .before .before .before .loop-test .taken)
+add-i c = omega (arith, c .before .before .before .before .before .before .before .before .before .before .before .before .before .before .before .before .before .before .before .before .before .before .before .before .before .before .before .before .before .before .before .before .before .before .before .before .before .before .loop-test .taken, c .before .before .before .before .before .before .before .before .before .before .before .before .before .before .before .before .before .before .before .before .before .before .before .before .before .before .before .before .before .before .before .before .before .before .before .before .before .before .before .before .before .before .before .before .before .before .before .before .before .before .before .before .good .1 .0 .1)
 
 -- src/main.rt:164:5
 loop-less : tie.Need-loop-less Inv-loop μ-loop

@@ -6,8 +6,8 @@ use Rattle.yard.proofs.make.Lts as lts
 use Rattle.entities.proofs.Tolerance.preset.Reads as preset-reads
 use Rattle.ops.proofs.apply.Reads as apply-reads
 use Rattle.words.proofs.command_of.Reads as command-of-reads
-use Rattle.yard.proofs.output.answer.Reads as answer-reads
-use Rattle.yard.proofs.output.least.Reads as least-reads
+use Rattle.yard.proofs.answer.Reads as answer-reads
+use Rattle.yard.proofs.least.Reads as least-reads
 use native.Mathlib.Omega.{arith}
 use lib.ListN.{length-take}
 

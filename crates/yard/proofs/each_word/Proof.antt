@@ -1,8 +1,8 @@
--- `yard::output::words` ends: the measure is how many words are left. Assumes nothing.
+-- `yard::each_word` ends: the measure is how many words are left. Assumes nothing.
 use borrow.Author.Needs.{needs}
 use Prim.Native.Nat.{_≤_, _-_}
-use Rattle.yard.proofs.output.words.Statement.{statement}
-use Rattle.yard.proofs.output.words.Tie as tie
+use Rattle.yard.proofs.each_word.Statement.{statement}
+use Rattle.yard.proofs.each_word.Tie as tie
 
 abbrev Inv-loop : tie.InvT-loop
 Inv-loop list from to i₀ i = from ≤ i
@@ -31,8 +31,8 @@ loop-again c = search needs
 returns : tie.Need-returns Inv-loop μ-loop
 returns c = search needs
 
-pub words-spec : {M : Type 1} → statement M
-words-spec =
+pub each-word-spec : {M : Type 1} → statement M
+each-word-spec =
     tie.close
     (tie.spec
     Inv-loop

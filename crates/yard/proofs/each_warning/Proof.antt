@@ -1,9 +1,9 @@
--- `yard::output::each_warning` stays within the list and ends: the measure is how many warnings are left. Assumes nothing.
+-- `yard::each_warning` stays within the list and ends: the measure is how many warnings are left. Assumes nothing.
 use borrow.Author.Needs.{needs}
 use Prim.Native.Nat.{_*_, _≤_, _-_}
 use lib.ListN.{length}
-use Rattle.yard.proofs.output.each_warning.Statement.{statement}
-use Rattle.yard.proofs.output.each_warning.Tie as tie
+use Rattle.yard.proofs.each_warning.Statement.{statement}
+use Rattle.yard.proofs.each_warning.Tie as tie
 
 abbrev Inv-loop : tie.InvT-loop
 Inv-loop list n rows i₀ i = (i ≤ rows) × (rows * 10 ≤ length list)

@@ -1,0 +1,5 @@
+pub mod Leaves
+pub mod Lines
+pub mod Marked
+pub mod Marks
+pub mod Turns
