@@ -109,7 +109,7 @@ fn place_in(
     ensures { λ r. ⌜ (r ≡ P.placed piece (now (coordinates .entry)) (now (lanes .entry)) (now (boundaries .entry)) i at) × (now (line .exit) ≡ P.lineOver (now (line .entry)) (K.centerLine (now (coordinates .entry)) (now (lanes .entry)) (now (boundaries .entry)) i)) ⌝ }
 {
     let lane = lanes[1 + i * LANE];
-    let found = lookup::centerline(lanes, i, boundaries, coordinates, line);
+    let found = lane_lines::centerline(lanes, i, boundaries, coordinates, line);
     let OptionCount::Some(n) = found else {
         return Placed::Refused(Refusal::NoUsableLine(lane));
     };
@@ -137,7 +137,7 @@ pub fn place_cut(
 fn station_on(piece: f64, own: u64, lane: u64, line: &[f64], cut: Cut) -> Stationed
     ensures { λ r. ⌜ r ≡ P.stationTold (P.stationing piece own lane cut (some (points (now (line .entry))))) ⌝ }
 {
-    let found = polyline::nearest_point(line, cut.point);
+    let found = nearest::nearest_point(line, cut.point);
     let OptionNearest::Some(near) = found else {
         return Stationed::Refused(Refusal::NoUsableLine(lane));
     };
@@ -166,7 +166,7 @@ fn station_in(
     ensures { λ r. ⌜ (r ≡ P.stationTold (P.rowStation piece (now (coordinates .entry)) (now (boundaries .entry)) own cut (K.rowAt 52 (now (lanes .entry)) j))) × (now (line .exit) ≡ P.lineOver (now (line .entry)) (K.centerLine (now (coordinates .entry)) (now (lanes .entry)) (now (boundaries .entry)) j)) ⌝ }
 {
     let lane = lanes[1 + j * LANE];
-    let found = lookup::centerline(lanes, j, boundaries, coordinates, line);
+    let found = lane_lines::centerline(lanes, j, boundaries, coordinates, line);
     let OptionCount::Some(n) = found else {
         return Stationed::Refused(Refusal::NoUsableLine(lane));
     };
@@ -262,7 +262,7 @@ fn crosses(boundaries: &[u64], id: u64, coordinates: &[f64], point: Point2) -> C
         return Crossed::Refused(Refusal::BoundaryAbsent(id));
     };
     let line = lookup::boundary_line(boundaries, x, coordinates);
-    let near = polyline::nearest_point(line, point);
+    let near = nearest::nearest_point(line, point);
     let OptionNearest::Some(nearest) = near else {
         return Crossed::Refused(Refusal::NotCrossing(id));
     };

@@ -4,8 +4,8 @@ use Rattle.edit_merge.proofs.write.Tie as tie
 use Rattle.edit_merge.proofs.write.Reads as reads
 use Rattle.edit_merge.proofs.write.Lts as lts
 use Rattle.edit_merge.proofs.write_named.Reads as write-named-reads
-use Rattle.layout.proofs.lines_reach.Reads as lines-reach-reads
-use Rattle.merge_redraw.proofs.relay.Reads as relay-reads
+use Rattle.reach.proofs.lines_reach.Reads as lines-reach-reads
+use Rattle.relay.proofs.relay.Reads as relay-reads
 use native.Mathlib.Omega.{arith}
 use Rattle.step.specs.Step.{tablesOf, lentOf}
 use Rattle.lookup.proofs.Laws.{sorted-row}

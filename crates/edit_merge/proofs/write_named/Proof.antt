@@ -3,8 +3,8 @@ use Rattle.edit_merge.proofs.write_named.Statement.{statement}
 use Rattle.edit_merge.proofs.write_named.Tie as tie
 use Rattle.edit_merge.proofs.write_named.Reads as reads
 use Rattle.edit_merge.proofs.write_named.Lts as lts
-use Rattle.mentions.proofs.forget.Reads as forget-reads
-use Rattle.mentions.proofs.replace.Reads as replace-reads
+use Rattle.forgets.proofs.forget.Reads as forget-reads
+use Rattle.replaces.proofs.replace.Reads as replace-reads
 use Rattle.edit_merge.proofs.Parts.{three-tables}
 
 -- src/lib.rt:90:5
