@@ -1,11 +1,11 @@
 -- The boundaries that a split cuts, and the ids of their pieces, by rows. Nothing that a host calls rests on this page; the laws of split_laws tie it to the rules.
 use mathlib.Core.Path.{_≡_}
 use Prim.Native.Nat.{ℕ, suc, _+_, _≤_}
-use mathlib.Core.Bool.{Bool, true, false, not, cond}
+use mathlib.Core.Bool.{Bool, true, not, cond}
 use mathlib.Core.List.{List, [], _∷_, map}
 use lib.ListN.{length, set, drop}
 use Rattle.lists.specs.Rows.{keys}
-use Rattle.lists.specs.Select.{keep, any, each}
+use Rattle.lists.specs.Select.{any, each}
 use Rattle.lists.specs.declared.Found.{Found}
 use Rattle.lists.specs.declared.Found.the-variants.{At, Nothing}
 use Rattle.rules.specs.Names.{Side}
