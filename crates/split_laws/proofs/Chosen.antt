@@ -26,7 +26,7 @@ use Rattle.split_plan.specs.Placing.{picked, groupMarks, markedRows}
 
 -- ---- marks that are a test's
 
-picked-told : {A : Type 0} (p : A → Bool) (xs : List A) (rest : List Bool) → picked (map p xs ++ rest) xs ≡ keep p xs
+pub picked-told : {A : Type 0} (p : A → Bool) (xs : List A) (rest : List Bool) → picked (map p xs ++ rest) xs ≡ keep p xs
 unfolding picked keep
 picked-told p [] [] = refl
 picked-told p [] (b ∷ rest) = refl
@@ -36,7 +36,7 @@ ids-rows : (t : List ℕ) → idsOf t ≡ map (word 0) (rows 52 (λ w. w) t)
 unfolding keys rows
 ids-rows t = sym (mapped-reads 52 (λ (w : List ℕ). w) (word 0) (word 0 t) (drop 1 t))
 
-lanes-rows : (t : Tables) → view t .lanes ≡ map (laneOf (t .coordinates)) (rows 52 (λ w. w) (t .lanes))
+pub lanes-rows : (t : Tables) → view t .lanes ≡ map (laneOf (t .coordinates)) (rows 52 (λ w. w) (t .lanes))
 unfolding view rows
 lanes-rows t = sym (mapped-reads 52 (λ (w : List ℕ). w) (laneOf (t .coordinates)) (word 0 (t .lanes)) (drop 1 (t .lanes)))
 
@@ -84,8 +84,8 @@ module _ (t : Tables) (own i : ℕ) (ei : placeOf 52 (t .lanes) own ≡ At i) (n
     abbrev inGroup : List ℕ → Bool
     inGroup w = has (word 0 w) (groupOf (view t) own neighbors)
 
-    told : groupMarks (t .lanes) i neighbors ≡ map inGroup (rows 52 (λ w. w) (t .lanes))
-    told =
+    pub marks-told : groupMarks (t .lanes) i neighbors ≡ map inGroup (rows 52 (λ w. w) (t .lanes))
+    marks-told =
         ap (λ g. map (λ k. has k g) (idsOf (t .lanes))) group-is
         ∙ ap (map (λ k. has k (groupOf (view t) own neighbors))) (ids-rows (t .lanes))
         ∙ map-twice (word 0) (λ k. has k (groupOf (view t) own neighbors)) (rows 52 (λ w. w) (t .lanes))
@@ -93,7 +93,7 @@ module _ (t : Tables) (own i : ℕ) (ei : placeOf 52 (t .lanes) own ≡ At i) (n
     rows-kept : markedRows seen (t .lanes) ≡ keep inGroup (rows 52 (λ w. w) (t .lanes))
     unfolding over
     rows-kept =
-        ap (λ s. picked s (rows 52 (λ (w : List ℕ). w) (t .lanes))) (es ∙ ap (over seen₀ 0) told)
+        ap (λ s. picked s (rows 52 (λ (w : List ℕ). w) (t .lanes))) (es ∙ ap (over seen₀ 0) marks-told)
         ∙ picked-told inGroup (rows 52 (λ w. w) (t .lanes)) (drop (0 + length (map inGroup (rows 52 (λ (w : List ℕ). w) (t .lanes)))) seen₀)
 
     -- "the group is the lane, or with neighbours everything reached through neighbour slots, ascending"

@@ -1,3 +1,4 @@
 pub mod Chosen
 pub mod ByRows
 pub mod Whole
+pub mod Pieces

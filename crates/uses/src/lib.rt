@@ -17,7 +17,7 @@ fn either(a: bool, b: bool) -> bool
 }
 
 // Whether the lane in row i names a boundary on either side.
-fn row_uses(lanes: &[u64], i: usize, boundary: u64) -> bool
+pub fn row_uses(lanes: &[u64], i: usize, boundary: u64) -> bool
     requires { ⌜ (K.sortedTable 1024 52 (now lanes) ≡ true) × (i < word 0 (now lanes)) ⌝ }
     ensures { λ r. ⌜ r ≡ K.rowUses boundary (K.rowAt 52 (now (lanes .entry)) i) ⌝ }
 {
