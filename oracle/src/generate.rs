@@ -1208,13 +1208,15 @@ pub fn furnish(m: &mut Map, roads: usize, junctions: usize, rules: usize) {
 
 /// Maps at the limits of document 01.
 fn large(rng: &mut Rng, which: usize, edits: &[usize]) -> Case {
-    let mut m = match which % 4 {
+    let mut m = match which % 5 {
         // 1,020 lanes: a split of a group of ten passes 1,024.
         0 => grid(102, 10, 4),
         // 65,536 points in all: any split passes the limit.
         1 => grid(64, 3, 256),
+        // As many in lines of 128: so does a merge that makes a boundary.
+        2 => grid(128, 3, 128),
         // 4,096 boundaries, most of them of no lane and empty.
-        2 => {
+        3 => {
             let mut m = grid(40, 5, 6);
             for i in m.boundary_count()..LIMIT[BOUNDARIES] - rng.below(3) {
                 let id = BoundaryId(100_000 + i as u64);
