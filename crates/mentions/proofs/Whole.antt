@@ -30,7 +30,7 @@ over-behind a v l n b e =
 
 -- the first i rows changed by g, where g keeps their length
 module _ (s : ℕ) (g : List ℕ → List ℕ) where
-  abbrev kept : ℕ → List ℕ → Type 0
+  abbrev pub kept : ℕ → List ℕ → Type 0
   kept i w = (j : ℕ) → j < i → length (g (take s (drop (j * s) w))) ≡ s
 
   kept-first : (i : ℕ) (w : List ℕ) → kept (suc i) w → length (g (take s w)) ≡ s
@@ -43,7 +43,7 @@ module _ (s : ℕ) (g : List ℕ → List ℕ) where
   kept-rest i w k j l = let m : suc j < suc i = omega arith in rw (next w j) (k (suc j) m)
 
   -- the rows that are not changed yet are where they were
-  rows-behind : (i : ℕ) (w : List ℕ) → kept i w → drop (i * s) (mapRows s g i w) ≡ drop (i * s) w
+  pub rows-behind : (i : ℕ) (w : List ℕ) → kept i w → drop (i * s) (mapRows s g i w) ≡ drop (i * s) w
   unfolding mapRows
   rows-behind zero w k = refl
   rows-behind (suc i) w k =
@@ -51,7 +51,7 @@ module _ (s : ℕ) (g : List ℕ → List ℕ) where
       sym (next x i)
       ∙ (ap (drop (i * s)) (drop-at (g (take s w)) (mapRows s g i (drop s w)) s (kept-first i w k)) ∙ (rows-behind i (drop s w) (kept-rest i w k) ∙ next w i))
 
-  rows-long : (i : ℕ) (w : List ℕ) → i * s ≤ length w → kept i w → length (mapRows s g i w) ≡ length w
+  pub rows-long : (i : ℕ) (w : List ℕ) → i * s ≤ length w → kept i w → length (mapRows s g i w) ≡ length w
   unfolding mapRows
   rows-long zero w h k = refl
   rows-long (suc i) w h k =
@@ -61,7 +61,7 @@ module _ (s : ℕ) (g : List ℕ → List ℕ) where
       rw length-append (omega arith)
 
   -- one more row put
-  rows-put : (i : ℕ) (w : List ℕ) → kept (i + 1) w → over (mapRows s g i w) (i * s) (g (take s (drop (i * s) w))) ≡ mapRows s g (i + 1) w
+  pub rows-put : (i : ℕ) (w : List ℕ) → kept (i + 1) w → over (mapRows s g i w) (i * s) (g (take s (drop (i * s) w))) ≡ mapRows s g (i + 1) w
   unfolding mapRows
   rows-put zero w k = let h = kept-first 0 w k in rw zero-mul (front-over s w (g (take s w)) h)
   rows-put (suc i) w k =

@@ -1,81 +1,22 @@
 -- The rows of a table changed one after the other by any g that keeps their length: one turn, and the end. Assumes nothing.
-use mathlib.Core.Path.{_≡_, refl, sym, ap, _∙_, subst}
-use Prim.Native.Nat.{ℕ, zero, suc, _+_, _-_, _*_, _≤_, _<_}
-use native.Mathlib.Nat.{zero-mul, mul-le-mul-right}
+use mathlib.Core.Path.{_≡_, sym, ap, _∙_}
+use Prim.Native.Nat.{ℕ, suc, _+_, _-_, _*_, _≤_, _<_}
+use native.Mathlib.Nat.{mul-le-mul-right}
 use native.Mathlib.Omega.{arith}
-use mathlib.Core.List.{List, [], _∷_, _++_}
-use lib.ListN.{length, take, drop, length-append, length-drop}
-use lib.Seq.{drop-drop, drop-at, take-at, drop-cons}
+use mathlib.Core.List.{List, _∷_}
+use lib.ListN.{length, take, drop, length-drop}
+use lib.Seq.{drop-drop, drop-cons}
 use borrow.Rule.Slice.PartMut.{putMid}
 use Rattle.lists.specs.Rows.{over}
-use Rattle.lists.proofs.Rows.{over-part, row-within}
+use Rattle.lists.proofs.Rows.{row-within}
 use Rattle.tables.specs.View.{word}
 use Rattle.row_tests.proofs.Tables.{rowOf}
 use Rattle.lookup.specs.Lookup.{rowAt}
 use Rattle.store.specs.Rows.{mapRows, onRows}
-use Rattle.store.proofs.Rows.{front-over}
 use Rattle.store.proofs.Turns.{over-table}
 use Rattle.store.proofs.Lists.{put-over}
-
-pub row-there : (s : ℕ) (t : List ℕ) (i : ℕ) → rowOf s t i ≡ rowAt s t i
-row-there s t i = let e : 1 + i * s + s - (1 + i * s) ≡ s = omega arith in ap (λ n. take n (drop (1 + i * s) t)) e
-
--- a list written behind a part of known length
-over-behind : (a v l : List ℕ) (n b : ℕ) → length a ≡ n → over (a ++ v) (n + b) l ≡ a ++ over v b l
-over-behind a v l n b e =
-    let h : n ≤ length (a ++ v) = rw length-append (omega arith) in
-    sym (over-part (a ++ v) n b l h) ∙ rw (take-at a v n e, drop-at a v n e)
-
--- ---- the first i rows changed by g, where g keeps their length
-
-module _ (s : ℕ) (g : List ℕ → List ℕ) where
-  abbrev kept : ℕ → List ℕ → Type 0
-  kept i w = (j : ℕ) → j < i → length (g (take s (drop (j * s) w))) ≡ s
-
-  kept-first : (i : ℕ) (w : List ℕ) → kept (suc i) w → length (g (take s w)) ≡ s
-  kept-first i w k = let z = k 0 (omega arith) in (rw zero-mul at z)
-
-  next : (w : List ℕ) (j : ℕ) → drop (j * s) (drop s w) ≡ drop (suc j * s) w
-  next w j = let e : s + j * s ≡ suc j * s = omega arith in drop-drop (j * s) s w ∙ rw e
-
-  kept-rest : (i : ℕ) (w : List ℕ) → kept (suc i) w → kept i (drop s w)
-  kept-rest i w k j l = let m : suc j < suc i = omega arith in rw (next w j) (k (suc j) m)
-
-  -- the rows that are not changed yet are where they were
-  rows-behind : (i : ℕ) (w : List ℕ) → kept i w → drop (i * s) (mapRows s g i w) ≡ drop (i * s) w
-  unfolding mapRows
-  rows-behind zero w k = refl
-  rows-behind (suc i) w k =
-      let x = g (take s w) ++ mapRows s g i (drop s w) in
-      sym (next x i)
-      ∙ (ap (drop (i * s)) (drop-at (g (take s w)) (mapRows s g i (drop s w)) s (kept-first i w k)) ∙ (rows-behind i (drop s w) (kept-rest i w k) ∙ next w i))
-
-  rows-long : (i : ℕ) (w : List ℕ) → i * s ≤ length w → kept i w → length (mapRows s g i w) ≡ length w
-  unfolding mapRows
-  rows-long zero w h k = refl
-  rows-long (suc i) w h k =
-      let a = kept-first i w k in
-      let d = length-drop s w in
-      let b = rows-long i (drop s w) (rw length-drop (omega arith)) (kept-rest i w k) in
-      rw length-append (omega arith)
-
-  -- one more row put
-  rows-put : (i : ℕ) (w : List ℕ) → kept (i + 1) w → over (mapRows s g i w) (i * s) (g (take s (drop (i * s) w))) ≡ mapRows s g (i + 1) w
-  unfolding mapRows
-  rows-put zero w k = let h = kept-first 0 w k in rw zero-mul (front-over s w (g (take s w)) h)
-  rows-put (suc i) w k =
-      let z : suc i + 1 ≡ suc (i + 1) = omega arith in
-      let e : suc i * s ≡ s + i * s = omega arith in
-      let n : kept (suc (i + 1)) w = subst (λ m. kept m w) z k in
-      let l = g (take s (drop (suc i * s) w)) in
-      let first = g (take s w) in
-      let q : g (take s (drop (i * s) (drop s w))) ≡ l = ap (λ x. g (take s x)) (next w i) in
-      ap (λ m. over (first ++ mapRows s g i (drop s w)) m l) e
-      ∙ (over-behind first (mapRows s g i (drop s w)) l s (i * s) (kept-first (i + 1) w n)
-      ∙ (ap (λ x. first ++ over (mapRows s g i (drop s w)) (i * s) x) (sym q)
-      ∙ (ap (λ x. first ++ x) (rows-put i (drop s w) (kept-rest (i + 1) w n)) ∙ ap (λ m. mapRows s g m w) (sym z))))
-
--- ---- the loop
+use Rattle.mentions.proofs.Turns.{row-there}
+use Rattle.mentions.proofs.Whole.{kept, rows-behind, rows-long, rows-put}
 
 -- the first i rows of the table t are changed
 pub record Changed (s : ℕ) (g : List ℕ → List ℕ) (t₀ t : List ℕ) (i : ℕ) : Type 0 where
