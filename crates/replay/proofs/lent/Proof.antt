@@ -1,10 +1,10 @@
 use borrow.Author.Needs.{needs}
 use native.Mathlib.Omega.{arith}
 use native.Mathlib.Nat.{lt-of-le-of-lt, mul-le-mul}
-use Rattle.replay.proofs.call.lent.Statement.{statement}
-use Rattle.replay.proofs.call.lent.Tie as tie
-use Rattle.replay.proofs.call.lent.Reads as reads
-use Rattle.replay.proofs.call.lent.Lts as lts
+use Rattle.replay.proofs.lent.Statement.{statement}
+use Rattle.replay.proofs.lent.Tie as tie
+use Rattle.replay.proofs.lent.Reads as reads
+use Rattle.replay.proofs.lent.Lts as lts
 use Rattle.stream.proofs.least.Reads as least-reads
 
 -- src/call.rt:24:21

@@ -1,10 +1,10 @@
--- `line_sample::stream::double` makes a float only of bits that are no NaN's. Assumes nothing.
+-- `line_sample::double` makes a float only of bits that are no NaN's. Assumes nothing.
 use mathlib.Core.Path.{sym, _∙_, subst}
 use mathlib.Core.Bool.{Bool, not}
 use lib.Dec.{T}
 use borrow.Author.Needs.{needs}
-use Rattle.line_sample.proofs.stream.double.Statement.{statement}
-use Rattle.line_sample.proofs.stream.double.Tie as tie
+use Rattle.line_sample.proofs.double.Statement.{statement}
+use Rattle.line_sample.proofs.double.Tie as tie
 
 is-nan-requires : tie.Need-is-nan-requires
 is-nan-requires c κs = search needs

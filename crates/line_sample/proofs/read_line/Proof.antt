@@ -1,11 +1,11 @@
--- `line_sample::stream::read_line` stays within the lent line and ends. The measure is what is left of the stored floats. Assumes nothing.
+-- `line_sample::read_line` stays within the lent line and ends. The measure is what is left of the stored floats. Assumes nothing.
 use mathlib.Core.Path.{_≡_}
 use Prim.Native.Nat.{_≤_, _<_, _-_, _^_}
 use lib.ListN.{length, length-set}
 use native.Mathlib.Omega.{arith}
 use borrow.Author.Needs.{needs}
-use Rattle.line_sample.proofs.stream.read_line.Statement.{statement}
-use Rattle.line_sample.proofs.stream.read_line.Tie as tie
+use Rattle.line_sample.proofs.read_line.Statement.{statement}
+use Rattle.line_sample.proofs.read_line.Tie as tie
 
 abbrev Inv-loop : tie.InvT-loop
 Inv-loop s from line₀ wanted at₀ i₀ line at i = (i ≤ length line) × ((i ≤ wanted) × ((wanted < 2 ^ 24) × (length line ≡ length line₀)))

@@ -1,8 +1,8 @@
--- `line_sample::stream::has_bits` reads the bits only of what is no NaN. Assumes nothing.
+-- `line_sample::has_bits` reads the bits only of what is no NaN. Assumes nothing.
 use borrow.Author.Needs.{needs}
 use Rattle.line_sample.proofs.Nan.{no-nan}
-use Rattle.line_sample.proofs.stream.has_bits.Statement.{statement}
-use Rattle.line_sample.proofs.stream.has_bits.Tie as tie
+use Rattle.line_sample.proofs.has_bits.Statement.{statement}
+use Rattle.line_sample.proofs.has_bits.Tie as tie
 
 float-to-bits-result : tie.Need-float-to-bits-result
 float-to-bits-result c = no-nan _ (c .if1 .taken)

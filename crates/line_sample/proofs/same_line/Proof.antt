@@ -1,8 +1,8 @@
--- `line_sample::stream::same_line` stays within the line and ends. The measure is what is left of the stored floats. Assumes nothing.
+-- `line_sample::same_line` stays within the line and ends. The measure is what is left of the stored floats. Assumes nothing.
 use Prim.Native.Nat.{_≤_, _<_, _-_, _^_}
 use borrow.Author.Needs.{needs}
-use Rattle.line_sample.proofs.stream.same_line.Statement.{statement}
-use Rattle.line_sample.proofs.stream.same_line.Tie as tie
+use Rattle.line_sample.proofs.same_line.Statement.{statement}
+use Rattle.line_sample.proofs.same_line.Tie as tie
 
 abbrev Inv-loop : tie.InvT-loop
 Inv-loop s out from n floats same₀ at₀ i₀ same at i = (i ≤ floats) × (floats < 2 ^ 24)

@@ -1,9 +1,9 @@
--- `line_sample::calls::split` has room for both pieces: each is a slice, whose points were counted. Assumes nothing.
+-- `line_sample::split` has room for both pieces: each is a slice, whose points were counted. Assumes nothing.
 use native.Mathlib.Omega.{arith}
 use Rattle.polyline.specs.Polyline.{firstPiece, secondPiece}
 use borrow.Author.Needs.{needs}
-use Rattle.line_sample.proofs.calls.split.Statement.{statement}
-use Rattle.line_sample.proofs.calls.split.Tie as tie
+use Rattle.line_sample.proofs.split.Statement.{statement}
+use Rattle.line_sample.proofs.split.Tie as tie
 
 float-requires : tie.Need-float-requires
 float-requires c κs = search needs
