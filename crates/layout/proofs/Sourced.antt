@@ -1,8 +1,8 @@
 -- A line that lies in a copy of the coordinates, among the drawn lines behind it, or partly in each. Assumes nothing.
-use mathlib.Core.Path.{_≡_, refl, sym, ap, _∙_}
+use mathlib.Core.Path.{_≡_, sym, ap, _∙_}
 use mathlib.Core.Logic.{⊎-elim}
 use mathlib.Core.Bool.{true}
-use mathlib.Core.List.{List, [], _++_}
+use mathlib.Core.List.{List, _++_}
 use Prim.Native.Nat.{ℕ, _+_, _-_, _*_, _/_, _≤_, _<_, min}
 use native.Mathlib.Nat.{eq-or-lt-of-le}
 use native.Mathlib.Omega.{arith}
@@ -10,12 +10,13 @@ use lib.ListN.{length, take, drop, length-append, length-drop}
 use lib.Seq.{length-take-le, take-take, take-add, drop-drop, drop-at, take-append-le, drop-append-le, drop-length}
 use lib.Ieee.{Float}
 use Rattle.lists.specs.Rows.{over}
-use Rattle.lists.proofs.Rows.{over-over, drop-take, take-over}
+use Rattle.lists.proofs.Rows.{over-over, drop-take}
 use Rattle.tables.specs.View.{Tables, part}
 use Rattle.tables.specs.Formed.{Span}
 use Rattle.apart.specs.Marks.{within}
 use Rattle.layout.specs.Layout.{sourced, gathered}
 use Rattle.layout.proofs.Laws.{line-room}
+use Rattle.layout.proofs.Standing.{begins-copied}
 
 module _ (reach : ℕ) (w d : List Float) (h : reach * 3 ≤ length w) where
   pub length-sourced : length (sourced reach w d) ≡ reach * 3 + length d
@@ -65,12 +66,8 @@ module _ (reach : ℕ) (w d : List Float) (h : reach * 3 ≤ length w) where
         q ∙ rw p (over-over c (at * 3) ((at + n) * 3) a (take ((size - n) * 3) (drop 0 d)) i (omega arith)) ∙ ap (over c (at * 3)) (sym (both-part start size n l m))
 
 -- what a copy of the coordinates has up to `reach` is what they have
-pub sourced-copy : (reach : ℕ) (c w v d : List Float) → reach * 3 ≤ length c → reach * 3 ≤ length w → v ≡ over w 0 (take (reach * 3) (drop 0 c)) → sourced reach v d ≡ sourced reach c d
-sourced-copy reach c w v d h g e =
-    let l = length-take-le (reach * 3) c h in
-    let z : reach * 3 ≡ 0 + length (take (reach * 3) c) = omega arith in
-    let i : 0 + length (take (reach * 3) c) ≤ length w = omega arith in
-    ap (λ u. u ++ d) (ap (take (reach * 3)) e ∙ ap (λ n. take n (over w 0 (take (reach * 3) c))) z ∙ take-over w 0 (take (reach * 3) c) i)
+pub sourced-copy : (reach : ℕ) (c w v d : List Float) → reach * 3 ≤ length c → v ≡ over w 0 (take (reach * 3) (drop 0 c)) → sourced reach v d ≡ sourced reach c d
+sourced-copy reach c w v d h e = ap (λ u. u ++ d) (ap (take (reach * 3)) e ∙ begins-copied c w reach h)
 
 pub gathered-from : (v w : List Float) (t u : Tables) → u ≡ gathered v t → v ≡ w → u ≡ gathered w t
 gathered-from v w t u p e = p ∙ ap (λ x. gathered x t) e

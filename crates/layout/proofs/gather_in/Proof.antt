@@ -15,7 +15,7 @@ copy-requires c κs = search needs
 gather-all-requires : tie.Need-gather-all-requires
 gather-all-requires c κs =
     let a = c .before .before .before .before .before .before .before .before .before .before .before .before .before .before .before .before .before .before .args in
-    let e = sourced-copy (a .reach) (a .coordinates .now) (a .work .now) (c .before .before .before .before .before .before .before .before .copy .last .1 .1 .1 .0) (a .drawn .now) (c .before .before .before .before .before .before .before .before .before .before .before .before .before .before .before .before .before .before .pre .1 .0) (c .before .before .before .before .before .before .before .before .before .before .before .before .before .before .before .before .before .before .pre .0) (c .before .before .before .before .before .before .before .before .copy .ensures) in
+    let e = sourced-copy (a .reach) (a .coordinates .now) (a .work .now) (c .before .before .before .before .before .before .before .before .copy .last .1 .1 .1 .0) (a .drawn .now) (c .before .before .before .before .before .before .before .before .before .before .before .before .before .before .before .before .before .before .pre .1 .0) (c .before .before .before .before .before .before .before .before .copy .ensures) in
     (omega (arith, c .before .before .before .before .before .before .before .before .before .before .before .before .before .before .before .before .before .before .pre .0, c .before .before .before .before .before .before .before .before .copy .kept), rw e (c .before .before .before .before .before .before .before .before .before .before .before .before .before .before .before .before .before .before .pre .1 .1))
 
 same-length : tie.Need-same-length
@@ -41,7 +41,7 @@ returns c =
     let a = c .before .before .before .before .before .before .before .before .before .before .before .before .before .before .before .before .before .before .before .before .before .before .before .before .before .before .before .before .before .args in
     let g = c .before .before .before .before .before .before .before .before .before .before .gather-all in
     gathered-from (sourced (a .reach) (c .before .before .before .before .before .before .before .before .before .before .before .before .before .before .before .before .before .before .before .copy .last .1 .1 .1 .0) (a .drawn .now)) (sourced (a .reach) (a .coordinates .now) (a .drawn .now)) (lineTables (a .lanes .now) (a .boundaries .now) (a .stop-lines .now) (a .crosswalks .now) (a .coordinates .now))
-    (lineTables (g .last .0) (g .last .1 .0) (g .last .1 .1 .0) (g .last .1 .1 .1 .0) (g .last .1 .1 .1 .1 .1 .1 .1 .0)) (g .ensures) (sourced-copy (a .reach) (a .coordinates .now) (a .work .now) (c .before .before .before .before .before .before .before .before .before .before .before .before .before .before .before .before .before .before .before .copy .last .1 .1 .1 .0) (a .drawn .now) (c .before .before .before .before .before .before .before .before .before .before .before .before .before .before .before .before .before .before .before .before .before .before .before .before .before .before .before .before .before .pre .1 .0) (c .before .before .before .before .before .before .before .before .before .before .before .before .before .before .before .before .before .before .before .before .before .before .before .before .before .before .before .before .before .pre .0) (c .before .before .before .before .before .before .before .before .before .before .before .before .before .before .before .before .before .before .before .copy .ensures))
+    (lineTables (g .last .0) (g .last .1 .0) (g .last .1 .1 .0) (g .last .1 .1 .1 .0) (g .last .1 .1 .1 .1 .1 .1 .1 .0)) (g .ensures) (sourced-copy (a .reach) (a .coordinates .now) (a .work .now) (c .before .before .before .before .before .before .before .before .before .before .before .before .before .before .before .before .before .before .before .copy .last .1 .1 .1 .0) (a .drawn .now) (c .before .before .before .before .before .before .before .before .before .before .before .before .before .before .before .before .before .before .before .before .before .before .before .before .before .before .before .before .before .pre .1 .0) (c .before .before .before .before .before .before .before .before .before .before .before .before .before .before .before .before .before .before .before .copy .ensures))
 
 pub gather-in-spec : {M : Type 1} → statement M
 gather-in-spec =
