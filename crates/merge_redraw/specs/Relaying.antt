@@ -3,10 +3,8 @@ use Prim.Native.Nat.{ℕ, _+_, _*_, _^_, _≤_, _<_}
 use mathlib.Core.Path.{_≡_}
 use mathlib.Core.Bool.{Bool, true, false, not, cond}
 use mathlib.Core.List.{List, [], _∷_}
-use lib.Dec.{eqb, leb}
-use lib.ListN.{length, take, replicate}
+use lib.ListN.{length, replicate}
 use lib.Ieee.{Float, binary64, ofBits}
-use Rattle.lists.specs.Every.{all}
 use Rattle.lists.specs.Rows.{over}
 use Rattle.lists.specs.Select.{has}
 use Rattle.lists.specs.declared.Found.{Found}
@@ -16,9 +14,8 @@ use Rattle.entities.specs.Records.{Line}
 use Rattle.rules.specs.Names.{Side, Left, Right}
 use Rattle.rules.specs.Limits.{maxBoundaries, maxLanes, maxPoints}
 use Rattle.tables.specs.View.{Tables, word, mark, idsAt, refAt}
-use Rattle.tables.specs.Formed.{spans, counted}
+use Rattle.tables.specs.Formed.{counted}
 use Rattle.tables.specs.Columns.{boundaryAttributes, boundaryKind, boundaryWords, laneCenterline, laneWords, rowCount, rowId, successorsAt}
-use Rattle.apart.specs.Marks.{within}
 use Rattle.store.specs.Rows.{keptRows, onRows, appendedRows}
 use Rattle.layout.specs.Layout.{lineTables, sourced, gathered, Gatherable}
 use Rattle.lookup.specs.Lookup.{rowAt, placeOf, sideWord, sortedTable, centersStored, Drawable}

@@ -10,7 +10,7 @@ use Prim.Native.Nat.{ℕ, _+_}
 use lib.Ieee.{Float}
 use Rattle.tables.specs.View.{Tables}
 use Rattle.tables.specs.Formed.{Span, spans, counted}
-use Rattle.layout.specs.Layout.{sourced, lineFloats, centerlines, columnLines, lineTables, boundaryLines, stopLines, leftEdges, rightEdges}
+use Rattle.layout.specs.Layout.{sourced, centerlines, columnLines, lineTables, boundaryLines, stopLines, leftEdges, rightEdges}
 use Rattle.layout.proofs.Stages.{Stage, lefts-on, stops-on, centers-on, counts, stage-start, stage-fits, stage-room, stage-step, all-gathered, rights-ready, right-needs, right-last}
 
 abbrev tables : tie.Start → Tables
