@@ -3,7 +3,10 @@ use borrow.Author.Needs.{needs}
 use Rattle.order.proofs.line_behind.Statement.{statement}
 use Rattle.order.proofs.line_behind.Tie as tie
 use native.Mathlib.Omega.{arith}
-use mathlib.Core.Path.{sym, _∙_}
+use mathlib.Core.Path.{_≡_, sym, _∙_}
+use mathlib.Core.Bool.{true, false, _&&_}
+use Prim.Native.Nat.{_+_}
+use lib.Dec.{leb}
 use Rattle.tables.specs.Formed.{Span}
 use Rattle.apart.proofs.Marks.{within-end}
 use Rattle.order.proofs.Behind.{behind-none, behind-drawn, behind-test}
@@ -26,7 +29,8 @@ both-requires c κs = search needs
 returns-3 : tie.Need-returns-3
 returns-3 c =
     let a = c .before .before .before .before .args in
-    sym (behind-test (a .reach) (a .from) (line (c .before .before .before .before)) (c .before .before .before .if1 .left) (c .before .before .if2 .left) ∙ rw (sym (c .before .both .ensures) ∙ c .if3 .taken))
+    let e : (leb (a .from) (a .start) && leb (a .start + a .size) (a .reach)) ≡ true = sym (c .before .both .ensures) ∙ c .if3 .taken in
+    sym (behind-test (a .reach) (a .from) (line (c .before .before .before .before)) (c .before .before .before .if1 .left) (c .before .before .if2 .left) ∙ rw e)
 
 add-result : tie.Need-add-result
 add-result c = search needs
@@ -34,7 +38,8 @@ add-result c = search needs
 returns-4 : tie.Need-returns-4
 returns-4 c =
     let a = c .before .before .before .before .args in
-    sym (behind-test (a .reach) (a .from) (line (c .before .before .before .before)) (c .before .before .before .if1 .left) (c .before .before .if2 .left) ∙ rw (sym (c .before .both .ensures) ∙ c .if3 .left) (omega arith))
+    let e : (leb (a .from) (a .start) && leb (a .start + a .size) (a .reach)) ≡ false = sym (c .before .both .ensures) ∙ c .if3 .left in
+    sym (behind-test (a .reach) (a .from) (line (c .before .before .before .before)) (c .before .before .before .if1 .left) (c .before .before .if2 .left) ∙ rw e (omega arith))
 
 pub line-behind-spec : {M : Type 1} → statement M
 line-behind-spec =

@@ -1,0 +1,77 @@
+use Rattle.settle.proofs.shift_up.Statement.{statement}
+use Rattle.settle.proofs.shift_up.Tie as tie
+use Rattle.settle.proofs.shift_up.Reads as reads
+use Rattle.settle.proofs.shift_up.Lts as lts
+
+abbrev Inv-loop : tie.InvT-loop
+Inv-loop c₀ start n at i₀ c i = ?
+
+abbrev μ-loop : tie.MeasureT-loop
+μ-loop c₀ start n at i₀ c i = ?
+
+-- src/lib.rt:45:5
+loop-holds : tie.Need-loop-holds Inv-loop μ-loop
+loop-holds c = ?
+
+-- src/lib.rt:46:9
+sub-i : tie.Need-sub-i Inv-loop μ-loop
+sub-i c = ?
+
+-- src/lib.rt:47:23
+add-c : tie.Need-add-c Inv-loop μ-loop
+add-c c = ?
+
+-- src/lib.rt:47:21
+mul-c : tie.Need-mul-c Inv-loop μ-loop
+mul-c c = ?
+
+-- src/lib.rt:47:21
+slice-read-c : tie.Need-slice-read-c Inv-loop μ-loop
+slice-read-c c = ?
+
+-- src/lib.rt:47:11
+add-c-2 : tie.Need-add-c-2 Inv-loop μ-loop
+add-c-2 c = ?
+
+-- src/lib.rt:47:9
+mul-c-2 : tie.Need-mul-c-2 Inv-loop μ-loop
+mul-c-2 c = ?
+
+-- src/lib.rt:47:9
+slice-write-c : tie.Need-slice-write-c Inv-loop μ-loop
+slice-write-c c = ?
+
+-- src/lib.rt:45:5
+loop-less : tie.Need-loop-less Inv-loop μ-loop
+loop-less c = ?
+
+-- src/lib.rt:45:5
+loop-again : tie.Need-loop-again Inv-loop μ-loop
+loop-again c = ?
+
+-- src/lib.rt:40:1
+same-length : tie.Need-same-length Inv-loop μ-loop
+same-length c = ?
+
+-- src/lib.rt:40:1
+returns : tie.Need-returns Inv-loop μ-loop
+returns c = ?
+
+pub shift-up-spec : {M : Type 1} → statement M
+shift-up-spec =
+    tie.close
+    (tie.spec
+    Inv-loop
+    μ-loop
+    loop-holds
+    sub-i
+    add-c
+    mul-c
+    slice-read-c
+    add-c-2
+    mul-c-2
+    slice-write-c
+    loop-less
+    loop-again
+    same-length
+    returns)
