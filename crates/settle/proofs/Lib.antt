@@ -1,3 +1,5 @@
 pub mod Shifts
 pub mod Moves
 pub mod Settled
+pub mod Walks
+pub mod Starts

@@ -30,6 +30,19 @@ lies-cases reach n s h =
     let d = leb (s .start + s .size) (reach + n) in
     ⊎-elim (λ e. inl (eqb-true (s .size) 0 e)) (λ e. inr (⊎-elim (λ f. inl (leb-true (s .start + s .size) reach f)) (λ f. inr (leb-true reach (s .start) (and-fst b d f), leb-true (s .start + s .size) (reach + n) (and-snd b d f))) (or-cases a (b && d) e))) (or-cases (eqb (s .size) 0) (a || (b && d)) h)
 
+module _ (reach n : ℕ) (s : Span) (h : lies reach n s ≡ true) (z : s .size ≡ 0 → ⊥) where
+  pub lies-stored : s .start < reach → s .start + s .size ≤ reach
+  lies-stored g = ⊎-elim (λ e. absurd (z e)) (λ e. ⊎-elim (λ f. f) (λ f. absurd (after (f .0))) e) (lies-cases reach n s h)
+    where
+      after : reach ≤ s .start → ⊥
+      after l = omega arith
+
+  pub lies-drawn : s .start + s .size ≤ reach + n
+  lies-drawn = ⊎-elim (λ e. absurd (z e)) (λ e. ⊎-elim before (λ f. f .1) e) (lies-cases reach n s h)
+    where
+      before : s .start + s .size ≤ reach → s .start + s .size ≤ reach + n
+      before l = omega arith
+
 -- ---- parts
 
 pub part-empty : (c : List Float) (start size : ℕ) → size ≡ 0 → part c start size ≡ []
