@@ -55,7 +55,7 @@ module _ (k : Column) (t : List ℕ) where
       omega (arith, points-from n i (omega arith), ap pointsIn e, total-append r (linesFrom k t n (suc i)))
 
 -- whether a row has a line, by the row and by the table
-row-has : (stride a : ℕ) (marked : Bool) (t : List ℕ) → least marked ≤ stride → cond marked (mark 6 (take stride (drop a t))) true ≡ rowHas marked a t
+pub row-has : (stride a : ℕ) (marked : Bool) (t : List ℕ) → least marked ≤ stride → cond marked (mark 6 (take stride (drop a t))) true ≡ rowHas marked a t
 row-has stride a true t h = rw (getD-take stride (drop a t) 6 0)
 row-has stride a false t h = refl
 
