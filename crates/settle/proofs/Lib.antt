@@ -3,3 +3,5 @@ pub mod Moves
 pub mod Settled
 pub mod Walks
 pub mod Starts
+pub mod Columns
+pub mod Whole
