@@ -2,8 +2,8 @@
 use mathlib.Core.Path.{_≡_, refl, sym, ap, _∙_}
 use mathlib.Core.Logic.{_⊎_, inl, inr, ⊎-elim}
 use mathlib.Core.Bool.{Bool, true, false, _&&_, _||_, cond}
-use mathlib.Core.List.{List, [], _∷_, _++_}
-use Prim.Native.Nat.{ℕ, suc, _+_, _-_, _*_, _/_, _≤_, _<_}
+use mathlib.Core.List.{List, [], _++_}
+use Prim.Native.Nat.{ℕ, _+_, _-_, _*_, _≤_, _<_}
 use native.Mathlib.Omega.{arith}
 use lib.Dec.{eqb, leb}
 use lib.ListN.{length, take, drop, length-append, length-take, length-drop, take-append-drop}
@@ -12,10 +12,9 @@ use lib.Ieee.{Float}
 use borrow.Author.Tests.{eq-eqb, ne-eqb, le-leb, lt-leb, leb-true, leb-false, eqb-true}
 use Rattle.lists.specs.Rows.{over}
 use Rattle.lists.proofs.Booleans.{and-fst, and-snd}
-use Rattle.lists.proofs.Rows.{drop-take, length-over, take-before-over, drop-over}
+use Rattle.lists.proofs.Rows.{drop-take, take-before-over, drop-over}
 use Rattle.tables.specs.View.{part}
 use Rattle.tables.specs.Formed.{Span}
-use Rattle.apart.specs.Marks.{within}
 use Rattle.apart.proofs.Marks.{or-cases}
 use Rattle.layout.specs.Layout.{sourced}
 use Rattle.settle.specs.Settle.{downOne, upOne, lies}

@@ -2,19 +2,19 @@
 -- lay. Assumes nothing.
 use mathlib.Core.Path.{_≡_, refl, sym, ap, _∙_}
 use mathlib.Core.Logic.{_⊎_, inl, inr, ⊎-elim}
-use mathlib.Core.Bool.{Bool, true, false, _&&_, _||_, cond}
-use mathlib.Core.List.{List, [], _∷_, _++_, append-nil}
+use mathlib.Core.Bool.{Bool, true, false, _&&_, cond}
+use mathlib.Core.List.{List, [], _∷_, _++_}
 use Prim.Native.Nat.{ℕ, suc, _+_, _-_, _*_, _/_, _≤_, _<_}
 use native.Mathlib.Omega.{arith}
 use lib.Dec.{eqb, leb}
 use lib.ListN.{length, length-append}
 use lib.Ieee.{Float}
-use borrow.Author.Tests.{eq-eqb, ne-eqb, le-leb, lt-leb, leb-true, leb-false, eqb-true, eqb-false}
+use borrow.Author.Tests.{eq-eqb, le-leb, leb-true, leb-false, eqb-true, eqb-false}
 use Rattle.lists.specs.Every.{all}
 use Rattle.lists.specs.Rows.{over}
 use Rattle.lists.specs.Select.{each}
 use Rattle.lists.proofs.Every.{all-nil, all-cons, all-head, all-tail}
-use Rattle.lists.proofs.Booleans.{and-fst, and-snd, or-right}
+use Rattle.lists.proofs.Booleans.{or-right}
 use Rattle.lists.proofs.Rows.{over-nil, over-over, over-ahead, length-over}
 use Rattle.tables.specs.View.{part}
 use Rattle.tables.specs.Formed.{Span}

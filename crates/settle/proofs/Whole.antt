@@ -1,9 +1,9 @@
 -- The whole: what `settle` asks is what its parts ask, and what they leave is the layout. Assumes nothing.
 use mathlib.Core.Path.{_≡_, refl, sym, ap, _∙_}
 use mathlib.Core.Logic.{⊎-elim}
-use mathlib.Core.Bool.{Bool, true, false, _&&_, _||_, or-true}
+use mathlib.Core.Bool.{true, or-true}
 use mathlib.Core.List.{List, [], _∷_}
-use Prim.Native.Nat.{ℕ, _+_, _*_, _/_, _≤_, _<_}
+use Prim.Native.Nat.{ℕ, _+_, _*_, _/_, _≤_}
 use native.Mathlib.Omega.{arith}
 use lib.Dec.{eqb, leb}
 use lib.ListN.{length}
@@ -13,7 +13,6 @@ use Rattle.lists.specs.Every.{all}
 use Rattle.lists.specs.Rows.{over}
 use Rattle.lists.proofs.Every.{all-nil, all-cons, all-head, all-tail}
 use Rattle.lists.proofs.Select.{all-weaken}
-use Rattle.tables.specs.View.{Tables}
 use Rattle.tables.specs.Formed.{Span, spans}
 use Rattle.apart.specs.Marks.{within}
 use Rattle.apart.proofs.Marks.{within-end}

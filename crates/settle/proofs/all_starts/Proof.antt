@@ -1,10 +1,8 @@
+-- `settle::all_starts` meets its contract: column by column. Assumes nothing.
 use borrow.Author.Needs.{needs}
 use Rattle.settle.proofs.all_starts.Statement.{statement}
 use Rattle.settle.proofs.all_starts.Tie as tie
-use Rattle.settle.proofs.all_starts.Reads as reads
-use Rattle.settle.proofs.all_starts.Lts as lts
-use Rattle.settle.proofs.column_starts.Reads as column-starts-reads
-use mathlib.Core.Path.{_≡_, refl, ap, _∙_}
+use mathlib.Core.Path.{ap}
 use mathlib.Core.List.{[]}
 use native.Mathlib.Omega.{arith}
 use Rattle.tables.specs.View.{Tables}
@@ -16,20 +14,17 @@ use Rattle.settle.proofs.Columns.{columns-points, columns-started}
 abbrev tables : tie.Start → Tables
 tables s = lineTables (s .args .lanes .now) (s .args .boundaries .now) (s .args .stop-lines .now) (s .args .crosswalks .now) []
 
--- src/lib.rt:298:9
 column-starts-requires : tie.Need-column-starts-requires
 column-starts-requires c κs =
     let s = c .before .before .before .before .before in
     (omega arith, (omega arith, (omega arith, (counts (tables s) (s .pre .0) .1 .0, omega (arith, columns-points (tables s), s .pre .1)))))
 
--- src/lib.rt:299:9
 column-starts-requires-2 : tie.Need-column-starts-requires-2
 column-starts-requires-2 c κs =
     let s = c .before .before .before .before .before .before .before .before .before in
     let g1 = c .before .before .before .column-starts in
     (omega arith, (omega arith, (omega arith, (counted-more 1024 4096 52 (s .args .lanes .now) (omega arith) (counts (tables s) (s .pre .0) .0), omega (arith, columns-points (tables s), s .pre .1, g1 .ensures .0)))))
 
--- src/lib.rt:300:9
 column-starts-requires-3 : tie.Need-column-starts-requires-3
 column-starts-requires-3 c κs =
     let s = c .before .before .before .before .before .before .before .before .before .before .before .before .before in
@@ -37,7 +32,6 @@ column-starts-requires-3 c κs =
     let g2 = c .before .before .before .column-starts2 in
     (omega arith, (omega arith, (omega arith, (counts (tables s) (s .pre .0) .1 .1 .0, omega (arith, columns-points (tables s), s .pre .1, g1 .ensures .0, g2 .ensures .0)))))
 
--- src/lib.rt:301:9
 column-starts-requires-4 : tie.Need-column-starts-requires-4
 column-starts-requires-4 c κs =
     let s = c .before .before .before .before .before .before .before .before .before .before .before .before .before .before .before .before .before in
@@ -46,7 +40,6 @@ column-starts-requires-4 c κs =
     let g3 = c .before .before .before .column-starts3 in
     (omega arith, (omega arith, (omega arith, (counts (tables s) (s .pre .0) .1 .1 .1, omega (arith, columns-points (tables s), s .pre .1, g1 .ensures .0, g2 .ensures .0, g3 .ensures .0)))))
 
--- src/lib.rt:302:5
 column-starts-requires-5 : tie.Need-column-starts-requires-5
 column-starts-requires-5 c κs =
     let s = c .before .before .before .before .before .before .before .before .before .before .before .before .before .before .before .before .before .before .before .before .before in
@@ -57,23 +50,18 @@ column-starts-requires-5 c κs =
     let e = rights-ready (g3 .result) (s .args .crosswalks .now) (g4 .last .0) (g4 .ensures .1) (counts (tables s) (s .pre .0) .1 .1 .1) in
     (omega arith, (omega arith, (omega arith, (e .0, omega (arith, columns-points (tables s), s .pre .1, g1 .ensures .0, g2 .ensures .0, g3 .ensures .0, g4 .ensures .0, ap pointsIn (e .1))))))
 
--- src/lib.rt:289:1
 same-length : tie.Need-same-length
 same-length c = search needs
 
--- src/lib.rt:289:1
 same-length-2 : tie.Need-same-length-2
 same-length-2 c = search needs
 
--- src/lib.rt:289:1
 same-length-3 : tie.Need-same-length-3
 same-length-3 c = search needs
 
--- src/lib.rt:289:1
 same-length-4 : tie.Need-same-length-4
 same-length-4 c = search needs
 
--- src/lib.rt:289:1
 returns : tie.Need-returns
 returns c =
     let a = c .before .before .before .before .before .before .before .before .before .before .before .before .before .before .before .before .before .before .before .before .before .before .before .before .args in

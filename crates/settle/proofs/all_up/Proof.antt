@@ -1,13 +1,10 @@
-use borrow.Author.Needs.{needs}
+-- `settle::all_up` meets its contract: column by column, the last first. Assumes nothing.
 use Rattle.settle.proofs.all_up.Statement.{statement}
 use Rattle.settle.proofs.all_up.Tie as tie
-use Rattle.settle.proofs.all_up.Reads as reads
-use Rattle.settle.proofs.all_up.Lts as lts
-use Rattle.settle.proofs.column_up.Reads as column-up-reads
-use mathlib.Core.Path.{_≡_, refl, _∙_}
+use mathlib.Core.Path.{refl, _∙_}
 use mathlib.Core.List.{[]}
 use native.Mathlib.Omega.{arith}
-use Prim.Native.Nat.{ℕ, _+_, _/_}
+use Prim.Native.Nat.{_/_}
 use lib.ListN.{length}
 use Rattle.tables.specs.View.{Tables}
 use Rattle.layout.specs.Layout.{lineTables}
@@ -16,20 +13,17 @@ use Rattle.settle.proofs.Columns.{movable, columns-points, columns-walk
 abbrev tables : tie.Start → Tables
 tables s = lineTables (s .args .lanes .now) (s .args .boundaries .now) (s .args .stop-lines .now) (s .args .crosswalks .now) []
 
--- src/lib.rt:213:9
 column-up-requires : tie.Need-column-up-requires
 column-up-requires c κs =
     let s = c .before .before .before .before .before .before .before in
     (columns-walked (tables s) (s .args .reach) (length (s .args .drawn .now) / 3) (s .pre .0) .1 .1 .1 .1, (omega (arith, columns-points (tables s), s .pre .1 .0), movable (s .args .reach) (s .args .drawn .now) (s .args .coordinates .now) (s .args .coordinates .now) (s .args .end) (s .args .end) (s .pre .1 .1) refl (omega (arith))))
 
--- src/lib.rt:223:9
 column-up-requires-2 : tie.Need-column-up-requires-2
 column-up-requires-2 c κs =
     let s = c .before .before .before .before .before .before .before .before .before .before .before in
     let g1 = c .before .before .before .column-up in
     (columns-walked (tables s) (s .args .reach) (length (s .args .drawn .now) / 3) (s .pre .0) .1 .1 .1 .0, (omega (arith, columns-points (tables s), s .pre .1 .0, g1 .ensures .0), movable (s .args .reach) (s .args .drawn .now) (s .args .coordinates .now) (g1 .last .1 .1 .1 .1 .1 .1 .0) (s .args .end) (g1 .result) (s .pre .1 .1) (g1 .kept .1 .1 .1 .1 .1 .1 .0) (omega (arith, g1 .ensures .0))))
 
--- src/lib.rt:233:9
 column-up-requires-3 : tie.Need-column-up-requires-3
 column-up-requires-3 c κs =
     let s = c .before .before .before .before .before .before .before .before .before .before .before .before .before .before .before in
@@ -37,7 +31,6 @@ column-up-requires-3 c κs =
     let g2 = c .before .before .before .column-up2 in
     (columns-walked (tables s) (s .args .reach) (length (s .args .drawn .now) / 3) (s .pre .0) .1 .1 .0, (omega (arith, columns-points (tables s), s .pre .1 .0, g1 .ensures .0, g2 .ensures .0), movable (s .args .reach) (s .args .drawn .now) (s .args .coordinates .now) (g2 .last .1 .1 .1 .1 .1 .1 .0) (s .args .end) (g2 .result) (s .pre .1 .1) (g2 .kept .1 .1 .1 .1 .1 .1 .0 ∙ g1 .kept .1 .1 .1 .1 .1 .1 .0) (omega (arith, g1 .ensures .0, g2 .ensures .0))))
 
--- src/lib.rt:243:9
 column-up-requires-4 : tie.Need-column-up-requires-4
 column-up-requires-4 c κs =
     let s = c .before .before .before .before .before .before .before .before .before .before .before .before .before .before .before .before .before .before .before in
@@ -46,7 +39,6 @@ column-up-requires-4 c κs =
     let g3 = c .before .before .before .column-up3 in
     (columns-walked (tables s) (s .args .reach) (length (s .args .drawn .now) / 3) (s .pre .0) .1 .0, (omega (arith, columns-points (tables s), s .pre .1 .0, g1 .ensures .0, g2 .ensures .0, g3 .ensures .0), movable (s .args .reach) (s .args .drawn .now) (s .args .coordinates .now) (g3 .last .1 .1 .1 .1 .1 .1 .0) (s .args .end) (g3 .result) (s .pre .1 .1) (g3 .kept .1 .1 .1 .1 .1 .1 .0 ∙ g2 .kept .1 .1 .1 .1 .1 .1 .0 ∙ g1 .kept .1 .1 .1 .1 .1 .1 .0) (omega (arith, g1 .ensures .0, g2 .ensures .0, g3 .ensures .0))))
 
--- src/lib.rt:253:5
 column-up-requires-5 : tie.Need-column-up-requires-5
 column-up-requires-5 c κs =
     let s = c .before .before .before .before .before .before .before .before .before .before .before .before .before .before .before .before .before .before .before .before .before .before .before in
@@ -56,7 +48,6 @@ column-up-requires-5 c κs =
     let g4 = c .before .before .before .column-up4 in
     (columns-walked (tables s) (s .args .reach) (length (s .args .drawn .now) / 3) (s .pre .0) .0, (omega (arith, columns-points (tables s), s .pre .1 .0, g1 .ensures .0, g2 .ensures .0, g3 .ensures .0, g4 .ensures .0), movable (s .args .reach) (s .args .drawn .now) (s .args .coordinates .now) (g4 .last .1 .1 .1 .1 .1 .1 .0) (s .args .end) (g4 .result) (s .pre .1 .1) (g4 .kept .1 .1 .1 .1 .1 .1 .0 ∙ g3 .kept .1 .1 .1 .1 .1 .1 .0 ∙ g2 .kept .1 .1 .1 .1 .1 .1 .0 ∙ g1 .kept .1 .1 .1 .1 .1 .1 .0) (omega (arith, g1 .ensures .0, g2 .ensures .0, g3 .ensures .0, g4 .ensures .0))))
 
--- src/lib.rt:200:1
 same-length : tie.Need-same-length
 same-length c =
     let g1 = c .before .before .before .before .before .before .before .before .before .before .before .before .before .before .before .before .before .before .column-up in
@@ -66,7 +57,6 @@ same-length c =
     let g5 = c .before .before .column-up5 in
     g5 .kept .1 .1 .1 .1 .1 .1 .0 ∙ g4 .kept .1 .1 .1 .1 .1 .1 .0 ∙ g3 .kept .1 .1 .1 .1 .1 .1 .0 ∙ g2 .kept .1 .1 .1 .1 .1 .1 .0 ∙ g1 .kept .1 .1 .1 .1 .1 .1 .0
 
--- src/lib.rt:200:1
 returns : tie.Need-returns
 returns c =
     let s = c .before .before .before .before .before .before .before .before .before .before .before .before .before .before .before .before .before .before .before .before .before .before .before .before .before .before in

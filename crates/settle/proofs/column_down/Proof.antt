@@ -1,10 +1,8 @@
+-- `settle::column_down` meets its contract. The invariant: what becomes of the column's lines is what becomes of those of the rows from i on, from the place as it is.
+-- The measure is how many rows are left. Assumes nothing.
 use Rattle.settle.proofs.column_down.Statement.{statement}
 use Rattle.settle.proofs.column_down.Tie as tie
-use Rattle.settle.proofs.column_down.Reads as reads
-use Rattle.settle.proofs.column_down.Lts as lts
-use Rattle.order.proofs.has_line.Reads as has-line-reads
-use Rattle.settle.proofs.line_down.Reads as line-down-reads
-use mathlib.Core.Path.{_≡_, refl, sym, ap, _∙_}
+use mathlib.Core.Path.{_≡_, ap, _∙_}
 use mathlib.Core.Bool.{true}
 use mathlib.Core.Logic.{⊎-elim}
 use mathlib.Core.List.{List, _∷_}
@@ -16,7 +14,7 @@ use Rattle.lists.proofs.Every.{all-head}
 use Rattle.tables.specs.View.{word}
 use Rattle.tables.specs.Formed.{Span}
 use Rattle.apart.proofs.Marks.{counted-facts, row-in}
-use Rattle.layout.specs.Layout.{Column, columnLines}
+use Rattle.layout.specs.Layout.{Column}
 use Rattle.order.specs.Order.{columnOf}
 use Rattle.order.proofs.Walk.{linesFrom, lineHere, from-start, all-from, from-with, from-without}
 use Rattle.settle.specs.Settle.{lies}
@@ -28,11 +26,9 @@ Inv-loop t stride offset marked reach coordinates₀ at n place₀ i₀ coordina
 abbrev μ-loop : tie.MeasureT-loop
 μ-loop t stride offset marked reach coordinates₀ at n place₀ i₀ coordinates place i = n - i
 
--- src/lib.rt:83:13
 shared-slice-read-n : tie.Need-shared-slice-read-n Inv-loop μ-loop
 shared-slice-read-n c = let f = counted-facts 4096 (c .before .before .before .args .stride) (c .before .before .before .args .t .now) (c .before .before .before .pre .0 .counts) in omega arith
 
--- src/lib.rt:86:5
 loop-holds : tie.Need-loop-holds Inv-loop μ-loop
 loop-holds c = let a = c .before .before .before .args in (omega arith, down-start (columnOf (a .stride) (a .offset) (a .marked)) (a .t .now) (a .reach) (a .coordinates .now) (a .at))
 
@@ -57,43 +53,33 @@ next c e =
     let a = s .args in
     from-with (a .stride) (a .offset) (a .marked) (a .t .now) (word 0 (a .t .now)) (c .before .before .loop .i) (s .pre .0 .line) (s .pre .0 .row) (c .before .loop-test .taken) (room (c .before)) (c .has-line .result) (c .has-line .ensures) e
 
--- src/lib.rt:87:23
 mul-row : tie.Need-mul-row Inv-loop μ-loop
 mul-row c = omega (arith, room (c), c .before .before .before .before .before .good)
 
--- src/lib.rt:87:19
 add-row : tie.Need-add-row Inv-loop μ-loop
 add-row c = omega (arith, room (c), c .before .before .before .before .before .good)
 
--- src/lib.rt:88:12
 has-line-requires : tie.Need-has-line-requires Inv-loop μ-loop
 has-line-requires c κs = omega (arith, room (c), c .before .before .before .before .before .pre .0 .row)
 
--- src/lib.rt:89:21
 add-k : tie.Need-add-k Inv-loop μ-loop
 add-k c = omega (arith, room (c .before .before), c .before .before .before .before .before .before .before .pre .0 .line, c .before .before .before .before .before .before .before .good)
 
--- src/lib.rt:90:26
 add-size : tie.Need-add-size Inv-loop μ-loop
 add-size c = omega (arith, room (c .before .before), c .before .before .before .before .before .before .before .pre .0 .line, c .before .before .before .before .before .before .before .good)
 
--- src/lib.rt:90:24
 mul-size : tie.Need-mul-size Inv-loop μ-loop
 mul-size c = omega (arith, room (c .before .before), c .before .before .before .before .before .before .before .pre .0 .line, c .before .before .before .before .before .before .before .good)
 
--- src/lib.rt:90:24
 shared-slice-read-size : tie.Need-shared-slice-read-size Inv-loop μ-loop
 shared-slice-read-size c = omega (arith, room (c .before .before .before), c .before .before .before .before .before .before .before .before .pre .0 .line, c .before .before .before .before .before .before .before .before .good)
 
--- src/lib.rt:91:23
 mul-line-down : tie.Need-mul-line-down Inv-loop μ-loop
 mul-line-down c = omega (arith, room (c .before .before .before), c .before .before .before .before .before .before .before .before .pre .0 .line, c .before .before .before .before .before .before .before .before .good)
 
--- src/lib.rt:91:23
 shared-slice-read-line-down : tie.Need-shared-slice-read-line-down Inv-loop μ-loop
 shared-slice-read-line-down c = omega (arith, room (c .before .before .before .before), c .before .before .before .before .before .before .before .before .before .pre .0 .line, c .before .before .before .before .before .before .before .before .before .good)
 
--- src/lib.rt:91:13
 line-down-requires : tie.Need-line-down-requires Inv-loop μ-loop
 line-down-requires c κs =
     let s = c .before .before .before .before .before .before .before .before .before .before in
@@ -105,7 +91,6 @@ line-down-requires c κs =
     let u : all f (lines (c .before .before .before .before .before .before) (l .i)) ≡ true = all-from k t f (word 0 t) (l .i) (omega arith) (rw (from-start k t) at (s .pre .0 .lines)) in
     (all-head f (line (c .before .before .before .before .before .before)) (lines (c .before .before .before .before .before .before) (l .i + 1)) (rw (next (c .before .before .before .before) (c .before .before .before .if1 .taken)) at u), (s .pre .1 .near, omega (arith, l .inv .1 .floats, s .pre .1 .stored)))
 
--- src/lib.rt:92:13
 add-place : tie.Need-add-place Inv-loop μ-loop
 add-place c =
     let s = c .before .before .before .before .before .before .before .before .before .before .before .before .before in
@@ -113,15 +98,12 @@ add-place c =
     let l = c .before .before .before .before .before .before .before .before .before .loop in
     omega (arith, down-room (column s) (a .t .now) (a .reach) (a .coordinates .now) (a .at) (word 0 (a .t .now)) (l .i) (l .coordinates) (l .place) (l .inv .1) (line (c .before .before .before .before .before .before .before .before .before)) (next (c .before .before .before .before .before .before .before) (c .before .before .before .before .before .before .if1 .taken)), s .pre .1 .room, s .good)
 
--- src/lib.rt:94:9
 add-i : tie.Need-add-i Inv-loop μ-loop
 add-i c = omega (arith, counted-facts 4096 (c .before .before .before .before .before .before .before .args .stride) (c .before .before .before .before .before .before .before .args .t .now) (c .before .before .before .before .before .before .before .pre .0 .counts) .1 .0, c .before .before .loop-test .taken)
 
--- src/lib.rt:86:5
 loop-less : tie.Need-loop-less Inv-loop μ-loop
 loop-less c = omega (arith, c .before .before .loop-test .taken)
 
--- src/lib.rt:86:5
 loop-again : tie.Need-loop-again Inv-loop μ-loop
 loop-again c =
     let s = c .before .before .before .before .before .before .before in
@@ -137,11 +119,9 @@ loop-again c =
     (λ w. (omega (arith, h), down-without k t (a .reach) (a .coordinates .now) (a .at) n (l .i) (l .coordinates) (l .place) (l .inv .1) (from-without (a .stride) (a .offset) (a .marked) t n (l .i) (s .pre .0 .line) (s .pre .0 .row) h (room (c .before .before)) (b .result) (b .ensures) (w .0 .left)) (c .if1 .coordinates) (c .if1 .place) (w .1) (w .2)))
     (c .if1 .came)
 
--- src/lib.rt:71:1
 same-length : tie.Need-same-length Inv-loop μ-loop
 same-length c = c .before .loop .inv .1 .floats
 
--- src/lib.rt:71:1
 returns : tie.Need-returns Inv-loop μ-loop
 returns c =
     let a = c .before .before .before .before .before .args in

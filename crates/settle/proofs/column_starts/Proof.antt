@@ -1,12 +1,10 @@
+-- `settle::column_starts` meets its contract. The invariant: what becomes of the table is what becomes of its rows from i on, from the place as it is.
+-- The measure is how many rows are left. Assumes nothing.
 use Rattle.settle.proofs.column_starts.Statement.{statement}
 use Rattle.settle.proofs.column_starts.Tie as tie
-use Rattle.settle.proofs.column_starts.Reads as reads
-use Rattle.settle.proofs.column_starts.Lts as lts
-use Rattle.order.proofs.has_line.Reads as has-line-reads
-use mathlib.Core.Path.{_≡_, refl, sym, ap, _∙_}
 use mathlib.Core.Logic.{⊎-elim}
 use native.Mathlib.Omega.{arith}
-use Prim.Native.Nat.{ℕ, _+_, _-_, _*_, _≤_}
+use Prim.Native.Nat.{_+_, _-_, _*_, _≤_}
 use lib.ListN.{length}
 use Rattle.tables.specs.View.{word}
 use Rattle.apart.proofs.Marks.{counted-facts}
@@ -20,11 +18,9 @@ Inv-loop t₀ stride offset marked at n place₀ i₀ t place i = (i ≤ n) × S
 abbrev μ-loop : tie.MeasureT-loop
 μ-loop t₀ stride offset marked at n place₀ i₀ t place i = n - i
 
--- src/lib.rt:272:13
 slice-read-n : tie.Need-slice-read-n Inv-loop μ-loop
 slice-read-n c = let f = counted-facts 4096 (c .before .before .args .stride) (c .before .before .args .t .now) (c .before .before .pre .1 .1 .1 .0) in omega arith
 
--- src/lib.rt:275:5
 loop-holds : tie.Need-loop-holds Inv-loop μ-loop
 loop-holds c = let a = c .before .before .args in (omega arith, starts-start (columnOf (a .stride) (a .offset) (a .marked)) 4096 (a .t .now) (a .at) (c .before .before .pre .1 .1 .1 .0))
 
@@ -38,43 +34,33 @@ room c =
     let l = c .before .loop in
     starts-in (column s) (s .args .t .now) (s .args .at) (word 0 (s .args .t .now)) (l .i) (l .t) (l .place) (l .inv .1) (c .loop-test .taken)
 
--- src/lib.rt:276:23
 mul-row : tie.Need-mul-row Inv-loop μ-loop
 mul-row c = omega (arith, room (c), c .before .loop .inv .1 .words, c .before .before .before .before .good)
 
--- src/lib.rt:276:19
 add-row : tie.Need-add-row Inv-loop μ-loop
 add-row c = omega (arith, room (c), c .before .loop .inv .1 .words, c .before .before .before .before .good)
 
--- src/lib.rt:277:12
 has-line-requires : tie.Need-has-line-requires Inv-loop μ-loop
 has-line-requires c κs = omega (arith, room (c .before), c .before .before .before .before .before .pre .1 .0)
 
--- src/lib.rt:278:21
 add-k : tie.Need-add-k Inv-loop μ-loop
 add-k c = omega (arith, room (c .before .before .before), c .before .before .before .before .loop .inv .1 .words, c .before .before .before .before .before .before .before .pre .0, c .before .before .before .before .before .before .before .good)
 
--- src/lib.rt:279:26
 add-size : tie.Need-add-size Inv-loop μ-loop
 add-size c = omega (arith, room (c .before .before .before), c .before .before .before .before .loop .inv .1 .words, c .before .before .before .before .before .before .before .pre .0, c .before .before .before .before .before .before .before .good)
 
--- src/lib.rt:279:24
 mul-size : tie.Need-mul-size Inv-loop μ-loop
 mul-size c = omega (arith, room (c .before .before .before), c .before .before .before .before .loop .inv .1 .words, c .before .before .before .before .before .before .before .pre .0, c .before .before .before .before .before .before .before .good)
 
--- src/lib.rt:279:24
 slice-read-size : tie.Need-slice-read-size Inv-loop μ-loop
 slice-read-size c = omega (arith, room (c .before .before .before .before), c .before .before .before .before .before .loop .inv .1 .words, c .before .before .before .before .before .before .before .before .pre .0, c .before .before .before .before .before .before .before .before .good)
 
--- src/lib.rt:280:13
 mul-t : tie.Need-mul-t Inv-loop μ-loop
 mul-t c = omega (arith, room (c .before .before .before .before), c .before .before .before .before .before .loop .inv .1 .words, c .before .before .before .before .before .before .before .before .pre .0, c .before .before .before .before .before .before .before .before .good)
 
--- src/lib.rt:280:13
 slice-write-t : tie.Need-slice-write-t Inv-loop μ-loop
 slice-write-t c = omega (arith, room (c .before .before .before .before), c .before .before .before .before .before .loop .inv .1 .words, c .before .before .before .before .before .before .before .before .pre .0, c .before .before .before .before .before .before .before .before .good)
 
--- src/lib.rt:281:13
 add-place : tie.Need-add-place Inv-loop μ-loop
 add-place c =
     let s = c .before .before .before .before .before .before .before .before in
@@ -83,15 +69,12 @@ add-place c =
     let b = c .before .before .has-line in
     omega (arith, line-fits (a .stride) (a .offset) (a .marked) (a .t .now) (a .at) (word 0 (a .t .now)) (l .i) (l .t) (l .place) (l .inv .1) (c .before .before .before .before .loop-test .taken) (s .pre .0) (s .pre .1 .0) (b .result) (b .ensures) (c .before .if1 .taken), s .pre .1 .1 .1 .1)
 
--- src/lib.rt:283:9
 add-i : tie.Need-add-i Inv-loop μ-loop
 add-i c = omega (arith, counted-facts 4096 (c .before .before .before .before .before .before .before .args .stride) (c .before .before .before .before .before .before .before .args .t .now) (c .before .before .before .before .before .before .before .pre .1 .1 .1 .0) .1 .0, c .before .before .before .loop-test .taken)
 
--- src/lib.rt:275:5
 loop-less : tie.Need-loop-less Inv-loop μ-loop
 loop-less c = omega (arith, c .before .before .before .loop-test .taken)
 
--- src/lib.rt:275:5
 loop-again : tie.Need-loop-again Inv-loop μ-loop
 loop-again c =
     let s = c .before .before .before .before .before .before .before in
@@ -104,11 +87,9 @@ loop-again c =
     (λ w. (omega (arith, h), starts-none (a .stride) (a .offset) (a .marked) (a .t .now) (a .at) (word 0 (a .t .now)) (l .i) (l .t) (l .place) (l .inv .1) h (s .pre .0) (s .pre .1 .0) (b .result) (b .ensures) (w .0 .left) (c .if1 .t) (c .if1 .place) (w .1) (w .2)))
     (c .if1 .came)
 
--- src/lib.rt:268:1
 same-length : tie.Need-same-length Inv-loop μ-loop
 same-length c = c .before .loop .inv .1 .words
 
--- src/lib.rt:268:1
 returns : tie.Need-returns Inv-loop μ-loop
 returns c =
     let a = c .before .before .before .before .args in

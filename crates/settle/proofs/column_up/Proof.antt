@@ -1,10 +1,7 @@
+-- `settle::column_up` meets its contract. The invariant: the lines of the rows from i on are at their places, which begin at the place as it is. The measure is i. Assumes nothing.
 use Rattle.settle.proofs.column_up.Statement.{statement}
 use Rattle.settle.proofs.column_up.Tie as tie
-use Rattle.settle.proofs.column_up.Reads as reads
-use Rattle.settle.proofs.column_up.Lts as lts
-use Rattle.order.proofs.has_line.Reads as has-line-reads
-use Rattle.settle.proofs.line_up.Reads as line-up-reads
-use mathlib.Core.Path.{_≡_, refl, sym, ap, _∙_}
+use mathlib.Core.Path.{_≡_, refl, ap}
 use mathlib.Core.Bool.{true}
 use mathlib.Core.List.{List, _∷_}
 use native.Mathlib.Omega.{arith}
@@ -15,7 +12,7 @@ use Rattle.lists.proofs.Every.{all-head}
 use Rattle.tables.specs.View.{word}
 use Rattle.tables.specs.Formed.{Span}
 use Rattle.apart.proofs.Marks.{counted-facts, row-in}
-use Rattle.layout.specs.Layout.{Column, columnLines, pointsIn}
+use Rattle.layout.specs.Layout.{Column, pointsIn}
 use Rattle.order.specs.Order.{columnOf}
 use Rattle.order.proofs.Walk.{linesFrom, lineHere, from-start, all-from, points-from, from-with, from-without}
 use Rattle.settle.specs.Settle.{lies}
@@ -27,11 +24,9 @@ Inv-loop t stride offset marked reach drawn coordinates₀ end place₀ i₀ coo
 abbrev μ-loop : tie.MeasureT-loop
 μ-loop t stride offset marked reach drawn coordinates₀ end place₀ i₀ coordinates place i = i
 
--- src/lib.rt:185:17
 shared-slice-read-i : tie.Need-shared-slice-read-i Inv-loop μ-loop
 shared-slice-read-i c = let f = counted-facts 4096 (c .before .before .before .before .args .stride) (c .before .before .before .before .args .t .now) (c .before .before .before .before .pre .0 .counts) in omega arith
 
--- src/lib.rt:186:5
 loop-holds : tie.Need-loop-holds Inv-loop μ-loop
 loop-holds c = let a = c .before .before .before .before .args in (omega arith, up-begin (columnOf (a .stride) (a .offset) (a .marked)) (a .t .now) (a .drawn .now) (a .reach) (a .coordinates .now) (a .end) (word 0 (a .t .now)))
 
@@ -72,51 +67,39 @@ fits c e =
     let p : pointsIn (linesFrom k t n (l .i - 1)) ≤ a .end = omega (arith, points-from k t n (l .i - 1) (omega (arith, l .inv .0)), ap pointsIn (from-start k t), s .pre .1 .0) in
     up-room k t (a .drawn .now) (a .reach) (a .coordinates .now) (a .end) n (l .i) (l .i - 1) (l .coordinates) (l .place) (l .inv .1) (before-i (c .before)) (line (c .before .before)) (next c e) p
 
--- src/lib.rt:187:9
 sub-i : tie.Need-sub-i Inv-loop μ-loop
 sub-i c = omega (arith, c .loop-test .taken)
 
--- src/lib.rt:188:23
 mul-row : tie.Need-mul-row Inv-loop μ-loop
 mul-row c = omega (arith, room (c), c .before .before .before .before .before .before .good)
 
--- src/lib.rt:188:19
 add-row : tie.Need-add-row Inv-loop μ-loop
 add-row c = omega (arith, room (c), c .before .before .before .before .before .before .good)
 
--- src/lib.rt:189:12
 has-line-requires : tie.Need-has-line-requires Inv-loop μ-loop
 has-line-requires c κs = omega (arith, room (c), c .before .before .before .before .before .before .pre .0 .row)
 
--- src/lib.rt:190:21
 add-k : tie.Need-add-k Inv-loop μ-loop
 add-k c = omega (arith, room (c .before .before), c .before .before .before .before .before .before .before .before .pre .0 .line, c .before .before .before .before .before .before .before .before .good)
 
--- src/lib.rt:191:26
 add-size : tie.Need-add-size Inv-loop μ-loop
 add-size c = omega (arith, room (c .before .before), c .before .before .before .before .before .before .before .before .pre .0 .line, c .before .before .before .before .before .before .before .before .good)
 
--- src/lib.rt:191:24
 mul-size : tie.Need-mul-size Inv-loop μ-loop
 mul-size c = omega (arith, room (c .before .before), c .before .before .before .before .before .before .before .before .pre .0 .line, c .before .before .before .before .before .before .before .before .good)
 
--- src/lib.rt:191:24
 shared-slice-read-size : tie.Need-shared-slice-read-size Inv-loop μ-loop
 shared-slice-read-size c = omega (arith, room (c .before .before .before), c .before .before .before .before .before .before .before .before .before .pre .0 .line, c .before .before .before .before .before .before .before .before .before .good)
 
--- src/lib.rt:192:13
 sub-place : tie.Need-sub-place Inv-loop μ-loop
 sub-place c = omega (arith, fits (c .before .before) (c .before .if1 .taken))
 
--- src/lib.rt:193:21
 mul-line-up : tie.Need-mul-line-up Inv-loop μ-loop
 mul-line-up c = omega (arith, room (c .before .before .before), c .before .before .before .before .before .before .before .before .before .pre .0 .line, c .before .before .before .before .before .before .before .before .before .good)
 
--- src/lib.rt:193:21
 shared-slice-read-line-up : tie.Need-shared-slice-read-line-up Inv-loop μ-loop
 shared-slice-read-line-up c = omega (arith, room (c .before .before .before .before), c .before .before .before .before .before .before .before .before .before .before .pre .0 .line, c .before .before .before .before .before .before .before .before .before .before .good)
 
--- src/lib.rt:193:13
 line-up-requires : tie.Need-line-up-requires Inv-loop μ-loop
 line-up-requires c κs =
     let s = c .before .before .before .before .before .before .before .before .before .before .before in
@@ -133,11 +116,9 @@ line-up-requires c κs =
       room = omega (arith, l .inv .1 .floats, l .inv .1 .from, s .pre .1 .1 .room, fits (c .before .before .before .before) (c .before .before .before .if1 .taken));
     })
 
--- src/lib.rt:186:5
 loop-less : tie.Need-loop-less Inv-loop μ-loop
 loop-less c = omega (arith, c .before .before .before .before .before .before .before .before .loop-test .taken)
 
--- src/lib.rt:186:5
 loop-again : tie.Need-loop-again Inv-loop μ-loop
 loop-again c =
     let s = c .before .before .before .before .before .before .before .before .before .before .before .before .before .before in
@@ -147,11 +128,9 @@ loop-again c =
     let h = c .before .before .before .before .before .before .if1 .taken in
     (omega (arith, l .inv .0), up-with (column s) (a .t .now) (a .drawn .now) (a .reach) (a .coordinates .now) (a .end) (word 0 (a .t .now)) (l .i) (l .i - 1) (l .coordinates) (l .place) (l .inv .1) (before-i (c .before .before .before .before .before .before .before .before)) (line (c .before .before .before .before .before .before .before .before .before)) (next (c .before .before .before .before .before .before .before) h) (g .last .1 .1 .1 .1 .0) (l .place - line (c .before .before .before .before .before .before .before .before .before) .size) (g .kept .1 .1 .1 .1 .0) (g .ensures) (omega (arith, fits (c .before .before .before .before .before .before .before) h)))
 
--- src/lib.rt:186:5
 loop-less-2 : tie.Need-loop-less-2 Inv-loop μ-loop
 loop-less-2 c = omega (arith, c .before .before .loop-test .taken)
 
--- src/lib.rt:186:5
 loop-again-2 : tie.Need-loop-again-2 Inv-loop μ-loop
 loop-again-2 c =
     let s = c .before .before .before .before .before .before .before .before in
@@ -162,11 +141,9 @@ loop-again-2 c =
     let b = c .before .has-line in
     (omega (arith, l .inv .0), up-without (column s) t (a .drawn .now) (a .reach) (a .coordinates .now) (a .end) n (l .i) (l .i - 1) (l .coordinates) (l .place) (l .inv .1) (before-i (c .before .before)) (from-without (a .stride) (a .offset) (a .marked) t n (l .i - 1) (s .pre .0 .line) (s .pre .0 .row) (omega (arith, c .before .before .loop-test .taken, l .inv .0)) (room (c .before .before)) (b .result) (b .ensures) (c .if1 .left)) (l .coordinates) (l .place) refl refl)
 
--- src/lib.rt:171:1
 same-length : tie.Need-same-length Inv-loop μ-loop
 same-length c = c .before .loop .inv .1 .floats
 
--- src/lib.rt:171:1
 returns : tie.Need-returns Inv-loop μ-loop
 returns c =
     let a = c .before .before .before .before .before .before .args in

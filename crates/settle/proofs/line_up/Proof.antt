@@ -1,12 +1,9 @@
+-- `settle::line_up` meets its contract: of a line with no point, of one that is drawn, of one that lies before its place, and of one that does not. Assumes nothing.
 use borrow.Author.Needs.{needs}
 use Rattle.settle.proofs.line_up.Statement.{statement}
 use Rattle.settle.proofs.line_up.Tie as tie
-use Rattle.settle.proofs.line_up.Reads as reads
-use Rattle.settle.proofs.line_up.Lts as lts
-use Rattle.layout.proofs.copy.Reads as copy-reads
-use Rattle.settle.proofs.shift_up.Reads as shift-up-reads
 use native.Mathlib.Omega.{arith}
-use mathlib.Core.Path.{_≡_, sym, _∙_}
+use mathlib.Core.Path.{sym, _∙_}
 use Prim.Native.Nat.{_/_}
 use lib.ListN.{length}
 use Rattle.tables.specs.View.{part}
@@ -16,71 +13,57 @@ use Rattle.settle.proofs.Moves.{lies-drawn, up-none, up-drawn, up-stays
 abbrev line : tie.Start → Span
 line s = record { start = s .args .start; size = s .args .size }
 
--- src/lib.rt:157:9
 returns : tie.Need-returns
 returns c = let a = c .before .before .before .args in sym (up-none (a .reach) (a .at) (line (c .before .before .before)) (a .coordinates .now) (a .drawn .now) (c .if1 .taken))
 
--- src/lib.rt:161:20
 mul-from : tie.Need-mul-from
 mul-from c =
     let s = c .before .before .before .before in
     let l = lies-drawn (s .args .reach) (length (s .args .drawn .now) / 3) (line s) (s .pre .0) (c .before .if1 .left) in
     omega arith
 
--- src/lib.rt:162:35
 mul-copy : tie.Need-mul-copy
 mul-copy c = search needs
 
--- src/lib.rt:162:62
 mul-copy-2 : tie.Need-mul-copy-2
 mul-copy-2 c = search needs
 
--- src/lib.rt:162:9
 copy-requires : tie.Need-copy-requires
 copy-requires c κs =
     let s = c .before .before .before .before .before in
     let l = lies-drawn (s .args .reach) (length (s .args .drawn .now) / 3) (line s) (s .pre .0) (c .before .before .if1 .left) in
     (omega arith, omega arith)
 
--- src/lib.rt:163:9
 same-length : tie.Need-same-length
 same-length c = search needs
 
--- src/lib.rt:163:9
 returns-2 : tie.Need-returns-2
 unfolding part
 returns-2 c =
     let a = c .before .before .before .before .before .before .before .before .args in
     c .before .before .copy .ensures ∙ sym (up-drawn (a .reach) (a .at) (line (c .before .before .before .before .before .before .before .before)) (a .coordinates .now) (a .drawn .now) (c .before .before .before .before .before .if1 .left) (c .before .before .before .before .if2 .taken))
 
--- src/lib.rt:166:31
 mul-shift-up : tie.Need-mul-shift-up
 mul-shift-up c = search needs
 
--- src/lib.rt:166:46
 mul-shift-up-2 : tie.Need-mul-shift-up-2
 mul-shift-up-2 c = search needs
 
--- src/lib.rt:166:60
 mul-shift-up-3 : tie.Need-mul-shift-up-3
 mul-shift-up-3 c = search needs
 
--- src/lib.rt:166:9
 shift-up-requires : tie.Need-shift-up-requires
 shift-up-requires c κs = search needs
 
--- src/lib.rt:145:1
 same-length-2 : tie.Need-same-length-2
 same-length-2 c = search needs
 
--- src/lib.rt:145:1
 returns-3 : tie.Need-returns-3
 unfolding part
 returns-3 c =
     let a = c .before .before .before .before .before .before .before .before .before .args in
     c .before .before .shift-up .ensures ∙ sym (up-moved (a .reach) (a .at) (line (c .before .before .before .before .before .before .before .before .before)) (a .coordinates .now) (a .drawn .now) (c .before .before .before .before .before .before .if1 .left) (c .before .before .before .before .before .if2 .left) (c .before .before .before .before .if3 .taken))
 
--- src/lib.rt:145:1
 returns-4 : tie.Need-returns-4
 returns-4 c = let a = c .before .before .before .before .before .args in sym (up-stays (a .reach) (a .at) (line (c .before .before .before .before .before)) (a .coordinates .now) (a .drawn .now) (c .before .before .if1 .left) (c .before .if2 .left) (c .if3 .left))
 
