@@ -92,7 +92,21 @@ pub fn in_order(
     let centers = column_behind(boundaries, BOUNDARY, BOUNDARY_START, false, reach, 0);
     let stops = column_behind(lanes, LANE, LANE_CENTERLINE_START, true, reach, centers);
     let lefts = column_behind(stop_lines, STOP_LINE, STOP_LINE_START, false, reach, stops);
-    let rights = column_behind(crosswalks, CROSSWALK, CROSSWALK_LEFT_START, false, reach, lefts);
-    let last = column_behind(crosswalks, CROSSWALK, CROSSWALK_RIGHT_START, false, reach, rights);
+    let rights = column_behind(
+        crosswalks,
+        CROSSWALK,
+        CROSSWALK_LEFT_START,
+        false,
+        reach,
+        lefts,
+    );
+    let last = column_behind(
+        crosswalks,
+        CROSSWALK,
+        CROSSWALK_RIGHT_START,
+        false,
+        reach,
+        rights,
+    );
     last <= reach
 }

@@ -80,12 +80,19 @@ module _ (t : Tables) where
       → Walked 5 2 false reach n (t .boundaries) × (Walked 52 7 true reach n (t .lanes) × (Walked 4 1 false reach n (t .stop-lines) × (Walked 7 1 false reach n (t .crosswalks) × Walked 7 3 false reach n (t .crosswalks))))
   columns-walked reach n p =
       let h = counts t (p .counts) in
-      let f = columns-all (lies reach n) (p .lines) in
-      (record { line = omega arith; row = omega arith; narrow = omega arith; counts = h .1 .0; lines = f .0 },
-      (record { line = omega arith; row = omega arith; narrow = omega arith; counts = counted-more 1024 4096 52 (t .lanes) (omega arith) (h .0); lines = f .1 .0 },
-      (record { line = omega arith; row = omega arith; narrow = omega arith; counts = h .1 .1 .0; lines = f .1 .1 .0 },
-      (record { line = omega arith; row = omega arith; narrow = omega arith; counts = h .1 .1 .1; lines = f .1 .1 .1 .0 },
-      record { line = omega arith; row = omega arith; narrow = omega arith; counts = h .1 .1 .1; lines = f .1 .1 .1 .1 }))))
+      let f = columns-all (lies reach n) (p .lines) in (
+        record { line = omega arith; row = omega arith; narrow = omega arith; counts = h .1 .0; lines = f .0 },
+        (
+          record { line = omega arith; row = omega arith; narrow = omega arith; counts = counted-more 1024 4096 52 (t .lanes) (omega arith) (h .0); lines = f .1 .0 },
+          (
+            record { line = omega arith; row = omega arith; narrow = omega arith; counts = h .1 .1 .0; lines = f .1 .1 .0 },
+            (
+              record { line = omega arith; row = omega arith; narrow = omega arith; counts = h .1 .1 .1; lines = f .1 .1 .1 .0 },
+              record { line = omega arith; row = omega arith; narrow = omega arith; counts = h .1 .1 .1; lines = f .1 .1 .1 .1 },
+            ),
+          ),
+        ),
+      )
 
   -- ---- what the five calls leave
 
@@ -93,14 +100,15 @@ module _ (t : Tables) where
       → (a₁ ≡ 0 + pointsIn bs) × (c₁ ≡ downAll reach 0 bs c) → (a₂ ≡ a₁ + pointsIn cs) × (c₂ ≡ downAll reach a₁ cs c₁) → (a₃ ≡ a₂ + pointsIn ss) × (c₃ ≡ downAll reach a₂ ss c₂)
       → (a₄ ≡ a₃ + pointsIn ls) × (c₄ ≡ downAll reach a₃ ls c₃) → (a₅ ≡ a₄ + pointsIn rs) × (c₅ ≡ downAll reach a₄ rs c₄)
       → (a₅ ≡ pointsIn (spans t)) × (c₅ ≡ downAll reach 0 (spans t) c)
-  columns-down reach a₁ a₂ a₃ a₄ a₅ c c₁ c₂ c₃ c₄ c₅ p₁ p₂ p₃ p₄ p₅ =
-      (omega (arith, columns-points),
-      sym (ap (λ l. downAll reach 0 l c) (spans-columns t)
-      ∙ down-on reach 0 a₁ bs (cs ++ (ss ++ (ls ++ rs))) c c₁ (p₁ .0) (p₁ .1)
-      ∙ down-on reach a₁ a₂ cs (ss ++ (ls ++ rs)) c₁ c₂ (p₂ .0) (p₂ .1)
-      ∙ down-on reach a₂ a₃ ss (ls ++ rs) c₂ c₃ (p₃ .0) (p₃ .1)
-      ∙ down-on reach a₃ a₄ ls rs c₃ c₄ (p₄ .0) (p₄ .1)
-      ∙ sym (p₅ .1)))
+  columns-down reach a₁ a₂ a₃ a₄ a₅ c c₁ c₂ c₃ c₄ c₅ p₁ p₂ p₃ p₄ p₅ = (
+    omega (arith, columns-points),
+    sym (ap (λ l. downAll reach 0 l c) (spans-columns t)
+        ∙ down-on reach 0 a₁ bs (cs ++ (ss ++ (ls ++ rs))) c c₁ (p₁ .0) (p₁ .1)
+        ∙ down-on reach a₁ a₂ cs (ss ++ (ls ++ rs)) c₁ c₂ (p₂ .0) (p₂ .1)
+        ∙ down-on reach a₂ a₃ ss (ls ++ rs) c₂ c₃ (p₃ .0) (p₃ .1)
+        ∙ down-on reach a₃ a₄ ls rs c₃ c₄ (p₄ .0) (p₄ .1)
+        ∙ sym (p₅ .1)),
+  )
 
   pub columns-up : (drawn : List Float) (reach end a₁ a₂ a₃ a₄ : ℕ) (c c₁ c₂ c₃ c₄ c₅ : List Float) → end ≡ pointsIn (spans t)
       → (a₁ ≡ end - pointsIn rs) × (c₁ ≡ upAll drawn reach (end - pointsIn rs) rs c) → (a₂ ≡ a₁ - pointsIn ls) × (c₂ ≡ upAll drawn reach (a₁ - pointsIn ls) ls c₁)

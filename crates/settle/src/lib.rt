@@ -108,8 +108,24 @@ fn all_down(
     requires { ⌜ (D.Placed reach 65536 (L.lineTables (now lanes) (now boundaries) (now «stop_lines») (now crosswalks) [])) × (D.Movable reach [] (now coordinates) (L.pointsIn (spans (L.lineTables (now lanes) (now boundaries) (now «stop_lines») (now crosswalks) [])))) ⌝ }
     ensures { λ r. ⌜ (r ≡ L.pointsIn (spans (L.lineTables (now (lanes .entry)) (now (boundaries .entry)) (now («stop_lines» .entry)) (now (crosswalks .entry)) []))) × (now (coordinates .exit) ≡ D.downAll reach 0 (spans (L.lineTables (now (lanes .entry)) (now (boundaries .entry)) (now («stop_lines» .entry)) (now (crosswalks .entry)) [])) (now (coordinates .entry))) ⌝ }
 {
-    let centers = column_down(boundaries, BOUNDARY, BOUNDARY_START, false, reach, coordinates, 0);
-    let stops = column_down(lanes, LANE, LANE_CENTERLINE_START, true, reach, coordinates, centers);
+    let centers = column_down(
+        boundaries,
+        BOUNDARY,
+        BOUNDARY_START,
+        false,
+        reach,
+        coordinates,
+        0,
+    );
+    let stops = column_down(
+        lanes,
+        LANE,
+        LANE_CENTERLINE_START,
+        true,
+        reach,
+        coordinates,
+        centers,
+    );
     let lefts = column_down(
         stop_lines,
         STOP_LINE,
@@ -142,14 +158,7 @@ fn all_down(
 // ---- from the back on
 
 // A line that is drawn, or that lies before point `at`, its place, is brought there.
-fn line_up(
-    start: u64,
-    size: usize,
-    reach: usize,
-    drawn: &[f64],
-    coordinates: &mut [f64],
-    at: usize,
-)
+fn line_up(start: u64, size: usize, reach: usize, drawn: &[f64], coordinates: &mut [f64], at: usize)
     requires { ⌜ (D.lies reach (length (now drawn) / 3) (record { start = start; size = size }) ≡ true) × (D.Movable reach (now drawn) (now coordinates) (at + size)) ⌝ }
     ensures { λ _. ⌜ now (coordinates .exit) ≡ D.upOne (now (drawn .entry)) reach at (record { start = start; size = size }) (now (coordinates .entry)) ⌝ }
 {

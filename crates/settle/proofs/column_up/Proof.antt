@@ -107,14 +107,15 @@ line-up-requires c κs =
     let k = column s in
     let t = s .args .t .now in
     let f = lies (s .args .reach) (length (s .args .drawn .now) / 3) in
-    let u : all f (lines (c .before .before .before .before .before .before) (l .i - 1)) ≡ true = all-from k t f (word 0 t) (l .i - 1) (omega (arith, l .inv .0)) (rw (from-start k t) at (s .pre .0 .lines)) in
-    (all-head f (line (c .before .before .before .before .before .before)) (lines (c .before .before .before .before .before .before) (l .i - 1 + 1)) (rw (next (c .before .before .before .before) (c .before .before .before .if1 .taken)) at u),
-    record {
-      near = s .pre .1 .1 .near;
-      stored = omega (arith, l .inv .1 .floats, s .pre .1 .1 .stored);
-      few = s .pre .1 .1 .few;
-      room = omega (arith, l .inv .1 .floats, l .inv .1 .from, s .pre .1 .1 .room, fits (c .before .before .before .before) (c .before .before .before .if1 .taken));
-    })
+    let u : all f (lines (c .before .before .before .before .before .before) (l .i - 1)) ≡ true = all-from k t f (word 0 t) (l .i - 1) (omega (arith, l .inv .0)) (rw (from-start k t) at (s .pre .0 .lines)) in (
+      all-head f (line (c .before .before .before .before .before .before)) (lines (c .before .before .before .before .before .before) (l .i - 1 + 1)) (rw (next (c .before .before .before .before) (c .before .before .before .if1 .taken)) at u),
+      record {
+        near = s .pre .1 .1 .near;
+        stored = omega (arith, l .inv .1 .floats, s .pre .1 .1 .stored);
+        few = s .pre .1 .1 .few;
+        room = omega (arith, l .inv .1 .floats, l .inv .1 .from, s .pre .1 .1 .room, fits (c .before .before .before .before) (c .before .before .before .if1 .taken));
+      },
+    )
 
 loop-less : tie.Need-loop-less Inv-loop μ-loop
 loop-less c = omega (arith, c .before .before .before .before .before .before .before .before .loop-test .taken)
