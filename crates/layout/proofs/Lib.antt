@@ -1,4 +1,5 @@
 pub mod Laws
+pub mod Sourced
 pub mod Column
 pub mod Moves
 pub mod Stages
