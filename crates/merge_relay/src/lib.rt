@@ -1,8 +1,8 @@
-// edit/merge.rs: the tables with lines after a merge: lines drawn by `merge_redraw`, rows written by `merge_rows`, all brought to their places by `settle` or `layout`.
+// edit/merge.rs: the tables with lines after a merge: lines drawn by `merge_redraw`, rows written by `merge_rows`, all brought to their places by `in_place` or `layout`.
 ghost use mathlib.Core.Path.{_≡_};
 ghost use lib.ListN.{length};
 ghost use Rattle.layout.specs.Layout as L;
-ghost use Rattle.settle.specs.Settle.{Layable};
+ghost use Rattle.in_place.specs.Settle.{Layable};
 ghost use Rattle.merge_redraw.specs.Relaying as W;
 use entities::Side;
 use layout::SMALL_POINTS;
@@ -38,7 +38,7 @@ fn lay_out(
         return;
     }
     if order::in_order(lanes, boundaries, stop_lines, crosswalks, reach) {
-        settle::settle(
+        in_place::settle(
             lanes,
             boundaries,
             stop_lines,

@@ -23,8 +23,8 @@ use Rattle.layout.specs.Layout.{lineFloats, pointsIn, sourced}
 use Rattle.layout.proofs.Column.{length-laid}
 use Rattle.order.specs.Order.{behind, behindAll}
 use Rattle.order.proofs.Behind.{behind-none, behind-drawn, behind-test}
-use Rattle.settle.specs.Settle.{downOne, downAll, upOne, upAll, lies}
-use Rattle.settle.proofs.Moves.{lies-cases, part-none, part-empty, part-before, part-behind, length-sourced, read-stored, read-drawn, down-none, down-drawn, down-stays, down-moved, up-none, up-drawn, up-stays, up-placed}
+use Rattle.in_place.specs.Settle.{downOne, downAll, upOne, upAll, lies}
+use Rattle.in_place.proofs.Moves.{lies-cases, part-none, part-empty, part-before, part-behind, length-sourced, read-stored, read-drawn, down-none, down-drawn, down-stays, down-moved, up-none, up-drawn, up-stays, up-placed}
 
 -- ---- the order of lines
 

@@ -17,7 +17,7 @@ use Rattle.tables.specs.View.{part}
 use Rattle.tables.specs.Formed.{Span}
 use Rattle.apart.proofs.Marks.{or-cases}
 use Rattle.layout.specs.Layout.{sourced}
-use Rattle.settle.specs.Settle.{downOne, upOne, lies}
+use Rattle.in_place.specs.Settle.{downOne, upOne, lies}
 
 -- ---- where a line lies
 

@@ -1,13 +1,13 @@
--- `settle::shift_up` meets its contract. The invariant: the floats from i on are moved, and nothing else has changed. The measure is i. Assumes nothing.
-use Rattle.settle.proofs.shift_up.Statement.{statement}
-use Rattle.settle.proofs.shift_up.Tie as tie
+-- `in_place::shift_up` meets its contract. The invariant: the floats from i on are moved, and nothing else has changed. The measure is i. Assumes nothing.
+use Rattle.in_place.proofs.shift_up.Statement.{statement}
+use Rattle.in_place.proofs.shift_up.Tie as tie
 use mathlib.Core.Path.{_≡_, refl}
 use native.Mathlib.Omega.{arith}
 use Prim.Native.Nat.{_+_, _-_, _≤_}
 use lib.ListN.{length, take, drop, length-set}
 use lib.Ieee.{nan}
 use Rattle.lists.specs.Rows.{over}
-use Rattle.settle.proofs.Shifts.{up-step, up-start, up-end}
+use Rattle.in_place.proofs.Shifts.{up-step, up-start, up-end}
 
 abbrev Inv-loop : tie.InvT-loop
 Inv-loop c₀ start n at i₀ c i = (i ≤ n) × ((length c ≡ length c₀) × (c ≡ over c₀ (at + i) (take (n - i) (drop (start + i) c₀))))

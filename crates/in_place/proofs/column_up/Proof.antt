@@ -1,6 +1,6 @@
--- `settle::column_up` meets its contract. The invariant: the lines of the rows from i on are at their places, which begin at the place as it is. The measure is i. Assumes nothing.
-use Rattle.settle.proofs.column_up.Statement.{statement}
-use Rattle.settle.proofs.column_up.Tie as tie
+-- `in_place::column_up` meets its contract. The invariant: the lines of the rows from i on are at their places, which begin at the place as it is. The measure is i. Assumes nothing.
+use Rattle.in_place.proofs.column_up.Statement.{statement}
+use Rattle.in_place.proofs.column_up.Tie as tie
 use mathlib.Core.Path.{_≡_, refl, ap}
 use mathlib.Core.Bool.{true}
 use mathlib.Core.List.{List, _∷_}
@@ -15,8 +15,8 @@ use Rattle.apart.proofs.Marks.{counted-facts, row-in}
 use Rattle.layout.specs.Layout.{Column, pointsIn}
 use Rattle.order.specs.Order.{columnOf}
 use Rattle.order.proofs.Walk.{linesFrom, lineHere, from-start, all-from, points-from, from-with, from-without}
-use Rattle.settle.specs.Settle.{lies}
-use Rattle.settle.proofs.Walks.{Up, up-begin, up-room, up-with, up-without, up-finish}
+use Rattle.in_place.specs.Settle.{lies}
+use Rattle.in_place.proofs.Walks.{Up, up-begin, up-room, up-with, up-without, up-finish}
 
 abbrev Inv-loop : tie.InvT-loop
 Inv-loop t stride offset marked reach drawn coordinates₀ end place₀ i₀ coordinates place i = (i ≤ word 0 t) × Up (columnOf stride offset marked) t drawn reach coordinates₀ end (word 0 t) i coordinates place

@@ -1,14 +1,14 @@
--- `settle::line_up` meets its contract: of a line with no point, of one that is drawn, of one that lies before its place, and of one that does not. Assumes nothing.
+-- `in_place::line_up` meets its contract: of a line with no point, of one that is drawn, of one that lies before its place, and of one that does not. Assumes nothing.
 use borrow.Author.Needs.{needs}
-use Rattle.settle.proofs.line_up.Statement.{statement}
-use Rattle.settle.proofs.line_up.Tie as tie
+use Rattle.in_place.proofs.line_up.Statement.{statement}
+use Rattle.in_place.proofs.line_up.Tie as tie
 use native.Mathlib.Omega.{arith}
 use mathlib.Core.Path.{sym, _∙_}
 use Prim.Native.Nat.{_/_}
 use lib.ListN.{length}
 use Rattle.tables.specs.View.{part}
 use Rattle.tables.specs.Formed.{Span}
-use Rattle.settle.proofs.Moves.{lies-drawn, up-none, up-drawn, up-stays, up-moved}
+use Rattle.in_place.proofs.Moves.{lies-drawn, up-none, up-drawn, up-stays, up-moved}
 
 abbrev line : tie.Start → Span
 line s = record { start = s .args .start; size = s .args .size }

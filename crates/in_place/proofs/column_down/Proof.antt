@@ -1,7 +1,7 @@
--- `settle::column_down` meets its contract. The invariant: what becomes of the column's lines is what becomes of those of the rows from i on, from the place as it is.
+-- `in_place::column_down` meets its contract. The invariant: what becomes of the column's lines is what becomes of those of the rows from i on, from the place as it is.
 -- The measure is how many rows are left. Assumes nothing.
-use Rattle.settle.proofs.column_down.Statement.{statement}
-use Rattle.settle.proofs.column_down.Tie as tie
+use Rattle.in_place.proofs.column_down.Statement.{statement}
+use Rattle.in_place.proofs.column_down.Tie as tie
 use mathlib.Core.Path.{_≡_, ap, _∙_}
 use mathlib.Core.Bool.{true}
 use mathlib.Core.Logic.{⊎-elim}
@@ -17,8 +17,8 @@ use Rattle.apart.proofs.Marks.{counted-facts, row-in}
 use Rattle.layout.specs.Layout.{Column}
 use Rattle.order.specs.Order.{columnOf}
 use Rattle.order.proofs.Walk.{linesFrom, lineHere, from-start, all-from, from-with, from-without}
-use Rattle.settle.specs.Settle.{lies}
-use Rattle.settle.proofs.Walks.{Down, down-start, down-room, down-with, down-without, down-done}
+use Rattle.in_place.specs.Settle.{lies}
+use Rattle.in_place.proofs.Walks.{Down, down-start, down-room, down-with, down-without, down-done}
 
 abbrev Inv-loop : tie.InvT-loop
 Inv-loop t stride offset marked reach coordinates₀ at n place₀ i₀ coordinates place i = (i ≤ n) × Down (columnOf stride offset marked) t reach coordinates₀ at n i coordinates place

@@ -16,7 +16,7 @@ use Rattle.apart.proofs.Marks.{counted-more}
 use Rattle.layout.specs.Layout.{lineFloats, pointsIn, columnLines, laidFrom, pointing, lineTables, boundaryLines, centerlines, stopLines, leftEdges, rightEdges}
 use Rattle.layout.proofs.Column.{total-append}
 use Rattle.layout.proofs.Stages.{spans-columns, counts, all-gathered}
-use Rattle.settle.specs.Settle.{downOne, downAll, upOne, upAll, started, lies, Walked, Movable, Placed}
+use Rattle.in_place.specs.Settle.{downOne, downAll, upOne, upAll, started, lies, Walked, Movable, Placed}
 
 -- ---- lines behind lines
 

@@ -18,9 +18,9 @@ use Rattle.apart.specs.Marks.{within}
 use Rattle.apart.proofs.Marks.{within-end}
 use Rattle.layout.specs.Layout.{lineFloats, pointsIn, countedLines, gathered, sourced, pointing, lineTables}
 use Rattle.order.specs.Order.{behindAll}
-use Rattle.settle.specs.Settle.{downAll, upAll, started, lies, Movable, Placed, Settleable}
-use Rattle.settle.proofs.Moves.{lies-cases, length-sourced}
-use Rattle.settle.proofs.Settled.{Loose, Stored, line-cases, first-any, first-stored, Settles, settled}
+use Rattle.in_place.specs.Settle.{downAll, upAll, started, lies, Movable, Placed, Settleable}
+use Rattle.in_place.proofs.Moves.{lies-cases, length-sourced}
+use Rattle.in_place.proofs.Settled.{Loose, Stored, line-cases, first-any, first-stored, Settles, settled}
 
 -- ---- lines in order lie
 

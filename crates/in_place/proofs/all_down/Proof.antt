@@ -1,6 +1,6 @@
--- `settle::all_down` meets its contract: column by column. Assumes nothing.
-use Rattle.settle.proofs.all_down.Statement.{statement}
-use Rattle.settle.proofs.all_down.Tie as tie
+-- `in_place::all_down` meets its contract: column by column. Assumes nothing.
+use Rattle.in_place.proofs.all_down.Statement.{statement}
+use Rattle.in_place.proofs.all_down.Tie as tie
 use mathlib.Core.Path.{refl, _∙_}
 use mathlib.Core.List.{[]}
 use native.Mathlib.Omega.{arith}
@@ -8,7 +8,7 @@ use Prim.Native.Nat.{_+_}
 use Rattle.tables.specs.View.{Tables}
 use Rattle.tables.specs.Formed.{spans}
 use Rattle.layout.specs.Layout.{pointsIn, columnLines, lineTables, boundaryLines, centerlines, stopLines, leftEdges, rightEdges}
-use Rattle.settle.proofs.Columns.{movable, columns-points, columns-walked, columns-down}
+use Rattle.in_place.proofs.Columns.{movable, columns-points, columns-walked, columns-down}
 
 abbrev tables : tie.Start → Tables
 tables s = lineTables (s .args .lanes .now) (s .args .boundaries .now) (s .args .stop-lines .now) (s .args .crosswalks .now) []

@@ -1,7 +1,7 @@
--- `settle::all_starts` meets its contract: column by column. Assumes nothing.
+-- `in_place::all_starts` meets its contract: column by column. Assumes nothing.
 use borrow.Author.Needs.{needs}
-use Rattle.settle.proofs.all_starts.Statement.{statement}
-use Rattle.settle.proofs.all_starts.Tie as tie
+use Rattle.in_place.proofs.all_starts.Statement.{statement}
+use Rattle.in_place.proofs.all_starts.Tie as tie
 use mathlib.Core.Path.{ap}
 use mathlib.Core.List.{[]}
 use native.Mathlib.Omega.{arith}
@@ -9,7 +9,7 @@ use Rattle.tables.specs.View.{Tables}
 use Rattle.layout.specs.Layout.{pointsIn, lineTables}
 use Rattle.layout.proofs.Stages.{counts, rights-ready}
 use Rattle.apart.proofs.Marks.{counted-more}
-use Rattle.settle.proofs.Columns.{columns-points, columns-started}
+use Rattle.in_place.proofs.Columns.{columns-points, columns-started}
 
 abbrev tables : tie.Start → Tables
 tables s = lineTables (s .args .lanes .now) (s .args .boundaries .now) (s .args .stop-lines .now) (s .args .crosswalks .now) []

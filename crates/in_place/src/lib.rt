@@ -9,7 +9,7 @@ ghost use Rattle.lists.specs.Rows.{over};
 ghost use Rattle.tables.specs.Formed.{spans, counted};
 ghost use Rattle.layout.specs.Layout as L;
 ghost use Rattle.order.specs.Order.{columnOf, least};
-ghost use Rattle.settle.specs.Settle as D;
+ghost use Rattle.in_place.specs.Settle as D;
 use order::has_line;
 use tables::BOUNDARY;
 use tables::BOUNDARY_START;

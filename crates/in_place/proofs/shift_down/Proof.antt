@@ -1,6 +1,6 @@
--- `settle::shift_down` meets its contract. The invariant: the first i floats are moved, and nothing else has changed. The measure is how many are left. Assumes nothing.
-use Rattle.settle.proofs.shift_down.Statement.{statement}
-use Rattle.settle.proofs.shift_down.Tie as tie
+-- `in_place::shift_down` meets its contract. The invariant: the first i floats are moved, and nothing else has changed. The measure is how many are left. Assumes nothing.
+use Rattle.in_place.proofs.shift_down.Statement.{statement}
+use Rattle.in_place.proofs.shift_down.Tie as tie
 use mathlib.Core.Path.{_≡_, refl, _∙_, ap}
 use native.Mathlib.Omega.{arith}
 use Prim.Native.Nat.{ℕ, _-_, _≤_}
@@ -8,7 +8,7 @@ use lib.ListN.{length, take, drop, length-set}
 use lib.Ieee.{nan}
 use Rattle.lists.specs.Rows.{over}
 use Rattle.layout.proofs.Laws.{copy-start}
-use Rattle.settle.proofs.Shifts.{down-step}
+use Rattle.in_place.proofs.Shifts.{down-step}
 
 abbrev Inv-loop : tie.InvT-loop
 Inv-loop c₀ start n at i₀ c i = (i ≤ n) × ((length c ≡ length c₀) × (c ≡ over c₀ at (take i (drop start c₀))))

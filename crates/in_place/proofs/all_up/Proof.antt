@@ -1,6 +1,6 @@
--- `settle::all_up` meets its contract: column by column, the last first. Assumes nothing.
-use Rattle.settle.proofs.all_up.Statement.{statement}
-use Rattle.settle.proofs.all_up.Tie as tie
+-- `in_place::all_up` meets its contract: column by column, the last first. Assumes nothing.
+use Rattle.in_place.proofs.all_up.Statement.{statement}
+use Rattle.in_place.proofs.all_up.Tie as tie
 use mathlib.Core.Path.{refl, _∙_}
 use mathlib.Core.List.{[]}
 use native.Mathlib.Omega.{arith}
@@ -8,7 +8,7 @@ use Prim.Native.Nat.{_/_}
 use lib.ListN.{length}
 use Rattle.tables.specs.View.{Tables}
 use Rattle.layout.specs.Layout.{lineTables}
-use Rattle.settle.proofs.Columns.{movable, columns-points, columns-walked, columns-up}
+use Rattle.in_place.proofs.Columns.{movable, columns-points, columns-walked, columns-up}
 
 abbrev tables : tie.Start → Tables
 tables s = lineTables (s .args .lanes .now) (s .args .boundaries .now) (s .args .stop-lines .now) (s .args .crosswalks .now) []

@@ -9,7 +9,7 @@ use Rattle.tables.specs.View.{word}
 use Rattle.tables.specs.Formed.{Span}
 use Rattle.layout.specs.Layout.{Column, columnLines, pointsIn}
 use Rattle.order.proofs.Walk.{linesFrom, from-start, from-end}
-use Rattle.settle.specs.Settle.{downOne, downAll, upOne, upAll}
+use Rattle.in_place.specs.Settle.{downOne, downAll, upOne, upAll}
 
 points-more : (s : Span) (ss : List Span) → pointsIn (s ∷ ss) ≡ s .size + pointsIn ss
 unfolding pointsIn

@@ -1,9 +1,9 @@
--- `settle::settle` meets its contract: down, up, then the rows. Assumes nothing.
+-- `in_place::settle` meets its contract: down, up, then the rows. Assumes nothing.
 use borrow.Author.Needs.{needs}
-use Rattle.settle.proofs.settle.Statement.{statement}
-use Rattle.settle.proofs.settle.Tie as tie
+use Rattle.in_place.proofs.settle.Statement.{statement}
+use Rattle.in_place.proofs.settle.Tie as tie
 use native.Mathlib.Omega.{arith}
-use Rattle.settle.proofs.Whole.{placed-down, placed-up, movable-down, movable-up, points-room, settled-tables}
+use Rattle.in_place.proofs.Whole.{placed-down, placed-up, movable-down, movable-up, points-room, settled-tables}
 
 all-down-requires : tie.Need-all-down-requires
 all-down-requires c κs = let s = c .before .before .before .before .before .before .before .before .before .before .before in (placed-down (s .args .reach) (s .args .drawn .now) (s .args .lanes .now) (s .args .boundaries .now) (s .args .stop-lines .now) (s .args .crosswalks .now) (s .args .coordinates .now) (s .pre), movable-down (s .args .reach) (s .args .drawn .now) (s .args .lanes .now) (s .args .boundaries .now) (s .args .stop-lines .now) (s .args .crosswalks .now) (s .args .coordinates .now) (s .pre))

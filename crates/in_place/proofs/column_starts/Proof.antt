@@ -1,7 +1,7 @@
--- `settle::column_starts` meets its contract. The invariant: what becomes of the table is what becomes of its rows from i on, from the place as it is.
+-- `in_place::column_starts` meets its contract. The invariant: what becomes of the table is what becomes of its rows from i on, from the place as it is.
 -- The measure is how many rows are left. Assumes nothing.
-use Rattle.settle.proofs.column_starts.Statement.{statement}
-use Rattle.settle.proofs.column_starts.Tie as tie
+use Rattle.in_place.proofs.column_starts.Statement.{statement}
+use Rattle.in_place.proofs.column_starts.Tie as tie
 use mathlib.Core.Logic.{⊎-elim}
 use native.Mathlib.Omega.{arith}
 use Prim.Native.Nat.{_+_, _-_, _*_, _≤_}
@@ -10,7 +10,7 @@ use Rattle.tables.specs.View.{word}
 use Rattle.apart.proofs.Marks.{counted-facts}
 use Rattle.layout.specs.Layout.{Column}
 use Rattle.order.specs.Order.{columnOf}
-use Rattle.settle.proofs.Starts.{Starts, starts-start, starts-in, line-fits, starts-line, starts-none, starts-done}
+use Rattle.in_place.proofs.Starts.{Starts, starts-start, starts-in, line-fits, starts-line, starts-none, starts-done}
 
 abbrev Inv-loop : tie.InvT-loop
 Inv-loop t₀ stride offset marked at n place₀ i₀ t place i = (i ≤ n) × Starts (columnOf stride offset marked) t₀ at (n - i) (1 + i * stride) t place

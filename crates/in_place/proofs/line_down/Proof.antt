@@ -1,12 +1,12 @@
--- `settle::line_down` meets its contract: of a line with no point, of one that is drawn, of one that lies behind its place, and of one that does not. Assumes nothing.
+-- `in_place::line_down` meets its contract: of a line with no point, of one that is drawn, of one that lies behind its place, and of one that does not. Assumes nothing.
 use borrow.Author.Needs.{needs}
-use Rattle.settle.proofs.line_down.Statement.{statement}
-use Rattle.settle.proofs.line_down.Tie as tie
+use Rattle.in_place.proofs.line_down.Statement.{statement}
+use Rattle.in_place.proofs.line_down.Tie as tie
 use native.Mathlib.Omega.{arith}
 use mathlib.Core.Path.{sym, _∙_}
 use Rattle.tables.specs.View.{part}
 use Rattle.tables.specs.Formed.{Span}
-use Rattle.settle.proofs.Moves.{lies-stored, down-none, down-drawn, down-stays, down-moved}
+use Rattle.in_place.proofs.Moves.{lies-stored, down-none, down-drawn, down-stays, down-moved}
 
 abbrev line : tie.Start → Span
 line s = record { start = s .args .start; size = s .args .size }
