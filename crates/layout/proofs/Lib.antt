@@ -16,3 +16,4 @@ pub mod Gathers
 pub mod Lines
 pub mod Standing
 pub mod Exact
+pub mod PlainLane
