@@ -70,9 +70,10 @@ ordered-clear reach from (s ∷ ss) w h =
         stored : Stored reach s → Clear reach from (s ∷ ss)
         stored e =
             let f = first-stored reach from s ss (e .0) (e .1) h in
-            let r = next (s .start + s .size) (f .1 .1) in
-            (all-cons (startsAt from) s ss (or-right (eqb (s .size) 0) (leb from (s .start)) (le-leb from (s .start) (f .0))) (starts-later from (s .start + s .size) ss (omega (arith, f .0)) (r .0)),
-            and-both (all (clear s) ss) (allClear ss) (clear-before s ss (r .0)) (r .1))
+            let r = next (s .start + s .size) (f .1 .1) in (
+              all-cons (startsAt from) s ss (or-right (eqb (s .size) 0) (leb from (s .start)) (le-leb from (s .start) (f .0))) (starts-later from (s .start + s .size) ss (omega (arith, f .0)) (r .0)),
+              and-both (all (clear s) ss) (allClear ss) (clear-before s ss (r .0)) (r .1),
+            )
 
 -- ---- the lines of tables
 
@@ -89,9 +90,10 @@ module _ (lanes boundaries stops crosswalks : List ℕ) (h : takeable 65536 lane
       let b = counted 4096 5 boundaries in
       let c = counted 512 4 stops in
       let d = counted 128 7 crosswalks in
-      let r = and-fst (c && d) (all (within 65536) (restSpans stops crosswalks)) (f .1 .1 .1) in
-      (and-both (a && b && c) d (and-both (a && b) c (and-both a b (f .0) (f .1 .0)) (and-fst c d r)) (and-snd c d r),
-      ap (all (within 131072)) (spans-lines tables) ∙ all-weaken (within 65536) (within 131072) (lineSpans lanes boundaries stops crosswalks) (within-more 65536 131072 (omega arith)) (f .1 .1 .0))
+      let r = and-fst (c && d) (all (within 65536) (restSpans stops crosswalks)) (f .1 .1 .1) in (
+        and-both (a && b && c) d (and-both (a && b) c (and-both a b (f .0) (f .1 .0)) (and-fst c d r)) (and-snd c d r),
+        ap (all (within 131072)) (spans-lines tables) ∙ all-weaken (within 65536) (within 131072) (lineSpans lanes boundaries stops crosswalks) (within-more 65536 131072 (omega arith)) (f .1 .1 .0),
+      )
 
   -- lines in order are clear of one another
   pub order-clears : (r : Bool) → r ≡ inOrder 65536 (spans tables) → r ≡ true → true ≡ allClear (lineSpans lanes boundaries stops crosswalks)

@@ -1,11 +1,11 @@
-// edit/merge.rs: the tables with lines after a merge: lines drawn by `merge_redraw`, rows written by `merge_rows`, all brought to their places by `in_place` or `layout`.
+// edit/merge.rs: the tables with lines after a merge: lines drawn by `merge_redraw`, rows written by `merge_rows`, all brought to their places by `in_place` or `gathers`.
 ghost use mathlib.Core.Path.{_≡_};
 ghost use lib.ListN.{length};
 ghost use Rattle.layout.specs.Layout as L;
 ghost use Rattle.in_place.specs.Settle.{Layable};
 ghost use Rattle.merge_redraw.specs.Relaying as W;
 use entities::Side;
-use layout::SMALL_POINTS;
+use gathers::SMALL_POINTS;
 use merge_plan::Plan;
 use merge_plan::side_points;
 
@@ -26,7 +26,7 @@ fn lay_out(
     ensures { λ _. ⌜ L.lineTables (now (lanes .exit)) (now (boundaries .exit)) (now («stop_lines» .exit)) (now (crosswalks .exit)) (now (coordinates .exit)) ≡ L.gathered (L.sourced reach (now (coordinates .entry)) (now (drawn .entry))) (L.lineTables (now (lanes .entry)) (now (boundaries .entry)) (now («stop_lines» .entry)) (now (crosswalks .entry)) (now (coordinates .entry))) ⌝ }
 {
     if reach <= SMALL_POINTS {
-        layout::gather_small(
+        gathers::gather_small(
             lanes,
             boundaries,
             stop_lines,
@@ -49,7 +49,7 @@ fn lay_out(
         );
         return;
     }
-    layout::gather_apart(
+    gathers::gather_apart(
         lanes,
         boundaries,
         stop_lines,

@@ -1,10 +1,10 @@
--- `layout::gather_in` meets its contract: up to `reach` the copy is the coordinates. Assumes nothing.
+-- `gathers::gather_in` meets its contract: up to `reach` the copy is the coordinates. Assumes nothing.
 use borrow.Author.Needs.{needs}
-use Rattle.layout.proofs.gather_in.Statement.{statement}
-use Rattle.layout.proofs.gather_in.Tie as tie
+use Rattle.gathers.proofs.gather_in.Statement.{statement}
+use Rattle.gathers.proofs.gather_in.Tie as tie
 use native.Mathlib.Omega.{arith}
 use Rattle.layout.proofs.Sourced.{sourced-copy, gathered-from}
 use Rattle.layout.specs.Layout.{sourced, lineTables}
 
 mul-copy : tie.Need-mul-copy
 mul-copy c = search needs
