@@ -73,8 +73,7 @@ module _ (anchored : Bool) (past : List Bool) (next : ℕ) (cut w : List ℕ) (r
     kept f v u k j e h i n m =
         let r : k + 1 + length (f (idsAt k v)) ≤ length v = omega arith in
         let a : word j u ≡ word j v = ap (word j) e ∙ word-behind f v k r j (omega arith) in
-        let b : idsAt j u ≡ idsAt j v = ap (idsAt j) e ∙ ids-behind f v k r j (omega arith) in
-        (
+        let b : idsAt j u ≡ idsAt j v = ap (idsAt j) e ∙ ids-behind f v k r j (omega arith) in (
           ap (λ x. leb x 64 && leb (length (gains (idsAt j u))) 64) a ∙ ap (λ x. leb (word j v) 64 && leb (length (gains x)) 64) b,
           ap length e ∙ (change-length f v k r ∙ n),
         )

@@ -2,11 +2,11 @@
 -- past the cut of the lane there. Nothing that a host calls rests on this page; the laws of split_named tie it to the rules.
 use mathlib.Core.Path.{_≡_}
 use Prim.Native.Nat.{ℕ, zero, suc, _+_, _*_, _≤_}
-use mathlib.Core.Bool.{Bool, true, false, _&&_, cond}
+use mathlib.Core.Bool.{Bool, true, false, _&&_, _||_, cond}
 use mathlib.Core.List.{List, [], _∷_, _++_}
 use lib.Dec.{eqb, leb}
 use lib.ListN.{length, getD, take, drop}
-use Rattle.lists.specs.Select.{has, insert-after, numbered}
+use Rattle.lists.specs.Select.{any, has, insert-after, numbered}
 use Rattle.rules.specs.Limits.{maxIds, maxRules, rightOfWay}
 use Rattle.rules.specs.Split.{swapFirst}
 use Rattle.tables.specs.View.{word, idsAt}
@@ -55,6 +55,18 @@ onNumbered s g t = word rowCount t ∷ mapNumbered s g 0 (word rowCount t) (drop
 -- the table of rules
 abbrev pub rulesFollow : List Bool → List Bool → ℕ → List ℕ → List ℕ → List ℕ
 rulesFollow anchored past next cut t = onNumbered ruleWords (λ i w. ruleFollows (getD anchored i false) (marksOf past i) next cut w) t
+
+-- ---- which rules differ
+
+-- some cut lane stands in the list and changes it: where there is an anchor, the mark of its first place says so
+abbrev pub ownDiffer : Bool → List Bool → List ℕ → List ℕ → Bool
+ownDiffer anchored past cut ids = any (λ i. has i ids && cond anchored (getD past (firstPlace i ids) false) true) cut
+
+-- a rule's row: its own lanes, and of a right of way those that have priority and those that yield
+abbrev pub rowDiffers : Bool → List Bool → List ℕ → List ℕ → Bool
+rowDiffers anchored past cut w =
+    ownDiffer anchored past cut (idsAt ruleLanesAt w)
+    || (eqb (word ruleKind w) rightOfWay && (any (λ i. has i cut) (idsAt rulePriorityAt w) || any (λ i. has i cut) (idsAt ruleYieldingAt w)))
 
 -- ---- what is asked
 
