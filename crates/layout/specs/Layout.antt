@@ -101,6 +101,10 @@ gathered work t =
 unfoldable pub laidOut : Tables → Tables
 laidOut t = gathered (t .coordinates) t
 
+-- Coordinates up to point `reach`, and behind them the lines that an edit has drawn: what rows point into before a layout.
+abbrev pub sourced : ℕ → List Float → List Float → List Float
+sourced reach c drawn = take (reach * 3) c ++ drawn
+
 -- the same rows, pointing into other coordinates
 abbrev pub pointing : List Float → Tables → Tables
 pointing c t =
