@@ -173,14 +173,7 @@ fn put_halves(
 }
 
 // Every row that is counted.
-fn cut_rows(
-    t: &mut [u64],
-    pieces: &[u64],
-    m: usize,
-    cut: &[u64],
-    next: u64,
-    centers: &[u64],
-)
+fn cut_rows(t: &mut [u64], pieces: &[u64], m: usize, cut: &[u64], next: u64, centers: &[u64])
     requires { ⌜ (H.Halved (now pieces) m (now cut) next (now centers)) × ((counted 1024 52 (now t) ≡ true) × D.RowsCut next (now t)) ⌝ }
     ensures { λ _. ⌜ now (t .exit) ≡ onRows 52 (H.laneCut (now (pieces .entry)) m (now (cut .entry)) next (now (centers .entry))) (now (t .entry)) ⌝ }
 {
