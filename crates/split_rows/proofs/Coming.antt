@@ -231,3 +231,14 @@ module _ (cut : List ℕ) (next : ℕ) (w s : List ℕ) (f : Cuts next cut) (r :
         ∙ (over-over w 19 (19 + left) a b (omega (arith, q)) (omega (arith, coming-all, c .upto, few, r .words))
         ∙ (over-kept w 18 (a ++ b) 0 (omega (arith, n, few, r .words))
         ∙ (ap (λ k. over w 18 (k ∷ (a ++ b))) (sym n) ∙ sym (ap (λ u. over w 18 (length u ∷ u)) (came-from next cut ids (r .ascend) (f .ascend)))))))
+
+-- the row keeps its length
+pub came-long : (cut : List ℕ) (next : ℕ) (w : List ℕ) → Cuts next cut → RowCame w → length (cameRow cut next w) ≡ 52
+unfolding setList
+came-long cut next w f r =
+    let ids = idsAt 18 w in
+    let bs = cameFrom (numbered next cut) ids in
+    let n : length bs ≡ length ids =
+    ap length (came-from next cut ids (r .ascend) (f .ascend)) ∙ (length-append (uncutOf cut ids) (secondsOf next cut ids) ∙ came-many next cut ids) in
+    let m : length ids ≡ word 18 w = ids-many w 18 (omega (arith, r .words, r .few)) in
+    length-over w 18 (length bs ∷ bs) (omega (arith, n, m, r .words, r .few)) ∙ r .words

@@ -24,8 +24,9 @@ use Rattle.store.specs.Rows.{slotWords, setSlot, setList}
 use Rattle.store.proofs.Lists.{ids-many}
 use Rattle.store.proofs.Turns.{drop-behind}
 use Rattle.store.proofs.Marks.{lane-marks}
-use Rattle.split_rows.specs.Halves.{halfRef, centerOnto, firstStart, firstSize, secondSize, firstRow, headRow, secondRow, Halved, RowCuts, RowCame, rowCut, laneCut, cameRow}
+use Rattle.split_rows.specs.Halves.{halfRef, centerOnto, firstStart, firstSize, secondSize, firstRow, headRow, secondRow, Halved, RowCuts, RowCame, rowCut, laneCut, cameRow, Cuts}
 use Rattle.split_rows.proofs.Rows.{center-long, head-long}
+use Rattle.split_rows.proofs.Coming.{came-long}
 
 -- ---- rows that agree from a place on
 
@@ -240,6 +241,19 @@ module _ (pieces : List ℕ) (m : ℕ) (cut : List ℕ) (next : ℕ) (centers : 
                   ∙ ap (centerOnto (mark 6 v) (firstStart centers rank + firstSize centers rank) (secondSize centers rank))
                   (ae ∙ (ap (λ n. headRow (next + rank) n y v w) xe ∙ ap (λ n. headRow (next + rank) (halfRef pieces m true (word 2 v) (mark 3 v)) n v w) ye)))))))
 
+  pub second-long : length (secondRow pieces m cut next centers rank v w) ≡ 52
+  second-long =
+      let x = halfRef pieces m true (word 2 v) (mark 3 v) in
+      let y = halfRef pieces m true (word 4 v) (mark 5 v) in
+      let a = headRow (next + rank) x y v w in
+      let p = centerOnto (mark 6 v) (firstStart centers rank + firstSize centers rank) (secondSize centers rank) a in
+      let q = setSlot 14 (secondSlot ss (slotAt 14 v)) p in
+      let u = setSlot 16 (secondSlot ss (slotAt 16 v)) q in
+      let z = setList 18 (word 0 v ∷ []) u in
+      let ids = idsAt 35 v in
+      ap length (sym (second-written x refl y refl a refl p refl q refl u refl z refl ids refl (setList 35 ids z) refl))
+      ∙ (list-long z ids 35 (after-asks x refl y refl a refl p refl q refl u refl z refl ids refl) ∙ before-long x refl y refl a refl p refl q refl u refl z refl)
+
 -- ---- any lane's row
 
 module _ (pieces : List ℕ) (m : ℕ) (cut : List ℕ) (next : ℕ) (centers : List ℕ) (w : List ℕ) (f : RowCuts next w) where
@@ -278,3 +292,10 @@ module _ (pieces : List ℕ) (m : ℕ) (cut : List ℕ) (next : ℕ) (centers : 
 
     pub cut-other : r ≡ Nothing → (v : List ℕ) → v ≡ w → (z : List ℕ) → z ≡ cameRow cut next v → z ≡ laneCut pieces m cut next centers w
     cut-other t v d z q = q ∙ (ap (cameRow cut next) d ∙ sym (ap (λ n. rowCut pieces m cut next centers n w) (one-found (word 0 w) cut r e ∙ t)))
+
+  pub lane-long : Cuts next cut → length (laneCut pieces m cut next centers w) ≡ 52
+  lane-long a = go (rowWith (word 0 w) cut)
+    where
+      go : (r : Found) → length (rowCut pieces m cut next centers r w) ≡ 52
+      go (At rank) = came-long cut next (firstRow pieces m cut next centers rank w) a (half-asks rank (firstRow pieces m cut next centers rank w) refl)
+      go Nothing = came-long cut next w a came-asks
