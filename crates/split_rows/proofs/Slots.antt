@@ -70,16 +70,15 @@ module _ (cut : List ℕ) (next : ℕ) (i : ℕ) where
   abbrev hs : List (ℕ × ℕ)
   hs = numbered next cut
 
-  module _ (r : Found) (e : rowWith i cut ≡ r) where
-    number : secondOf hs i ≡ numberAt next r
-    number = second-numbered next i cut ∙ ap (numberAt next) e
+  number : (r : Found) → rowWith i cut ≡ r → secondOf hs i ≡ numberAt next r
+  number r e = second-numbered next i cut ∙ ap (numberAt next) e
 
-    first-same : firstSlot hs (some (same i)) ≡ some (same i)
-    first-same = go (secondOf hs i)
-      where
-        go : (o : Option ℕ) → elim o as (λ _. Option Neighbor) [ none ↦ some (same i) | some j ↦ some (same i) ] ≡ some (same i)
-        go none = refl
-        go (some j) = refl
+  first-same : firstSlot hs (some (same i)) ≡ some (same i)
+  first-same = go (secondOf hs i)
+    where
+      go : (o : Option ℕ) → elim o as (λ _. Option Neighbor) [ none ↦ some (same i) | some j ↦ some (same i) ] ≡ some (same i)
+      go none = refl
+      go (some j) = refl
 
   first-cut : (k : ℕ) → rowWith i cut ≡ At k → firstSlot hs (some (opposing i)) ≡ some (opposing (next + k))
   first-cut k t = ap (λ o. elim o as (λ _. Option Neighbor) [ none ↦ some (opposing i) | some j ↦ some (opposing j) ]) (number (At k) t)
@@ -110,7 +109,7 @@ module _ (w : List ℕ) (k : ℕ) (cut : List ℕ) (next : ℕ) (h : k + 2 ≤ l
     where
       go : (x : ℕ) → word k w ≡ x → w ≡ firstIn
       go zero z = unfold setSlot in rw (reads-none w k z) (sym (slot-way w k h z))
-      go (suc zero) z = unfold setSlot in rw (reads-same w k z, first-same cut next (word (suc k) w) (rowWith (word (suc k) w) cut) refl) (slot-own w k h 1 z)
+      go (suc zero) z = unfold setSlot in rw (reads-same w k z, first-same cut next (word (suc k) w)) (slot-own w k h 1 z)
       go (suc (suc x)) z = absurd (n (omega arith))
 
   -- an opposite neighbour that is cut is the second half
