@@ -13,6 +13,7 @@ use Rattle.lists.specs.Select.{ascending, numbered}
 use Rattle.lists.specs.declared.Found.{Found}
 use Rattle.lists.specs.declared.Found.the-variants.{At, Nothing}
 use Rattle.rules.specs.Split.{firstSlot, secondSlot, cameFrom}
+use Rattle.rules.specs.Limits.{maxLinks}
 use Rattle.tables.specs.View.{word, mark, idsAt, slotAt}
 use Rattle.tables.specs.Formed.{laneFormed}
 use Rattle.tables.specs.Columns.{laneAttributes, laneCenterline, laneCenterlineStart, laneKind, laneLeft, laneLeftReversed, laneOneWay, laneRight, laneRightReversed, laneSpeed, laneSpeedBits, laneTurn, laneWords, leftSlot, predecessorsAt, rightSlot, rowId, successorsAt}
@@ -112,3 +113,9 @@ pub record RowCuts (next : ℕ) (w : List ℕ) : Type 0 where
   pub formed : laneFormed w ≡ true
   pub ascend : ascending (idsAt predecessorsAt w) ≡ true
   pub below : all (λ i. leb (1 + i) next) (idsAt predecessorsAt w) ≡ true
+
+-- of a row whose predecessors change: it holds them, and they ascend
+pub record RowCame (w : List ℕ) : Type 0 where
+  pub words : length w ≡ laneWords
+  pub few : word predecessorsAt w ≤ maxLinks
+  pub ascend : ascending (idsAt predecessorsAt w) ≡ true

@@ -113,7 +113,7 @@ fn second_slot(row: &mut [u64], old: &[u64], k: usize, cut: &[u64], next: u64)
 
 // Who came from a cut lane comes from its second half. New ids are larger, so they come last.
 fn come_from(row: &mut [u64], cut: &[u64], next: u64)
-    requires { ⌜ (D.Cuts next (now cut)) × (D.RowCuts next (now row)) ⌝ }
+    requires { ⌜ (D.Cuts next (now cut)) × (D.RowCame (now row)) ⌝ }
     ensures { λ _. ⌜ now (row .exit) ≡ D.cameRow (now (cut .entry)) next (now (row .entry)) ⌝ }
 {
     let n = row[PREDECESSORS] as usize;
@@ -253,14 +253,7 @@ pub fn second_half(
 }
 
 // Any lane's row after the split.
-pub fn cut_row(
-    row: &mut [u64],
-    pieces: &[u64],
-    m: usize,
-    cut: &[u64],
-    next: u64,
-    centers: &[u64],
-)
+pub fn cut_row(row: &mut [u64], pieces: &[u64], m: usize, cut: &[u64], next: u64, centers: &[u64])
     requires { ⌜ (D.Halved (now pieces) m (now cut) next (now centers)) × (D.RowCuts next (now row)) ⌝ }
     ensures { λ _. ⌜ now (row .exit) ≡ D.laneCut (now (pieces .entry)) m (now (cut .entry)) next (now (centers .entry)) (now (row .entry)) ⌝ }
 {

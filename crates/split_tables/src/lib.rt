@@ -12,7 +12,7 @@ ghost use Rattle.tables.specs.Formed.{counted, laneFormed};
 ghost use Rattle.store.specs.Rows.{onRows, appendedRows};
 ghost use Rattle.lookup.specs.Lookup.{rowAt};
 ghost use Rattle.merge_draw.specs.Redrawing.{asGiven};
-ghost use Rattle.split_rows.specs.Halves as H;
+ghost use Rattle.split_rows.specs.Halves as W;
 ghost use Rattle.split_tables.specs.Cut as D;
 use lists::Found;
 use tables::BOUNDARY;
@@ -126,8 +126,8 @@ fn put_half(
     centers: &[u64],
     rank: usize,
 )
-    requires { ⌜ (H.Halved (now pieces) m (now cut) next (now centers)) × ((rank < length (now cut)) × ((i < at) × ((1 + at * 52 + 52 ≤ length (now t)) × (laneFormed (rowAt 52 (now t) i) ≡ true)))) ⌝ }
-    ensures { λ _. ⌜ now (t .exit) ≡ over (now (t .entry)) (1 + at * 52) (H.secondRow (now (pieces .entry)) m (now (cut .entry)) next (now (centers .entry)) rank (rowAt 52 (now (t .entry)) i) (rowAt 52 (now (t .entry)) at)) ⌝ }
+    requires { ⌜ (W.Halved (now pieces) m (now cut) next (now centers)) × ((rank < length (now cut)) × ((i < at) × ((1 + at * 52 + 52 ≤ length (now t)) × (laneFormed (rowAt 52 (now t) i) ≡ true)))) ⌝ }
+    ensures { λ _. ⌜ now (t .exit) ≡ over (now (t .entry)) (1 + at * 52) (W.secondRow (now (pieces .entry)) m (now (cut .entry)) next (now (centers .entry)) rank (rowAt 52 (now (t .entry)) i) (rowAt 52 (now (t .entry)) at)) ⌝ }
 {
     let from = 1 + i * LANE;
     let to = from + LANE;
@@ -173,16 +173,9 @@ fn put_halves(
 }
 
 // Every row that is counted.
-fn cut_rows(
-    t: &mut [u64],
-    pieces: &[u64],
-    m: usize,
-    cut: &[u64],
-    next: u64,
-    centers: &[u64],
-)
-    requires { ⌜ (H.Halved (now pieces) m (now cut) next (now centers)) × ((counted 1024 52 (now t) ≡ true) × D.RowsCut next (now t)) ⌝ }
-    ensures { λ _. ⌜ now (t .exit) ≡ onRows 52 (H.laneCut (now (pieces .entry)) m (now (cut .entry)) next (now (centers .entry))) (now (t .entry)) ⌝ }
+fn cut_rows(t: &mut [u64], pieces: &[u64], m: usize, cut: &[u64], next: u64, centers: &[u64])
+    requires { ⌜ (W.Halved (now pieces) m (now cut) next (now centers)) × ((counted 1024 52 (now t) ≡ true) × D.RowsCut next (now t)) ⌝ }
+    ensures { λ _. ⌜ now (t .exit) ≡ onRows 52 (W.laneCut (now (pieces .entry)) m (now (cut .entry)) next (now (centers .entry))) (now (t .entry)) ⌝ }
 {
     let n = t[0] as usize;
     let mut i = 0;
