@@ -1,0 +1,4 @@
+pub mod Behind
+pub mod Pieces
+pub mod Adding
+pub mod Halving
