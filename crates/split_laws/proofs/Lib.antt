@@ -2,3 +2,4 @@ pub mod Chosen
 pub mod ByRows
 pub mod Whole
 pub mod Pieces
+pub mod Few

@@ -1,6 +1,6 @@
 -- The ids and rows of pieces, one marked boundary behind the other. Assumes nothing.
 use mathlib.Core.Path.{_≡_, refl, sym, ap, _∙_}
-use Prim.Native.Nat.{ℕ, suc, _+_, _*_, _^_, _≤_, _<_}
+use Prim.Native.Nat.{ℕ, zero, suc, _+_, _*_, _^_, _≤_, _<_}
 use native.Mathlib.Omega.{arith}
 use mathlib.Core.Bool.{Bool, true, false}
 use mathlib.Core.List.{List, [], _∷_, _++_}
@@ -31,6 +31,15 @@ few-ids true = omega arith
 few-ids false = omega arith
 
 -- ---- all of them
+
+-- those of a list's front are no more than all
+picked-front : {A : Type 0} (bs : List Bool) (n : ℕ) (xs : List A) → length (picked bs (take n xs)) ≤ length (picked bs xs)
+unfolding picked
+picked-front [] n xs = omega arith
+picked-front (b ∷ bs) zero xs = omega arith
+picked-front (b ∷ bs) (suc n) [] = omega arith
+picked-front (true ∷ bs) (suc n) (x ∷ xs) = omega (arith, picked-front bs n xs)
+picked-front (false ∷ bs) (suc n) (x ∷ xs) = picked-front bs n xs
 
 module _ (s : List Bool) (t : List ℕ) where
   ids-append : (ks ls : List ℕ) → idsOf s t (ks ++ ls) ≡ idsOf s t ks + idsOf s t ls
@@ -75,6 +84,9 @@ module _ (s : List Bool) (t : List ℕ) where
     pub all-keys : (x : ℕ) → word 0 b ≤ x → firstKeys x ≡ cutKeys marks b
     all-keys x h = ap (picked marks) (take-all x (boundaryKeys b) (omega (arith, length-keys 5 (word 0 b) (drop 1 b))))
 
+    pub few-keys : (x : ℕ) → length (firstKeys x) ≤ length (cutKeys marks b)
+    few-keys x = picked-front marks x (boundaryKeys b)
+
     module _ (x : ℕ) (d : x < word 0 b) (c : word 0 b ≤ length marks) where
       key-is : getD (boundaryKeys b) x 0 ≡ getD b (1 + x * 5) 0
       key-is = key-at 5 (word 0 b) x (drop 1 b) (omega arith) d ∙ getD-drop 1 b (x * 5) 0
@@ -87,6 +99,10 @@ module _ (s : List Bool) (t : List ℕ) where
 
       key-none : getD marks x false ≡ false → firstKeys (x + 1) ≡ firstKeys x
       key-none q = pick-none marks (boundaryKeys b) x 0 within (omega arith) q
+
+      -- the next one is one of all
+      key-there : getD marks x false ≡ true → length (firstKeys x) + 1 ≤ length (cutKeys marks b)
+      key-there q = omega (arith, few-keys (x + 1), ap length (key-more q), length-append (firstKeys x) (getD b (1 + x * 5) 0 ∷ []))
 
       -- the next one takes ids of all
       key-ids : getD marks x false ≡ true → idsOf s t (firstKeys x) + idsFor s t (getD b (1 + x * 5) 0) ≤ idsOf s t (cutKeys marks b)
@@ -142,8 +158,8 @@ module _ (s : List Bool) (t : List ℕ) where
         words-are : length (pieceWords s t next (firstKeys x)) ≡ m * 3
         words-are = let e = words-length next (firstKeys x) in omega (arith, e, h .counted)
 
-        pub list-length : word 0 b * 3 ≤ length w → x ≤ word 0 b → length v ≡ length w
-        list-length r l = ap length (h .written) ∙ length-over w 0 (pieceWords s t next (firstKeys x)) (omega (arith, words-are, h .few))
+        pub list-length : length (cutKeys marks b) * 3 ≤ length w → length v ≡ length w
+        list-length r = ap length (h .written) ∙ length-over w 0 (pieceWords s t next (firstKeys x)) (omega (arith, words-are, h .counted, few-keys x))
 
         module _ (d : x < word 0 b) (c : word 0 b ≤ length marks) where
           pub list-none : getD marks x false ≡ false → Listed (x + 1) m id v
@@ -160,10 +176,10 @@ module _ (s : List Bool) (t : List ℕ) where
             pub list-may : next + idsOf s t (cutKeys marks b) < 2 ^ 64 → id + idsIf beyond < 2 ^ 64
             list-may l = rw e (omega (arith, h .taken, key-ids x d c q))
 
-            pub list-room : word 0 b * 3 ≤ length w → m * 3 + 3 ≤ length v
-            list-room r = let l = list-length r (omega arith) in omega (arith, l, h .few)
+            pub list-room : length (cutKeys marks b) * 3 ≤ length w → m * 3 + 3 ≤ length v
+            list-room r = let l = list-length r in omega (arith, l, h .counted, key-there x d c q)
 
-            pub list-one : word 0 b * 3 ≤ length w → (z : ℕ) (y : List ℕ) → (z ≡ id + idsIf beyond) × (y ≡ over v (m * 3) (pieceRow beyond id (getD b (1 + x * 5) 0))) → Listed (x + 1) (m + 1) z y
+            pub list-one : length (cutKeys marks b) * 3 ≤ length w → (z : ℕ) (y : List ℕ) → (z ≡ id + idsIf beyond) × (y ≡ over v (m * 3) (pieceRow beyond id (getD b (1 + x * 5) 0))) → Listed (x + 1) (m + 1) z y
             list-one r z y g =
                 let k = getD b (1 + x * 5) 0 in
                 let row : pieceRow beyond id k ≡ pieceRow (usedBeyond s t k) (next + idsOf s t (firstKeys x)) k = rw (e, h .taken) in
@@ -173,7 +189,7 @@ module _ (s : List Bool) (t : List ℕ) where
                   taken = rw (key-more x d c q) (omega (arith, g .0, ap idsIf e, h .taken, ids-append (firstKeys x) (k ∷ []), ids-one k));
                   written =
                       g .1 ∙ ap (λ (l : List ℕ). over l (m * 3) (pieceRow beyond id k)) (h .written)
-                      ∙ over-over w 0 (m * 3) (pieceWords s t next (firstKeys x)) (pieceRow beyond id k) (omega (arith, words-are)) (omega (arith, h .few))
+                      ∙ over-over w 0 (m * 3) (pieceWords s t next (firstKeys x)) (pieceRow beyond id k) (omega (arith, words-are)) (omega (arith, h .counted, key-there x d c q))
                       ∙ ap (over w 0) (ap (λ (l : List ℕ). pieceWords s t next (firstKeys x) ++ l) row ∙ sym (ap (pieceWords s t next) (key-more x d c q) ∙ words-more next (firstKeys x) k));
                 }
 

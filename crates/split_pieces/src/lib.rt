@@ -128,7 +128,7 @@ pub fn list_pieces(
     next: u64,
     pieces: &mut [u64],
 ) -> usize
-    requires { ⌜ (Q.Countable (now lanes) (now seen) (now boundaries) (now marks)) × ((next + Q.idsOf (now seen) (now lanes) (Q.cutKeys (now marks) (now boundaries)) < 2 ^ 64) × (word 0 (now boundaries) * 3 ≤ length (now pieces))) ⌝ }
+    requires { ⌜ (Q.Countable (now lanes) (now seen) (now boundaries) (now marks)) × ((next + Q.idsOf (now seen) (now lanes) (Q.cutKeys (now marks) (now boundaries)) < 2 ^ 64) × (length (Q.cutKeys (now marks) (now boundaries)) * 3 ≤ length (now pieces))) ⌝ }
     ensures { λ r. ⌜ (r ≡ length (Q.cutKeys (now (marks .entry)) (now (boundaries .entry)))) × (now (pieces .exit) ≡ over (now (pieces .entry)) 0 (Q.pieceWords (now (seen .entry)) (now (lanes .entry)) next (Q.cutKeys (now (marks .entry)) (now (boundaries .entry))))) ⌝ }
 {
     let n = boundaries[0] as usize;

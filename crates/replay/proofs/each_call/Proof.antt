@@ -2,7 +2,7 @@ use Rattle.replay.proofs.each_call.Statement.{statement}
 use Rattle.replay.proofs.each_call.Tie as tie
 use Rattle.replay.proofs.each_call.Reads as reads
 use Rattle.replay.proofs.each_call.Lts as lts
-use Rattle.replay.proofs.call.make.Reads as make-reads
+use Rattle.replay.proofs.make.Reads as make-reads
 use mathlib.Core.Path.{_≡_, refl, sym, ap, _∙_}
 use borrow.Author.Needs.{needs}
 use native.Mathlib.Omega.{arith}

@@ -79,7 +79,7 @@ same-length : tie.Need-same-length Inv-loop μ-loop
 same-length c =
     let a = c .before .before .before .before .before .before .before .before .args in
     let t = c .before .loop in
-    list-length (a .seen .now) (a .lanes .now) (a .boundaries .now) (a .marks .now) (a .next) (a .pieces .now) (t .x) (t .m) (t .id) (t .pieces) (t .inv .1) (c .before .before .before .before .before .before .before .before .pre .1 .1) (t .inv .0)
+    list-length (a .seen .now) (a .lanes .now) (a .boundaries .now) (a .marks .now) (a .next) (a .pieces .now) (t .x) (t .m) (t .id) (t .pieces) (t .inv .1) (c .before .before .before .before .before .before .before .before .pre .1 .1)
 
 returns : tie.Need-returns Inv-loop μ-loop
 returns c =

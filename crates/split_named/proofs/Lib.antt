@@ -1,0 +1,4 @@
+pub mod Grown
+pub mod Words
+pub mod Differs
+pub mod Rules

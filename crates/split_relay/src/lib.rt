@@ -1,0 +1,276 @@
+// edit/split.rs: the tables with lines after a split: lines drawn by `split_lines`, rows written by `split_tables`, all brought to their places by `settle` or
+// `layout`.
+use geometry::Point2;
+use layout::SMALL_POINTS;
+use tables::BOUNDARY;
+use tables::BOUNDARY_START;
+use tables::LANE;
+use tables::LANE_CENTERLINE_START;
+
+// Floats of the two arrays of work, for 2,048 points and for as many as a map holds.
+const SMALL: usize = 6144;
+
+const LARGE: usize = 196608;
+
+// Points that the smaller holds, and lanes that are cut at most with it.
+const SMALL_DRAWN: usize = 2048;
+
+const SMALL_GROUP: usize = 64;
+
+// Every line in its place: a small map by way of a copy, and every map whose lines are not in order; else within the coordinates.
+fn lay_out(
+    lanes: &mut [u64],
+    boundaries: &mut [u64],
+    stop_lines: &mut [u64],
+    crosswalks: &mut [u64],
+    coordinates: &mut [f64],
+    reach: usize,
+    drawn: &[f64],
+)
+{
+    if reach <= SMALL_POINTS {
+        layout::gather_small(
+            lanes,
+            boundaries,
+            stop_lines,
+            crosswalks,
+            coordinates,
+            reach,
+            drawn,
+        );
+        return;
+    }
+    if order::in_order(lanes, boundaries, stop_lines, crosswalks, reach) {
+        settle::settle(
+            lanes,
+            boundaries,
+            stop_lines,
+            crosswalks,
+            coordinates,
+            reach,
+            drawn,
+        );
+        return;
+    }
+    layout::gather_apart(
+        lanes,
+        boundaries,
+        stop_lines,
+        crosswalks,
+        coordinates,
+        reach,
+        drawn,
+    );
+}
+
+// The tables with lines after the cut at a point; `drawn` is an array of work.
+fn relay_in(
+    lanes: &mut [u64],
+    boundaries: &mut [u64],
+    stop_lines: &mut [u64],
+    crosswalks: &mut [u64],
+    coordinates: &mut [f64],
+    point: Point2,
+    reach: usize,
+    seen: &[bool],
+    cut: &[u64],
+    next: u64,
+    marks: &[bool],
+    pieces: &[u64],
+    m: usize,
+    lines: &[u64],
+    centers: &[u64],
+    drawn: &mut [f64],
+)
+{
+    let behind = split_lines::draw(
+        boundaries,
+        BOUNDARY,
+        BOUNDARY_START,
+        false,
+        marks,
+        coordinates,
+        point,
+        drawn,
+        0,
+    );
+    split_lines::draw(
+        lanes,
+        LANE,
+        LANE_CENTERLINE_START,
+        true,
+        seen,
+        coordinates,
+        point,
+        drawn,
+        behind,
+    );
+    split_tables::cut_boundaries(boundaries, marks, pieces, m, lines);
+    split_tables::cut_lanes(lanes, seen, pieces, m, cut, next, centers);
+    lay_out(
+        lanes,
+        boundaries,
+        stop_lines,
+        crosswalks,
+        coordinates,
+        reach,
+        drawn,
+    );
+}
+
+fn relay_small(
+    lanes: &mut [u64],
+    boundaries: &mut [u64],
+    stop_lines: &mut [u64],
+    crosswalks: &mut [u64],
+    coordinates: &mut [f64],
+    point: Point2,
+    reach: usize,
+    seen: &[bool],
+    cut: &[u64],
+    next: u64,
+    marks: &[bool],
+    pieces: &[u64],
+    m: usize,
+    lines: &[u64],
+    centers: &[u64],
+)
+{
+    let mut drawn = [0.0; SMALL];
+    relay_in(
+        lanes,
+        boundaries,
+        stop_lines,
+        crosswalks,
+        coordinates,
+        point,
+        reach,
+        seen,
+        cut,
+        next,
+        marks,
+        pieces,
+        m,
+        lines,
+        centers,
+        &mut drawn,
+    );
+}
+
+fn relay_large(
+    lanes: &mut [u64],
+    boundaries: &mut [u64],
+    stop_lines: &mut [u64],
+    crosswalks: &mut [u64],
+    coordinates: &mut [f64],
+    point: Point2,
+    reach: usize,
+    seen: &[bool],
+    cut: &[u64],
+    next: u64,
+    marks: &[bool],
+    pieces: &[u64],
+    m: usize,
+    lines: &[u64],
+    centers: &[u64],
+)
+{
+    let mut drawn = [0.0; LARGE];
+    relay_in(
+        lanes,
+        boundaries,
+        stop_lines,
+        crosswalks,
+        coordinates,
+        point,
+        reach,
+        seen,
+        cut,
+        next,
+        marks,
+        pieces,
+        m,
+        lines,
+        centers,
+        &mut drawn,
+    );
+}
+
+// With an array as large as the lines ask; `points` is how many points they have.
+pub fn relay(
+    lanes: &mut [u64],
+    boundaries: &mut [u64],
+    stop_lines: &mut [u64],
+    crosswalks: &mut [u64],
+    coordinates: &mut [f64],
+    point: Point2,
+    reach: usize,
+    points: usize,
+    seen: &[bool],
+    cut: &[u64],
+    next: u64,
+    marks: &[bool],
+    pieces: &[u64],
+    m: usize,
+    lines: &[u64],
+    centers: &[u64],
+)
+{
+    if SMALL_GROUP < cut.len() {
+        relay_large(
+            lanes,
+            boundaries,
+            stop_lines,
+            crosswalks,
+            coordinates,
+            point,
+            reach,
+            seen,
+            cut,
+            next,
+            marks,
+            pieces,
+            m,
+            lines,
+            centers,
+        );
+        return;
+    }
+    if SMALL_DRAWN < points {
+        relay_large(
+            lanes,
+            boundaries,
+            stop_lines,
+            crosswalks,
+            coordinates,
+            point,
+            reach,
+            seen,
+            cut,
+            next,
+            marks,
+            pieces,
+            m,
+            lines,
+            centers,
+        );
+        return;
+    }
+    relay_small(
+        lanes,
+        boundaries,
+        stop_lines,
+        crosswalks,
+        coordinates,
+        point,
+        reach,
+        seen,
+        cut,
+        next,
+        marks,
+        pieces,
+        m,
+        lines,
+        centers,
+    );
+}
