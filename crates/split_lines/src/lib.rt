@@ -60,7 +60,7 @@ fn put_pieces(line: &[f64], point: Point2, out: &mut [f64]) -> usize
 
 // The row of a measured line, in row m; the point behind its pieces.
 fn put_measure(out: &mut [u64], m: usize, at: usize, sizes: Sizes) -> usize
-    requires { ⌜ (m * 3 + 3 ≤ length (now out)) × ((at ≤ 4194304) × ((sizes .first ≤ 258) × (sizes .second ≤ 258))) ⌝ }
+    requires { ⌜ (m * 3 + 3 ≤ length (now out)) × ((at ≤ 8388608) × ((sizes .first ≤ 258) × (sizes .second ≤ 258))) ⌝ }
     ensures { λ r. ⌜ (r ≡ at + (sizes .first + sizes .second)) × (now (out .exit) ≡ over (now (out .entry)) (m * 3) (D.measureRow at sizes)) ⌝ }
 {
     let row = m * MEASURE;

@@ -1,77 +1,70 @@
+-- `split_marks::mark_alone` meets its contract. The invariant: the marks before row i are written. The measure is how many rows are left. Assumes nothing.
 use Rattle.split_marks.proofs.mark_alone.Statement.{statement}
 use Rattle.split_marks.proofs.mark_alone.Tie as tie
-use Rattle.split_marks.proofs.mark_alone.Reads as reads
-use Rattle.split_marks.proofs.mark_alone.Lts as lts
+use mathlib.Core.Path.{_≡_}
+use mathlib.Core.Logic.{⊎-elim}
+use Prim.Native.Nat.{_-_, _≤_}
+use native.Mathlib.Omega.{arith}
+use Rattle.split_marks.proofs.Marks.{Alone, alone-begins, alone-room, alone-cut, alone-left}
 
 abbrev Inv-loop : tie.InvT-loop
-Inv-loop cut n pieces marks₀ j₀ i₀ marks j i = ?
+Inv-loop cut n pieces marks₀ j₀ i₀ marks j i = (i ≤ n) × Alone cut n pieces marks₀ j i marks
 
 abbrev μ-loop : tie.MeasureT-loop
-μ-loop cut n pieces marks₀ j₀ i₀ marks j i = ?
+μ-loop cut n pieces marks₀ j₀ i₀ marks j i = n - i
 
--- src/lib.rt:92:5
 loop-holds : tie.Need-loop-holds Inv-loop μ-loop
-loop-holds c = ?
+loop-holds c = let a = c .args in (omega arith, alone-begins (a .cut .now) (a .n) (a .pieces .now) (a .marks .now))
 
--- src/lib.rt:93:12
 shared-slice-read-if1 : tie.Need-shared-slice-read-if1 Inv-loop μ-loop
-shared-slice-read-if1 c = ?
+shared-slice-read-if1 c = omega arith
 
--- src/lib.rt:94:22
 mul-at : tie.Need-mul-at Inv-loop μ-loop
-mul-at c = ?
+mul-at c = let a = c .before .before .before .before .args in let t = c .before .before .before .loop in omega (arith, alone-room (a .cut .now) (a .n) (a .pieces .now) (a .marks .now) (c .before .before .before .before .pre .0) (c .before .before .before .before .pre .1 .0) (t .j) (t .i) (t .marks) (t .inv .1) (c .before .before .loop-test .taken) (c .before .before .before .before .pre .1 .1) (c .if1 .taken))
 
--- src/lib.rt:95:31
 add-marks : tie.Need-add-marks Inv-loop μ-loop
-add-marks c = ?
+add-marks c = let a = c .before .before .before .before .args in let t = c .before .before .before .loop in omega (arith, alone-room (a .cut .now) (a .n) (a .pieces .now) (a .marks .now) (c .before .before .before .before .pre .0) (c .before .before .before .before .pre .1 .0) (t .j) (t .i) (t .marks) (t .inv .1) (c .before .before .loop-test .taken) (c .before .before .before .before .pre .1 .1) (c .if1 .taken))
 
--- src/lib.rt:95:24
 mul-marks : tie.Need-mul-marks Inv-loop μ-loop
-mul-marks c = ?
+mul-marks c = let a = c .before .before .before .before .args in let t = c .before .before .before .loop in omega (arith, alone-room (a .cut .now) (a .n) (a .pieces .now) (a .marks .now) (c .before .before .before .before .pre .0) (c .before .before .before .before .pre .1 .0) (t .j) (t .i) (t .marks) (t .inv .1) (c .before .before .loop-test .taken) (c .before .before .before .before .pre .1 .1) (c .if1 .taken))
 
--- src/lib.rt:95:24
 shared-slice-read-marks : tie.Need-shared-slice-read-marks Inv-loop μ-loop
-shared-slice-read-marks c = ?
+shared-slice-read-marks c = let a = c .before .before .before .before .before .args in let t = c .before .before .before .before .loop in omega (arith, alone-room (a .cut .now) (a .n) (a .pieces .now) (a .marks .now) (c .before .before .before .before .before .pre .0) (c .before .before .before .before .before .pre .1 .0) (t .j) (t .i) (t .marks) (t .inv .1) (c .before .before .before .loop-test .taken) (c .before .before .before .before .before .pre .1 .1) (c .before .if1 .taken))
 
--- src/lib.rt:95:42
 mul-marks-2 : tie.Need-mul-marks-2 Inv-loop μ-loop
-mul-marks-2 c = ?
+mul-marks-2 c = let a = c .before .before .before .before .before .args in let t = c .before .before .before .before .loop in omega (arith, alone-room (a .cut .now) (a .n) (a .pieces .now) (a .marks .now) (c .before .before .before .before .before .pre .0) (c .before .before .before .before .before .pre .1 .0) (t .j) (t .i) (t .marks) (t .inv .1) (c .before .before .before .loop-test .taken) (c .before .before .before .before .before .pre .1 .1) (c .before .if1 .taken))
 
--- src/lib.rt:95:42
 shared-slice-read-marks-2 : tie.Need-shared-slice-read-marks-2 Inv-loop μ-loop
-shared-slice-read-marks-2 c = ?
+shared-slice-read-marks-2 c = let a = c .before .before .before .before .before .before .args in let t = c .before .before .before .before .before .loop in omega (arith, alone-room (a .cut .now) (a .n) (a .pieces .now) (a .marks .now) (c .before .before .before .before .before .before .pre .0) (c .before .before .before .before .before .before .pre .1 .0) (t .j) (t .i) (t .marks) (t .inv .1) (c .before .before .before .before .loop-test .taken) (c .before .before .before .before .before .before .pre .1 .1) (c .before .before .if1 .taken))
 
--- src/lib.rt:95:13
 slice-write-marks : tie.Need-slice-write-marks Inv-loop μ-loop
-slice-write-marks c = ?
+slice-write-marks c = let a = c .before .before .before .before .before .before .args in let t = c .before .before .before .before .before .loop in omega (arith, t .inv .1 .same)
 
--- src/lib.rt:96:13
 add-j : tie.Need-add-j Inv-loop μ-loop
-add-j c = ?
+add-j c = let a = c .before .before .before .before .before .before .args in let t = c .before .before .before .before .before .loop in omega (arith, t .inv .1 .few)
 
--- src/lib.rt:98:13
 slice-write-marks-2 : tie.Need-slice-write-marks-2 Inv-loop μ-loop
-slice-write-marks-2 c = ?
+slice-write-marks-2 c = let a = c .before .before .before .before .args in let t = c .before .before .before .loop in omega (arith, t .inv .1 .same)
 
--- src/lib.rt:100:9
 add-i : tie.Need-add-i Inv-loop μ-loop
-add-i c = ?
+add-i c = omega arith
 
--- src/lib.rt:92:5
 loop-less : tie.Need-loop-less Inv-loop μ-loop
-loop-less c = ?
+loop-less c = omega arith
 
--- src/lib.rt:92:5
 loop-again : tie.Need-loop-again Inv-loop μ-loop
-loop-again c = ?
+loop-again c =
+    let a = c .before .before .before .before .args in let t = c .before .before .before .loop in
+    ⊎-elim
+    (λ s. let w = alone-cut (a .cut .now) (a .n) (a .pieces .now) (a .marks .now) (c .before .before .before .before .pre .0) (c .before .before .before .before .pre .1 .0) (t .j) (t .i) (t .marks) (t .inv .1) (c .before .before .loop-test .taken) (s .0 .taken) in (omega arith, rw (s .3, s .4) w))
+    (λ s. let w = alone-left (a .cut .now) (a .n) (a .pieces .now) (a .marks .now) (c .before .before .before .before .pre .0) (c .before .before .before .before .pre .1 .0) (t .j) (t .i) (t .marks) (t .inv .1) (c .before .before .loop-test .taken) (s .0 .left) in (omega arith, rw (s .1, s .2) w))
+    (c .if1 .came)
 
--- src/lib.rt:86:1
 same-length : tie.Need-same-length Inv-loop μ-loop
-same-length c = ?
+same-length c = c .before .loop .inv .1 .same
 
--- src/lib.rt:86:1
 returns : tie.Need-returns Inv-loop μ-loop
-returns c = ?
+returns c = let e : c .before .loop .i ≡ c .before .before .args .n = omega arith in rw e at (c .before .loop .inv .1 .written)
 
 pub mark-alone-spec : {M : Type 1} → statement M
 mark-alone-spec =

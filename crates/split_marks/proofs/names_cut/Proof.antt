@@ -1,57 +1,53 @@
+-- `split_marks::names_cut` meets its contract. The invariant: the list names a cut lane if those from i on do. The measure is how many are left. Assumes nothing.
 use Rattle.split_marks.proofs.names_cut.Statement.{statement}
 use Rattle.split_marks.proofs.names_cut.Tie as tie
-use Rattle.split_marks.proofs.names_cut.Reads as reads
-use Rattle.split_marks.proofs.names_cut.Lts as lts
-use Rattle.find.proofs.find_row.Reads as find-row-reads
+use mathlib.Core.Path.{_≡_, refl, sym, _∙_}
+use Prim.Native.Nat.{_-_, _≤_}
+use native.Mathlib.Omega.{arith}
+use borrow.Author.Needs.{needs}
+use lib.ListN.{take, drop}
+use Rattle.lists.specs.Select.{any, has}
+use Rattle.lists.proofs.Rows.{keys-one}
+use Rattle.split_marks.proofs.Marks.{names-found, names-other, names-end}
 
 abbrev Inv-loop : tie.InvT-loop
-Inv-loop ids n cut i₀ i = ?
+Inv-loop ids n cut i₀ i = (i ≤ n) × (any (λ k. has k cut) (take n ids) ≡ any (λ k. has k cut) (drop i (take n ids)))
 
 abbrev μ-loop : tie.MeasureT-loop
-μ-loop ids n cut i₀ i = ?
+μ-loop ids n cut i₀ i = n - i
 
--- src/lib.rt:23:5
 loop-holds : tie.Need-loop-holds Inv-loop μ-loop
-loop-holds c = ?
+loop-holds c = (omega arith, refl)
 
--- src/lib.rt:24:55
 mul-find-row : tie.Need-mul-find-row Inv-loop μ-loop
-mul-find-row c = ?
+mul-find-row c = omega arith
 
--- src/lib.rt:24:55
 shared-slice-read-find-row : tie.Need-shared-slice-read-find-row Inv-loop μ-loop
-shared-slice-read-find-row c = ?
+shared-slice-read-find-row c = omega arith
 
--- src/lib.rt:24:13
 find-row-requires : tie.Need-find-row-requires Inv-loop μ-loop
-find-row-requires c κs = ?
+find-row-requires c κs = (omega arith, (omega arith, rw keys-one (c .before .before .before .before .before .pre .1)))
 
--- src/lib.rt:27:17
 enum-told : tie.Need-enum-told Inv-loop μ-loop
-enum-told c = ?
+enum-told c = search needs
 
--- src/lib.rt:27:17
 returns : tie.Need-returns Inv-loop μ-loop
-returns c = ?
+returns c = let a = c .before .before .before .before .before .before .before .before .args in let t = c .before .before .before .before .before .loop in sym (t .inv .1 ∙ names-found (a .cut .now) (a .ids .now) (a .n) (c .before .before .before .before .before .before .before .before .pre .0) (t .i) (c .before .before .before .before .loop-test .taken) (c .before .before .find-row .result) (c .before .before .find-row .ensures) (c .enum-told .given .0 .0) (c .enum-told .given .1))
 
 enum-told-2 : tie.Need-enum-told-2 Inv-loop μ-loop
-enum-told-2 c = ?
+enum-told-2 c = search needs
 
--- src/lib.rt:31:9
 add-i : tie.Need-add-i Inv-loop μ-loop
-add-i c = ?
+add-i c = omega arith
 
--- src/lib.rt:23:5
 loop-less : tie.Need-loop-less Inv-loop μ-loop
-loop-less c = ?
+loop-less c = omega arith
 
--- src/lib.rt:23:5
 loop-again : tie.Need-loop-again Inv-loop μ-loop
-loop-again c = ?
+loop-again c = let a = c .before .before .before .before .before .before .before .before .args in let t = c .before .before .before .before .before .loop in (omega arith, t .inv .1 ∙ names-other (a .cut .now) (a .ids .now) (a .n) (c .before .before .before .before .before .before .before .before .pre .0) (t .i) (c .before .before .before .before .loop-test .taken) (c .before .before .find-row .result) (c .before .before .find-row .ensures) (c .enum-told2 .given .1))
 
--- src/lib.rt:18:1
 returns-2 : tie.Need-returns-2 Inv-loop μ-loop
-returns-2 c = ?
+returns-2 c = let a = c .before .before .before .before .args in let t = c .before .loop in sym (t .inv .1 ∙ names-end (a .cut .now) (a .ids .now) (a .n) (c .before .before .before .before .pre .0) (t .i) (c .loop-test .left))
 
 pub names-cut-spec : {M : Type 1} → statement M
 names-cut-spec =
