@@ -6,10 +6,10 @@ use mathlib.Core.Bool.{Bool, true, false, _&&_, _||_, cond}
 use mathlib.Core.List.{List, [], _∷_, _++_}
 use lib.Dec.{eqb, leb}
 use lib.ListN.{length, getD, take, drop}
-use Rattle.lists.specs.Select.{any, has, insert-after, numbered}
+use Rattle.lists.specs.Select.{any, ascending, has, insert-after, numbered}
 use Rattle.rules.specs.Limits.{maxIds, maxRules, rightOfWay}
 use Rattle.rules.specs.Split.{swapFirst}
-use Rattle.tables.specs.View.{word, idsAt}
+use Rattle.tables.specs.View.{word, idsAt, rows}
 use Rattle.tables.specs.Formed.{counted, ruleFormed}
 use Rattle.tables.specs.Columns.{rowCount, ruleKind, ruleLanesAt, rulePriorityAt, ruleWords, ruleYieldingAt}
 use Rattle.row_tests.specs.Good.{allRows}
@@ -83,3 +83,21 @@ pub record Follows (anchored past : List Bool) (next : ℕ) (cut t : List ℕ) :
   pub anchors : word rowCount t ≤ length anchored
   pub marks : word rowCount t * maxIds ≤ length past
   pub rows : (i : ℕ) → suc i ≤ word rowCount t → ruleRoom (getD anchored i false) (marksOf past i) next cut (rowAt ruleWords t i) ≡ true
+
+-- ---- which differ
+
+-- whether each rule does, from number i on
+unfoldable pub marksFrom : List Bool → List Bool → List ℕ → ℕ → List (List ℕ) → List Bool
+marksFrom anchored past cut i [] = []
+marksFrom anchored past cut i (w ∷ ws) = rowDiffers (getD anchored i false) (marksOf past i) cut w ∷ marksFrom anchored past cut (suc i) ws
+
+abbrev pub ruleMarks : List Bool → List Bool → List ℕ → List ℕ → List Bool
+ruleMarks anchored past cut t = marksFrom anchored past cut 0 (rows ruleWords (λ w. w) t)
+
+pub record Marking (anchored past : List Bool) (cut t : List ℕ) (marks : List Bool) : Type 0 where
+  pub ascend : ascending cut ≡ true
+  pub counts : counted maxRules ruleWords t ≡ true
+  pub formed : allRows ruleWords ruleFormed t ≡ true
+  pub anchors : word rowCount t ≤ length anchored
+  pub places : word rowCount t * maxIds ≤ length past
+  pub room : word rowCount t ≤ length marks

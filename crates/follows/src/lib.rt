@@ -6,9 +6,10 @@ ghost use Prim.Native.Nat.{_+_, _≤_, _<_};
 ghost use lib.Dec.{leb};
 ghost use lib.ListN.{length, take};
 ghost use Rattle.lists.specs.Rows.{over};
-ghost use Rattle.lists.specs.Select.{has};
+ghost use Rattle.lists.specs.Select.{any, ascending, has};
 ghost use Rattle.rules.specs.Split.{swapFirst};
 ghost use Rattle.tables.specs.View.{word, idsAt};
+ghost use Rattle.tables.specs.Formed.{ruleFormed};
 ghost use Rattle.mentions.specs.Naming.{changeAt};
 ghost use Rattle.grows.specs.Growing.{Numbered};
 ghost use Rattle.follows.specs.Following as F;
@@ -111,6 +112,76 @@ pub fn follow_rules(t: &mut [u64], cut: &[u64], next: u64, anchored: &[bool], pa
         let first = i * MARKS;
         let last = first + MARKS;
         follow_rule(&mut t[at..end], cut, next, anchored[i], &past[first..last]);
+        i += 1;
+    }
+}
+
+// ---- which differ
+
+// Whether a rule's own lanes become others: a cut lane's second half comes behind it, or takes its place.
+fn own_differ(row: &[u64], cut: &[u64], anchored: bool, past: &[bool]) -> bool
+    requires { ⌜ (length (now row) ≡ 330) × ((word 5 (now row) ≤ 64) × (length (now past) ≡ 64)) ⌝ }
+    ensures { λ r. ⌜ r ≡ F.ownDiffer anchored (now (past .entry)) (now (cut .entry)) (idsAt 5 (now (row .entry))) ⌝ }
+{
+    let n = row[RULE_LANES] as usize;
+    let from = RULE_LANES + 1;
+    let to = from + n;
+    let mut r = 0;
+    while r < cut.len() {
+        let p = first_place(&row[from..to], cut[r]);
+        if p < n {
+            if !anchored {
+                return true;
+            }
+            if past[p] {
+                return true;
+            }
+        }
+        r += 1;
+    }
+    false
+}
+
+// Whether the list at place k names a cut lane.
+fn list_differs(row: &[u64], k: usize, cut: &[u64]) -> bool
+    requires { ⌜ (ascending (now cut) ≡ true) × ((k + 1 + word k (now row) ≤ length (now row)) × (word k (now row) ≤ 64)) ⌝ }
+    ensures { λ r. ⌜ r ≡ any (λ i. has i (now (cut .entry))) (idsAt k (now (row .entry))) ⌝ }
+{
+    let n = row[k] as usize;
+    let from = k + 1;
+    grow::count_cut(&row[from..], n, cut) != 0
+}
+
+// Whether a rule differs after the cut.
+fn rule_differs(row: &[u64], cut: &[u64], anchored: bool, past: &[bool]) -> bool
+    requires { ⌜ (ascending (now cut) ≡ true) × ((length (now row) ≡ 330) × ((ruleFormed (now row) ≡ true) × (length (now past) ≡ 64))) ⌝ }
+    ensures { λ r. ⌜ r ≡ F.rowDiffers anchored (now (past .entry)) (now (cut .entry)) (now (row .entry)) ⌝ }
+{
+    if own_differ(row, cut, anchored, past) {
+        return true;
+    }
+    if row[RULE_KIND] != RIGHT_OF_WAY {
+        return false;
+    }
+    if list_differs(row, RULE_PRIORITY, cut) {
+        return true;
+    }
+    list_differs(row, RULE_YIELDING, cut)
+}
+
+// The rules that do.
+pub fn mark_rules(t: &[u64], cut: &[u64], anchored: &[bool], past: &[bool], marks: &mut [bool])
+    requires { ⌜ F.Marking (now anchored) (now past) (now cut) (now t) (now marks) ⌝ }
+    ensures { λ _. ⌜ now (marks .exit) ≡ over (now (marks .entry)) 0 (F.ruleMarks (now (anchored .entry)) (now (past .entry)) (now (cut .entry)) (now (t .entry))) ⌝ }
+{
+    let n = t[0] as usize;
+    let mut i = 0;
+    while i < n {
+        let at = 1 + i * RULE;
+        let end = at + RULE;
+        let first = i * MARKS;
+        let last = first + MARKS;
+        marks[i] = rule_differs(&t[at..end], cut, anchored[i], &past[first..last]);
         i += 1;
     }
 }
