@@ -1,0 +1,4 @@
+pub mod Boundaries
+pub mod Rows
+pub mod Lanes
+pub mod Lies
