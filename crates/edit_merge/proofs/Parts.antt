@@ -31,7 +31,7 @@ use Rattle.merge_room.specs.Leaving.{fitsAfter}
 use Rattle.merge_lists.specs.declared.Notices.{Notices}
 use Rattle.merge_lists.specs.Changes.{Formed, touched, leaving, issuesOf, warningsOf, joinedIds}
 use Rattle.merge_lists.proofs.Standing.{length-refs}
-use Rattle.merge_redraw.specs.Relaying.{Relayable, relaid, blank, workFloats}
+use Rattle.merge_redraw.specs.Relaying.{Relayable, relaid, blank}
 use Rattle.step.specs.Step.{Lent, Ended, ended, refusing}
 use Rattle.edit_merge.specs.Parts.{countsOf, Answered, lists, listsWritten, Listable, Naming, named, namedWritten, namedIn, lined, reachOf, written, Writable, mergeMade, mergeFound, goneIn, joinedIn, Decided}
 
@@ -63,11 +63,11 @@ module _ (join : Float) (p : Plan) (next : ℕ) (gone : List ℕ) (i j : ℕ) (t
 
   pub all-written : (reach : ℕ) → reach ≡ reachOf t → (rs js us : List ℕ)
       → named rs js us ≡ namedWritten (getD (t .lanes) (1 + i * 52) 0) (getD (t .lanes) (1 + j * 52) 0) (namedIn t) → (ls bs ss xs : List ℕ) (c : List Float)
-      → lineTables ls bs ss xs c ≡ relaid join p next reach gone i j (blank (workFloats reach)) (lined t) → tablesOf ls bs rs js us ss xs c ≡ written join p next gone i j t
+      → lineTables ls bs ss xs c ≡ relaid join p next reach gone i j blank (lined t) → tablesOf ls bs rs js us ss xs c ≡ written join p next gone i j t
   unfolding written
   all-written reach e rs js us n ls bs ss xs c q =
       let z : 0 < 52 = omega arith in
-      let r = q ∙ ap (λ k. relaid join p next k gone i j (blank (workFloats k)) (lined t)) e in
+      let r = q ∙ ap (λ k. relaid join p next k gone i j blank (lined t)) e in
       let m = n ∙ (ap (λ a. namedWritten a (getD (t .lanes) (1 + j * 52) 0) (namedIn t)) (id-read 52 (t .lanes) i z) ∙ ap (λ b. namedWritten (word 0 (rowAt 52 (t .lanes) i)) b (namedIn t)) (id-read 52 (t .lanes) j z)) in
       tables-fields (ap (λ (x : Tables). x .lanes) r) (ap (λ (x : Tables). x .boundaries) r) (ap (λ (x : Naming). x .roads) m) (ap (λ (x : Naming). x .junctions) m) (ap (λ (x : Naming). x .rules) m)
       (ap (λ (x : Tables). x .stop-lines) r) (ap (λ (x : Tables). x .crosswalks) r) (ap (λ (x : Tables). x .coordinates) r)

@@ -29,7 +29,7 @@ use Rattle.merge_plan.specs.Sides.{sideIds, sideId}
 use Rattle.merge_room.specs.Leaving.{Leaving, Countable, goneOf, fitsAfter}
 use Rattle.merge_lists.specs.declared.Notices.{Notices}
 use Rattle.merge_lists.specs.Changes.{Formed, Looked, touched, leaving, issuesOf, joinedIds, warningsOf}
-use Rattle.merge_redraw.specs.Relaying.{Relayable, relaid, blank, workFloats}
+use Rattle.merge_redraw.specs.Relaying.{Relayable, relaid, blank}
 use Rattle.step.specs.Step.{Lent, Ended, ended, refusing}
 
 -- ---- lists
@@ -104,7 +104,7 @@ namedIn t = named (t .roads) (t .junctions) (t .rules)
 
 unfoldable pub written : Float → Plan → ℕ → List ℕ → ℕ → ℕ → Tables → Tables
 written join p next gone i j t =
-    let ls = relaid join p next (reachOf t) gone i j (blank (workFloats (reachOf t))) (lined t) in
+    let ls = relaid join p next (reachOf t) gone i j blank (lined t) in
     let n = namedWritten (word rowId (rowAt laneWords (t .lanes) i)) (word rowId (rowAt laneWords (t .lanes) j)) (namedIn t) in
     record {
       lanes = ls .lanes;

@@ -116,7 +116,7 @@ fn write(
     let second = lanes[1 + j * LANE];
     let reach = reach::lines_reach(lanes, boundaries, stop_lines, crosswalks);
     write_named(roads, junctions, rules, first, second);
-    relay::relay(
+    merge_relay::relay(
         join,
         lanes,
         i,

@@ -1,4 +1,5 @@
 pub mod Laws
+pub mod Sourced
 pub mod Column
 pub mod Moves
 pub mod Stages
@@ -15,3 +16,4 @@ pub mod Gathers
 pub mod Lines
 pub mod Standing
 pub mod Exact
+pub mod PlainLane

@@ -188,7 +188,7 @@ module _ (c work : List Float) (n : ℕ) (few : n ≤ length c / 3) (begins : ta
       inside : word k w + word (suc k) w ≤ n → take (word (suc k) w * 3) (drop (word k w * 3) work) ≡ take (word (suc k) w * 3) (drop (word k w * 3) c)
       inside i = same-part (n * 3) (word k w * 3) (word (suc k) w * 3) work c begins (omega arith)
 
-  center-lies : (w : List ℕ) (b : Bool) → all (within n) (cond b (spanAt 7 w ∷ []) []) ≡ true → EachOf (LineIn work (word 7 w)) (optionalLine (cond b (some (lineAt c 7 w)) none))
+  pub center-lies : (w : List ℕ) (b : Bool) → all (within n) (cond b (spanAt 7 w ∷ []) []) ≡ true → EachOf (LineIn work (word 7 w)) (optionalLine (cond b (some (lineAt c 7 w)) none))
   unfolding EachOf
   center-lies w true h = (line-lies 7 w (all-head (within n) (spanAt 7 w) [] h), refl)
   center-lies w false h = refl

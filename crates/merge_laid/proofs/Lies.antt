@@ -1,4 +1,4 @@
--- The lines of a merged map lie in the array of work where its rows point. Assumes nothing.
+-- The lines of a merged map lie where its rows point, in the coordinates and the drawn lines behind them. Assumes nothing.
 use mathlib.Core.Path.{_≡_, refl, sym, _∙_, subst}
 use Prim.Native.Nat.{ℕ, _+_, _*_, _/_, _≤_}
 use native.Mathlib.Omega.{arith}
@@ -20,12 +20,13 @@ use Rattle.tables.specs.View.{Tables, word, mark, rows, view, lineAt, laneOf, b
 use Rattle.tables.specs.Formed.{spanAt, centerSpan}
 use Rattle.apart.specs.Marks.{within}
 use Rattle.laws.proofs.MergePlans.{Planned, new-one}
+use Rattle.layout.specs.Layout.{sourced}
 use Rattle.layout.specs.Pointed.{Starts, EachOf, LineIn, Lies}
 use Rattle.layout.proofs.Lines.{each-of-append, each-of-map, each-of-keep}
 use Rattle.layout.proofs.Standing.{mapped-rows, each-of-rows, line-lies, stops-lie, left-edges-lie, right-edges-lie}
 use Rattle.lookup.specs.Lookup.{pointsOr}
 use Rattle.merge_plan.specs.declared.Plan.{Plan}
-use Rattle.merge_redraw.specs.Relaying.{rightAt, centerAt, drawnWork}
+use Rattle.merge_redraw.specs.Relaying.{rightAt, centerAt, drawnLines, workFloats}
 use Rattle.merge_laid.proofs.Rows.{planOf, laneAfter}
 use Rattle.merge_laid.proofs.Lanes.{laneStarts, lanes-read}
 use Rattle.merge_laid.proofs.Boundaries.{boundaryAfter, newStart, boundaryStarts, boundaries-read}
@@ -127,11 +128,11 @@ module _ {tol : Tolerance} {counter : ℕ} {t : Tables} {one two i j : ℕ} {p :
       (M.right-planned k) (M.new-fresh k) (M.boundary-room k)
       ∙ M.boundaries-done k
 
-  module _ (work : List Float) (space : (reach + 1536) * 3 ≤ length work) where
+  module _ (work : List Float) (space : length work ≡ workFloats) where
     abbrev pub drawn : List Float
-    drawn = drawnWork (tol .join) c (t .lanes) (t .boundaries) i j plan reach work
+    drawn = sourced reach c (drawnLines (tol .join) c (t .lanes) (t .boundaries) i j plan work)
 
-    room : (reach + (length leftLine + (length rightLine + length centerLine))) * 3 ≤ length work
+    room : (length leftLine + (length rightLine + length centerLine)) * 3 ≤ length work
     room = omega (arith, few-left, few-right, few-center)
 
     drawn-is : drawn ≡ lined c work reach leftLine rightLine centerLine copied room

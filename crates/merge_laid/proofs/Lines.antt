@@ -1,15 +1,15 @@
--- The array of work that a merge draws: it begins as the coordinates do, and the joined lines lie behind. Assumes nothing.
+-- The coordinates, and behind them the lines that a merge draws: they begin as the coordinates do, and the joined lines lie where rows point. Assumes nothing.
 use mathlib.Core.Path.{_≡_, refl, sym, ap, _∙_, subst}
 use Prim.{Unit, tt}
 use Prim.Native.Nat.{ℕ, _+_, _*_, _≤_, _<_}
 use native.Mathlib.Omega.{arith}
 use mathlib.Core.Bool.{Bool, true, false, not, _&&_, _||_, cond, true≢false}
-use mathlib.Core.List.{List, [], _∷_, reverse}
+use mathlib.Core.List.{List, [], _∷_, _++_, reverse, append-assoc}
 use mathlib.Core.Option.{Option, none, some}
 use lib.Dec.{eqb, leb}
 use lib.Ieee.{Float}
 use lib.ListN.{length, take, length-reverse}
-use lib.Seq.{length-take-le}
+use lib.Seq.{length-take-le, take-at, take-append-add, drop-append-add}
 use borrow.Author.Tests.{le-leb, leb-true}
 use Rattle.lists.specs.Rows.{over}
 use Rattle.lists.specs.Select.{sameNumbers}
@@ -31,13 +31,16 @@ use Rattle.apart.specs.Marks.{within}
 use Rattle.laws.proofs.Lawful.{yields, no-yield}
 use Rattle.layout.specs.Pointed.{LineIn}
 use Rattle.layout.proofs.Lines.{line-written, line-before}
-use Rattle.layout.proofs.Standing.{begins-copied, begins-before}
+use Rattle.layout.specs.Layout.{sourced}
+use Rattle.layout.proofs.Sourced.{length-sourced}
+use Rattle.layout.proofs.Standing.{begins-before}
 use Rattle.lookup.specs.Lookup.{rowAt, allShort, centersStored, countOf, pointsOr, drawn}
 use Rattle.lookup.proofs.Laws.{oriented-drawn, row-passes, part-few}
 use Rattle.lookup.proofs.Center.{oriented-few}
 use Rattle.merge_plan.specs.Deciding.{counted, laneIn}
+use Rattle.merge_plan.specs.declared.Plan.{Plan}
 use Rattle.merge_draw.specs.Redrawing.{joinedSide, storedLine}
-use Rattle.merge_redraw.specs.Relaying.{sidePoints, sideFloats, sideDrawn, centerDrawn, isSome, rightAt, centerAt, drawnWork}
+use Rattle.merge_redraw.specs.Relaying.{sidePoints, sideFloats, sideDrawn, centerDrawn, isSome, rightAt, centerAt, drawnLines}
 use Rattle.merge_laid.proofs.Rows.{planOf}
 
 -- ---- lines drawn one after another, behind a copy
@@ -45,9 +48,19 @@ use Rattle.merge_laid.proofs.Rows.{planOf}
 near : (n start size : ℕ) → start + size ≤ n → within n (record { start = start; size = size }) ≡ true
 near n start size h = or-right (eqb size 0) (leb (start + size) n) (le-leb (start + size) n h)
 
-module _ (c work : List Float) (reach : ℕ) (l r m : Line) (copied : reach * 3 ≤ length c) (room : (reach + (length l + (length r + length m))) * 3 ≤ length work) where
+-- written in the second of two lists
+over-behind : (x d l : List Float) (a k : ℕ) → length x ≡ a → x ++ over d k l ≡ over (x ++ d) (a + k) l
+unfolding over
+over-behind x d l a k e =
+    let f : length x + k + length l ≡ length x + (k + length l) = omega arith in
+    rw (← e, f, take-append-add x d k, drop-append-add x d (k + length l), append-assoc)
+
+sourced-over : (reach : ℕ) (c d l : List Float) (k : ℕ) → reach * 3 ≤ length c → sourced reach c (over d k l) ≡ over (sourced reach c d) (reach * 3 + k) l
+sourced-over reach c d l k h = over-behind (take (reach * 3) c) d l (reach * 3) k (length-take-le (reach * 3) c h)
+
+module _ (c work : List Float) (reach : ℕ) (l r m : Line) (copied : reach * 3 ≤ length c) (room : (length l + (length r + length m)) * 3 ≤ length work) where
   abbrev w0 : List Float
-  w0 = over work 0 (take (reach * 3) c)
+  w0 = sourced reach c work
 
   abbrev w1 : List Float
   w1 = over w0 (reach * 3) (flat l)
@@ -58,19 +71,19 @@ module _ (c work : List Float) (reach : ℕ) (l r m : Line) (copied : reach * 3 
   abbrev pub lined : List Float
   lined = over w2 ((reach + length l + length r) * 3) (flat m)
 
-  long0 : length w0 ≡ length work
-  long0 = length-over work 0 (take (reach * 3) c) (omega (arith, length-take-le (reach * 3) c copied))
+  long0 : length w0 ≡ reach * 3 + length work
+  long0 = length-sourced reach c work copied
 
-  long1 : length w1 ≡ length work
+  long1 : length w1 ≡ reach * 3 + length work
   long1 = length-over w0 (reach * 3) (flat l) (omega (arith, long0, length-flat l)) ∙ long0
 
-  long2 : length w2 ≡ length work
+  long2 : length w2 ≡ reach * 3 + length work
   long2 = length-over w1 ((reach + length l) * 3) (flat r) (omega (arith, long1, length-flat r)) ∙ long1
 
   pub lined-begins : take (reach * 3) lined ≡ take (reach * 3) c
   lined-begins =
       begins-before w2 (flat m) reach (reach + length l + length r) (omega arith) (omega (arith, long2))
-      ∙ (begins-before w1 (flat r) reach (reach + length l) (omega arith) (omega (arith, long1)) ∙ (begins-before w0 (flat l) reach reach (omega arith) (omega (arith, long0)) ∙ begins-copied c work reach copied))
+      ∙ (begins-before w1 (flat r) reach (reach + length l) (omega arith) (omega (arith, long1)) ∙ (begins-before w0 (flat l) reach reach (omega arith) (omega (arith, long0)) ∙ take-at (take (reach * 3) c) work (reach * 3) (length-take-le (reach * 3) c copied)))
 
   pub lined-left : LineIn lined reach l
   lined-left =
@@ -202,6 +215,17 @@ drawn-same : (w : List Float) (k : ℕ) {l l₁ r r₁ m m₁ : List Float} {x x
     → over (over (over w k l) (x * 3) r) (y * 3) m ≡ over (over (over w k l₁) (x₁ * 3) r₁) (y₁ * 3) m₁
 drawn-same w k p q r s t = cc
 
+-- drawn from place 0 on, and behind the coordinates
+behind : (reach : ℕ) (c d l r m : List Float) (p : Plan) → reach * 3 ≤ length c
+    → sourced reach c (over (over (over d 0 l) (rightAt p 0 * 3) r) (centerAt p 0 * 3) m) ≡ over (over (over (sourced reach c d) (reach * 3) l) (rightAt p reach * 3) r) (centerAt p reach * 3) m
+behind reach c d l r m p h =
+    let e : reach * 3 + 0 ≡ reach * 3 = omega arith in
+    let f : reach * 3 + rightAt p 0 * 3 ≡ rightAt p reach * 3 = omega arith in
+    let g : reach * 3 + centerAt p 0 * 3 ≡ centerAt p reach * 3 = omega arith in
+    let left : List Float = over d 0 l in
+    let right : List Float = over left (rightAt p 0 * 3) r in
+    rw (sourced-over reach c right m (centerAt p 0 * 3) h, sourced-over reach c left r (rightAt p 0 * 3) h, sourced-over reach c d l 0 h, e, f, g)
+
 module _ (tol : Tolerance) (c : List Float) (lanes boundaries : List ℕ) (m : Map) (eb : m .boundaries ≡ rows 5 (boundaryOf c) boundaries) (i j : ℕ) (pl pr : SidePlan)
     (el : side-plan tol m Left (laneIn c lanes i) (laneIn c lanes j) ≡ yield pl) (er : side-plan tol m Right (laneIn c lanes i) (laneIn c lanes j) ≡ yield pr) where
   abbrev a : Lane
@@ -251,8 +275,13 @@ module _ (tol : Tolerance) (c : List Float) (lanes boundaries : List ℕ) (m : M
   pub center-place : (reach : ℕ) → centerAt (planOf tol a b pl pr) reach ≡ reach + length leftLine + length rightLine
   center-place reach = ap (λ n. n + sidePoints (counted pr)) (right-place reach) ∙ ap (λ n. reach + length leftLine + n) (side-points pr (a .right))
 
-  module _ (reach : ℕ) (work : List Float) (copied : reach * 3 ≤ length c) (room : (reach + (length leftLine + (length rightLine + length centerLine))) * 3 ≤ length work) where
-    pub work-is : drawnWork (tol .join) c lanes boundaries i j (planOf tol a b pl pr) reach work ≡ lined c work reach leftLine rightLine centerLine copied room
-    unfolding drawnWork
+  module _ (reach : ℕ) (work : List Float) (copied : reach * 3 ≤ length c) (room : (length leftLine + (length rightLine + length centerLine)) * 3 ≤ length work) where
+    pub work-is : sourced reach c (drawnLines (tol .join) c lanes boundaries i j (planOf tol a b pl pr) work) ≡ lined c work reach leftLine rightLine centerLine copied room
+    unfolding drawnLines
     work-is =
-        drawn-same (over work 0 (take (reach * 3) c)) (reach * 3) left-drawn (right-place reach) right-drawn (center-place reach) (center-floats (tol .join) c lanes i j)
+        let p = planOf tol a b pl pr in
+        let x = sideDrawn (tol .join) c lanes boundaries i j Left (counted pl) in
+        let y = sideDrawn (tol .join) c lanes boundaries i j Right (counted pr) in
+        let z = centerDrawn (tol .join) c lanes i j (p .center) in
+        behind reach c work x y z p copied
+        ∙ drawn-same (sourced reach c work) (reach * 3) left-drawn (right-place reach) right-drawn (center-place reach) (center-floats (tol .join) c lanes i j)

@@ -34,7 +34,7 @@ use Rattle.store.proofs.LaneRow.{list-written}
 use Rattle.store.proofs.OtherRows.{lane-same}
 use Rattle.store.proofs.Back.{onto-length, ids-back}
 use Rattle.store.proofs.Turns.{drop-behind}
-use Rattle.layout.proofs.Standing.{line-long}
+use Rattle.layout.proofs.PlainLane.{lane18, startOr, sizeOr, after-set, onto-row, laid-row, long, marks, own3, own5, own6, own9, own10, own11, own-line, plain-of}
 use Rattle.lookup.specs.Lookup.{countOf}
 use Rattle.mentions.specs.Naming.{laneForgets}
 use Rattle.mentions.proofs.Records.{lane-forgets}
@@ -83,26 +83,6 @@ place-longer x ys up = go (has x ys) refl
 
 -- ---- a row of plain words
 
--- a lane's words up to its links
-abbrev lane18 : ℕ → ℕ → ℕ → ℕ → ℕ → ℕ → ℕ → ℕ → ℕ → ℕ → ℕ → ℕ → ℕ → ℕ → ℕ → ℕ → ℕ → ℕ → List ℕ → List ℕ
-lane18 x0 x1 x2 x3 x4 x5 x6 x7 x8 x9 x10 x11 x12 x13 x14 x15 x16 x17 rest =
-    x0 ∷ x1 ∷ x2 ∷ x3 ∷ x4 ∷ x5 ∷ x6 ∷ x7 ∷ x8 ∷ x9 ∷ x10 ∷ x11 ∷ x12 ∷ x13 ∷ x14 ∷ x15 ∷ x16 ∷ x17 ∷ rest
-
--- where a centreline starts and its length, or the words that are there
-abbrev startOr : ℕ → ℕ → Option Line → ℕ
-startOr old at none = old
-startOr old at (some l) = at
-
-abbrev sizeOr : ℕ → Option Line → ℕ
-sizeOr old none = old
-sizeOr old (some l) = length l
-
--- a centreline's words, where there is one
-center-laid : (y0 y1 y2 y3 y4 y5 y6 y7 y8 y9 y10 y11 y12 y13 y14 y15 y16 y17 : ℕ) (rest : List ℕ) (at : ℕ) (o : Option Line) → laidCenter (lane18 y0 y1 y2 y3 y4 y5 y6 y7 y8 y9 y10 y11 y12 y13 y14 y15 y16 y17 rest) at o ≡ lane18 y0 y1 y2 y3 y4 y5 y6 (startOr y7 at o) (sizeOr y8 o) y9 y10 y11 y12 y13 y14 y15 y16 y17 rest
-unfolding over
-center-laid y0 y1 y2 y3 y4 y5 y6 y7 y8 y9 y10 y11 y12 y13 y14 y15 y16 y17 rest at none = refl
-center-laid y0 y1 y2 y3 y4 y5 y6 y7 y8 y9 y10 y11 y12 y13 y14 y15 y16 y17 rest at (some l) = refl
-
 -- a joined centreline, or none
 center-taken : (y0 y1 y2 y3 y4 y5 y6 y7 y8 y9 y10 y11 y12 y13 y14 y15 y16 y17 : ℕ) (rest : List ℕ) (at : ℕ) (o : Option Line)
     → centerOnto (isSome (countOf o)) at (centerPoints (countOf o)) (lane18 y0 y1 y2 y3 y4 y5 y6 y7 y8 y9 y10 y11 y12 y13 y14 y15 y16 y17 rest) ≡ lane18 y0 y1 y2 y3 y4 y5 (present o) (startOr y7 at o) (sizeOr y8 o) y9 y10 y11 y12 y13 y14 y15 y16 y17 rest
@@ -127,78 +107,11 @@ right-taken y0 y1 y2 y3 y4 y5 y6 y7 y8 y9 y10 y11 y12 y13 y14 y15 y16 y17 rest i
 right-taken y0 y1 y2 y3 y4 y5 y6 y7 y8 y9 y10 y11 y12 y13 y14 y15 y16 y17 rest id (in-place l) h = ap (λ z. lane18 y0 y1 y2 y3 y4 z y6 y7 y8 y9 y10 y11 y12 y13 y14 y15 y16 y17 rest) (sym h)
 right-taken y0 y1 y2 y3 y4 y5 y6 y7 y8 y9 y10 y11 y12 y13 y14 y15 y16 y17 rest id (fresh l) h = refl
 
--- a list of successors, over any
-after-set : (y0 y1 y2 y3 y4 y5 y6 y7 y8 y9 y10 y11 y12 y13 y14 y15 y16 y17 : ℕ) (v ss ids : List ℕ) (x : ℕ) → length v ≡ 17 → length ss ≡ 16 → length ids ≤ 16
-    → setList 35 ids (lane18 y0 y1 y2 y3 y4 y5 y6 y7 y8 y9 y10 y11 y12 y13 y14 y15 y16 y17 (v ++ (x ∷ ss))) ≡ lane18 y0 y1 y2 y3 y4 y5 y6 y7 y8 y9 y10 y11 y12 y13 y14 y15 y16 y17 (v ++ idsOnto ss ids)
-after-set y0 y1 y2 y3 y4 y5 y6 y7 y8 y9 y10 y11 y12 y13 y14 y15 y16 y17 v ss ids x lv ls few =
-    let l : length (lane18 y0 y1 y2 y3 y4 y5 y6 y7 y8 y9 y10 y11 y12 y13 y14 y15 y16 y17 v) ≡ 35 = rw lv in
-    let h : length ids ≤ length ss = rw ls few in
-    ap (λ z. setList 35 ids (lane18 y0 y1 y2 y3 y4 y5 y6 y7 y8 y9 y10 y11 y12 y13 y14 y15 y16 y17 (v ++ (x ∷ z)))) (sym (append-nil ss))
-    ∙ (list-written (lane18 y0 y1 y2 y3 y4 y5 y6 y7 y8 y9 y10 y11 y12 y13 y14 y15 y16 y17 v) ss [] ids x 35 l h ∙ ap (λ z. lane18 y0 y1 y2 y3 y4 y5 y6 y7 y8 y9 y10 y11 y12 y13 y14 y15 y16 y17 (v ++ (length ids ∷ z))) (append-nil (over ss 0 ids)))
-
 module _ (x0 x1 x2 x3 x4 x5 x6 x7 x8 x9 x10 x11 x12 x13 x14 x15 x16 x17 n m : ℕ) (ps ss : List ℕ) (lp : length ps ≡ 16) (ls : length ss ≡ 16) where
   abbrev row : List ℕ
   row = lane18 x0 x1 x2 x3 x4 x5 x6 x7 x8 x9 x10 x11 x12 x13 x14 x15 x16 x17 (n ∷ ps ++ (m ∷ ss))
 
-  take-ps : take 16 (ps ++ (m ∷ ss)) ≡ ps
-  take-ps = take-at ps (m ∷ ss) 16 lp
-
-  take-ss : take 16 (drop 17 (ps ++ (m ∷ ss))) ≡ ss
-  take-ss =
-      let h : length ss ≤ 16 = omega arith in
-      ap (take 16) (sym (drop-drop 1 16 (ps ++ (m ∷ ss))) ∙ ap (drop 1) (drop-at ps (m ∷ ss) 16 lp)) ∙ take-all 16 ss h
-
-  -- a lane written over it
-  onto-row : (l : Lane) → laneOnto row l
-      ≡ lane18 (l .id) (l .kind) (l .left .boundary) (flag (l .left .reversed)) (l .right .boundary) (flag (l .right .reversed)) (present (l .centerline)) x7 x8 (present (l .speed-limit))
-      (numberOr x10 (l .speed-limit)) (flag (l .one-way)) (l .turn-direction) (l .attributes) (slotMark (l .left-neighbor)) (slotLane x15 (l .left-neighbor)) (slotMark (l .right-neighbor)) (slotLane x17 (l .right-neighbor))
-      (idsOnto ps (l .predecessors) ++ idsOnto ss (l .successors))
-  unfolding laneOnto
-  onto-row l = rw (take-ps, take-ss)
-
-  -- and with where its centreline starts
-  laid-row : (at : ℕ) (l : Lane) → laneLaid row (at, l)
-      ≡ lane18 (l .id) (l .kind) (l .left .boundary) (flag (l .left .reversed)) (l .right .boundary) (flag (l .right .reversed)) (present (l .centerline)) (startOr x7 at (l .centerline)) (sizeOr x8 (l .centerline))
-      (present (l .speed-limit)) (numberOr x10 (l .speed-limit)) (flag (l .one-way)) (l .turn-direction) (l .attributes) (slotMark (l .left-neighbor)) (slotLane x15 (l .left-neighbor)) (slotMark (l .right-neighbor))
-      (slotLane x17 (l .right-neighbor)) (idsOnto ps (l .predecessors) ++ idsOnto ss (l .successors))
-  unfolding laneLaid
-  laid-row at l = ap (λ z. laidCenter z at (l .centerline)) (onto-row l) ∙ center-laid _ _ _ _ _ _ _ _ _ _ _ _ _ _ _ _ _ _ _ at (l .centerline)
-
   module _ (c : List Float) (f : laneFormed row ≡ true) where
-    long : length row ≡ 52
-    long = omega (arith, length-append ps (m ∷ ss))
-
-    marks : LaneMarks row
-    marks = lane-marks row f
-
-    -- its marks, read and written
-    own : laneOnto row (laneOf c row) ≡ row
-    own = lane-same c row long f
-
-    own3 : flag (not (eqb x3 0)) ≡ x3
-    unfolding laneOnto laneOf
-    own3 = ap (λ z. getD z 3 0) own
-
-    own5 : flag (not (eqb x5 0)) ≡ x5
-    unfolding laneOnto laneOf
-    own5 = ap (λ z. getD z 5 0) own
-
-    own6 : present (cond (not (eqb x6 0)) (some (lineAt c 7 row)) none) ≡ x6
-    unfolding laneOnto laneOf
-    own6 = ap (λ z. getD z 6 0) own
-
-    own9 : present (cond (not (eqb x9 0)) (some x10) none) ≡ x9
-    unfolding laneOnto laneOf
-    own9 = ap (λ z. getD z 9 0) own
-
-    own10 : numberOr x10 (cond (not (eqb x9 0)) (some x10) none) ≡ x10
-    unfolding laneOnto laneOf
-    own10 = ap (λ z. getD z 10 0) own
-
-    own11 : flag (not (eqb x11 0)) ≡ x11
-    unfolding laneOnto laneOf
-    own11 = ap (λ z. getD z 11 0) own
-
     -- ---- the links
 
     module _ (first second : ℕ) (up : ascending (idsAt 18 row) ≡ true) where
@@ -226,10 +139,10 @@ module _ (x0 x1 x2 x3 x4 x5 x6 x7 x8 x9 x10 x11 x12 x13 x14 x15 x16 x17 n m : �
 
       forgot : laneForgets second row ≡ relinks (idsOnto ps p ++ idsOnto ss r)
       unfolding laneOf
-      forgot = sym (lane-forgets second c row long f) ∙ (onto-row (forgetting second (laneOf c row)) ∙ rw (own3, own5, own6, own9, own10, own11))
+      forgot = sym (lane-forgets second c row (long x0 x1 x2 x3 x4 x5 x6 x7 x8 x9 x10 x11 x12 x13 x14 x15 x16 x17 n m ps ss lp ls c f) f) ∙ (onto-row x0 x1 x2 x3 x4 x5 x6 x7 x8 x9 x10 x11 x12 x13 x14 x15 x16 x17 n m ps ss lp ls (forgetting second (laneOf c row)) ∙ rw (own3 x0 x1 x2 x3 x4 x5 x6 x7 x8 x9 x10 x11 x12 x13 x14 x15 x16 x17 n m ps ss lp ls c f, own5 x0 x1 x2 x3 x4 x5 x6 x7 x8 x9 x10 x11 x12 x13 x14 x15 x16 x17 n m ps ss lp ls c f, own6 x0 x1 x2 x3 x4 x5 x6 x7 x8 x9 x10 x11 x12 x13 x14 x15 x16 x17 n m ps ss lp ls c f, own9 x0 x1 x2 x3 x4 x5 x6 x7 x8 x9 x10 x11 x12 x13 x14 x15 x16 x17 n m ps ss lp ls c f, own10 x0 x1 x2 x3 x4 x5 x6 x7 x8 x9 x10 x11 x12 x13 x14 x15 x16 x17 n m ps ss lp ls c f, own11 x0 x1 x2 x3 x4 x5 x6 x7 x8 x9 x10 x11 x12 x13 x14 x15 x16 x17 n m ps ss lp ls c f))
 
       few-before : length (idsAt 18 row) ≤ 16
-      few-before = let k = marks .before in omega (arith, length-take-le n (ps ++ (m ∷ ss)) (omega (arith, length-append ps (m ∷ ss))))
+      few-before = let k = marks x0 x1 x2 x3 x4 x5 x6 x7 x8 x9 x10 x11 x12 x13 x14 x15 x16 x17 n m ps ss lp ls c f .before in omega (arith, length-take-le n (ps ++ (m ∷ ss)) (omega (arith, length-append ps (m ∷ ss))))
 
       links : comesFrom first second row ≡ relinks (idsOnto ps q ++ idsOnto ss r)
       links = ap (λ z. cond came (setList 18 (place first (idsAt 18 z)) z) z) forgot ∙ go came refl
@@ -280,21 +193,16 @@ module _ (x0 x1 x2 x3 x4 x5 x6 x7 x8 x9 x10 x11 x12 x13 x14 x15 x16 x17 n m : �
       abbrev after : Bool → Lane
       after z = cond z (mergedLane (tol .join) pl pr next a b (linked z)) (linked z)
 
-      -- the centreline's words stand
-      own-line : (z : Bool) → all (stored c) (cond z (spanAt 7 row ∷ []) []) ≡ true → (startOr x7 x7 (cond z (some (lineAt c 7 row)) none) ≡ x7) × (sizeOr x8 (cond z (some (lineAt c 7 row)) none) ≡ x8)
-      own-line true h = (refl, line-long c (spanAt 7 row) (all-head (stored c) (spanAt 7 row) [] h))
-      own-line false h = (refl, refl)
-
       other : laneLaid row (x7, after false) ≡ comesFrom (a .id) (b .id) row
       unfolding laneOf
       other =
-          let h = own-line (mark 6 row) o in
-          laid-row x7 (after false) ∙ (rw (own3, own5, own6, own9, own10, own11, h .0, h .1) (sym (links (a .id) (b .id) up)))
+          let h = own-line x0 x1 x2 x3 x4 x5 x6 x7 x8 x9 x10 x11 x12 x13 x14 x15 x16 x17 n m ps ss lp ls c f (mark 6 row) o in
+          laid-row x0 x1 x2 x3 x4 x5 x6 x7 x8 x9 x10 x11 x12 x13 x14 x15 x16 x17 n m ps ss lp ls x7 (after false) ∙ (rw (own3 x0 x1 x2 x3 x4 x5 x6 x7 x8 x9 x10 x11 x12 x13 x14 x15 x16 x17 n m ps ss lp ls c f, own5 x0 x1 x2 x3 x4 x5 x6 x7 x8 x9 x10 x11 x12 x13 x14 x15 x16 x17 n m ps ss lp ls c f, own6 x0 x1 x2 x3 x4 x5 x6 x7 x8 x9 x10 x11 x12 x13 x14 x15 x16 x17 n m ps ss lp ls c f, own9 x0 x1 x2 x3 x4 x5 x6 x7 x8 x9 x10 x11 x12 x13 x14 x15 x16 x17 n m ps ss lp ls c f, own10 x0 x1 x2 x3 x4 x5 x6 x7 x8 x9 x10 x11 x12 x13 x14 x15 x16 x17 n m ps ss lp ls c f, own11 x0 x1 x2 x3 x4 x5 x6 x7 x8 x9 x10 x11 x12 x13 x14 x15 x16 x17 n m ps ss lp ls c f, h .0, h .1) (sym (links (a .id) (b .id) up)))
 
       taker : x0 ≡ a .id → laneLaid row (taken .start, after true) ≡ takesOver taken (b .successors) (comesFrom (a .id) (b .id) row)
       unfolding laneOf
       taker e =
-          laid-row (taken .start) (after true) ∙ (rw (own9, own10, own11) (sym takes))
+          laid-row x0 x1 x2 x3 x4 x5 x6 x7 x8 x9 x10 x11 x12 x13 x14 x15 x16 x17 n m ps ss lp ls (taken .start) (after true) ∙ (rw (own9 x0 x1 x2 x3 x4 x5 x6 x7 x8 x9 x10 x11 x12 x13 x14 x15 x16 x17 n m ps ss lp ls c f, own10 x0 x1 x2 x3 x4 x5 x6 x7 x8 x9 x10 x11 x12 x13 x14 x15 x16 x17 n m ps ss lp ls c f, own11 x0 x1 x2 x3 x4 x5 x6 x7 x8 x9 x10 x11 x12 x13 x14 x15 x16 x17 n m ps ss lp ls c f) (sym takes))
         where
           qs : List ℕ
           qs = q (a .id) (b .id) up
@@ -312,8 +220,8 @@ module _ (x0 x1 x2 x3 x4 x5 x6 x7 x8 x9 x10 x11 x12 x13 x14 x15 x16 x17 n m : �
               (idsOnto ps qs ++ idsOnto ss (b .successors))
           takes =
               ap (takesOver taken (b .successors)) (links (a .id) (b .id) up ∙ ap (λ z. relinks (a .id) (b .id) up (idsOnto ps qs ++ z)) empty)
-              ∙ (ap (λ z. setList 35 (b .successors) (centerOnto (taken .center) (taken .start) (taken .size) (refOnto (taken .right) 4 (taken .other) z))) (left-taken _ _ _ _ _ _ _ _ _ _ _ _ _ _ _ _ _ _ _ next pl own3)
-              ∙ (ap (λ z. setList 35 (b .successors) (centerOnto (taken .center) (taken .start) (taken .size) z)) (right-taken _ _ _ _ _ _ _ _ _ _ _ _ _ _ _ _ _ _ _ (taken .other) pr own5)
+              ∙ (ap (λ z. setList 35 (b .successors) (centerOnto (taken .center) (taken .start) (taken .size) (refOnto (taken .right) 4 (taken .other) z))) (left-taken _ _ _ _ _ _ _ _ _ _ _ _ _ _ _ _ _ _ _ next pl (own3 x0 x1 x2 x3 x4 x5 x6 x7 x8 x9 x10 x11 x12 x13 x14 x15 x16 x17 n m ps ss lp ls c f))
+              ∙ (ap (λ z. setList 35 (b .successors) (centerOnto (taken .center) (taken .start) (taken .size) z)) (right-taken _ _ _ _ _ _ _ _ _ _ _ _ _ _ _ _ _ _ _ (taken .other) pr (own5 x0 x1 x2 x3 x4 x5 x6 x7 x8 x9 x10 x11 x12 x13 x14 x15 x16 x17 n m ps ss lp ls c f))
               ∙ (ap (setList 35 (b .successors)) (center-taken _ _ _ _ _ _ _ _ _ _ _ _ _ _ _ _ _ _ _ (taken .start) center)
               ∙ rw (side-ids pl) (after-set _ _ _ _ _ _ _ _ _ _ _ _ _ _ _ _ _ _ (idsOnto ps qs) ss (b .successors) 0 (onto-length ps qs 16 lp few-before') ls few))))
 
@@ -326,20 +234,6 @@ module _ (x0 x1 x2 x3 x4 x5 x6 x7 x8 x9 x10 x11 x12 x13 x14 x15 x16 x17 n m : �
           go false e = other
 
 -- ---- every row of 52 words
-
--- the first n words from place k on
-unfoldable tab : ℕ → ℕ → List ℕ → List ℕ
-tab k zero w = []
-tab k (suc n) w = getD w k 0 ∷ tab (suc k) n w
-
-tab-drop : (n k : ℕ) (w : List ℕ) → k + n ≤ length w → drop k w ≡ tab k n w ++ drop (k + n) w
-unfolding tab
-tab-drop zero k w h = rw add-zero
-tab-drop (suc n) k w h =
-    let i : k < length w = omega arith in
-    let j : suc k + n ≤ length w = omega arith in
-    let e : suc k + n ≡ k + suc n = omega arith in
-    drop-cons w k 0 i ∙ ap (λ z. getD w k 0 ∷ z) (tab-drop n (suc k) w j ∙ rw e)
 
 -- what a row asks: it is formed, its predecessors ascend, its centreline is stored, and the second lane alone comes after the first
 pub record Takes (c : List Float) (a b : Lane) (w : List ℕ) : Type 0 where
@@ -360,23 +254,10 @@ module _ (tol : Tolerance) (next reach : ℕ) (c : List Float) (a b : Lane) (pl 
   -- THE ROW LAW
   pub row-merged : (w : List ℕ) → length w ≡ 52 → Takes c a b w
       → laneLaid w (laneAfter tol next reach a b pl pr (word 7 w, laneOf c w)) ≡ rowMerged (a .id) (b .id) (takenOf (planOf tol a b pl pr) next reach) (b .successors) w
-  unfolding tab laneOf
-  row-merged w h k =
-      let p = take 16 (drop 19 w) in
-      let r = drop 36 w in
-      let x : ℕ → ℕ = λ k. getD w k 0 in
-      let lp : length p ≡ 16 = length-take-le 16 (drop 19 w) (rw (length-drop, h) (omega arith)) in
-      let lr : length r ≡ 16 = rw (length-drop, h) in
-      let front : w ≡ tab 0 19 w ++ drop 19 w = tab-drop 19 0 w (rw h (omega arith)) in
-      let middle : drop 19 w ≡ p ++ drop 35 w = sym (take-append-drop 16 (drop 19 w)) ∙ ap (λ z. p ++ z) (drop-drop 16 19 w) in
-      let back : drop 35 w ≡ x 35 ∷ r = drop-cons w 35 0 (rw h (omega arith)) in
-      let whole : w ≡ tab 0 19 w ++ (p ++ (x 35 ∷ r)) = front ∙ ap (λ z. tab 0 19 w ++ z) (middle ∙ ap (λ z. p ++ z) back) in
-      let v = tab 0 19 w ++ (p ++ (x 35 ∷ r)) in
-      let t : Takes c a b v = subst (Takes c a b) whole k in
-      subst Law (sym whole) (plain-merged (x 0) (x 1) (x 2) (x 3) (x 4) (x 5) (x 6) (x 7) (x 8) (x 9) (x 10) (x 11) (x 12) (x 13) (x 14) (x 15) (x 16) (x 17) (x 18) (x 35) p r lp lr c (t .formed) tol next reach a b pl pr few (t .before) (t .center) (t .out))
-    where
-      Law : List ℕ → Type 0
-      Law u = laneLaid u (laneAfter tol next reach a b pl pr (word 7 u, laneOf c u)) ≡ rowMerged (a .id) (b .id) (takenOf (planOf tol a b pl pr) next reach) (b .successors) u
+  unfolding laneOf
+  row-merged =
+      plain-of (λ u. Takes c a b u → laneLaid u (laneAfter tol next reach a b pl pr (word 7 u, laneOf c u)) ≡ rowMerged (a .id) (b .id) (takenOf (planOf tol a b pl pr) next reach) (b .successors) u)
+      (λ x0 x1 x2 x3 x4 x5 x6 x7 x8 x9 x10 x11 x12 x13 x14 x15 x16 x17 n m ps ss lp ls t. plain-merged x0 x1 x2 x3 x4 x5 x6 x7 x8 x9 x10 x11 x12 x13 x14 x15 x16 x17 n m ps ss lp ls c (t .formed) tol next reach a b pl pr few (t .before) (t .center) (t .out))
 
   -- it keeps its length
   pub row-long : (w : List ℕ) → length w ≡ 52 → Takes c a b w → length (laneLaid w (laneAfter tol next reach a b pl pr (word 7 w, laneOf c w))) ≡ 52

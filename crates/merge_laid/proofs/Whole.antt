@@ -1,13 +1,10 @@
 -- The tables with lines that a merge leaves are those of the merged map, laid out anew; and what the code that leaves them asks. Assumes nothing.
 use mathlib.Core.Path.{_≡_, refl, sym, ap, _∙_, subst}
-use Prim.Native.Nat.{ℕ, _+_, _*_, _≤_, _<_}
+use Prim.Native.Nat.{ℕ, _+_, _<_}
 use native.Mathlib.Omega.{arith}
 use mathlib.Core.List.{List}
-use lib.Dec.{leb}
 use lib.Ieee.{Float, binary64, ofBits}
 use lib.ListN.{length, length-replicate}
-use borrow.Author.Tests.{leb-true}
-use mathlib.Core.Bool.{Bool, true, false, cond}
 use Rattle.lists.specs.Select.{ascending}
 use Rattle.entities.specs.Records.{Map}
 use Rattle.rules.specs.Names.{Left, Right, Tolerance}
@@ -60,20 +57,6 @@ lines-gatherable work t g = record { counts = g .counts; fits = g .fits; room = 
 fields : {l l₁ b b₁ s s₁ x x₁ : List ℕ} (c : List Float) → l ≡ l₁ → b ≡ b₁ → s ≡ s₁ → x ≡ x₁ → lineTables l b s x c ≡ lineTables l₁ b₁ s₁ x₁ c
 fields c p q r u = cc
 
--- ---- the array of work that is taken
-
-work-enough : (reach : ℕ) → reach ≤ 65536 → (reach + 1536) * 3 ≤ workFloats reach
-work-enough reach h = go (leb reach 2560) (leb reach 14848) refl refl
-  where
-    go : (x y : Bool) → leb reach 2560 ≡ x → leb reach 14848 ≡ y → (reach + 1536) * 3 ≤ cond x 12288 (cond y 49152 201216)
-    go true y e f = let l = leb-true reach 2560 e in omega arith
-    go false true e f = let l = leb-true reach 14848 f in omega arith
-    go false false e f = omega arith
-
--- it has room for the copy and the lines
-pub work-room : (reach : ℕ) → reach ≤ 65536 → (reach + 1536) * 3 ≤ length (blank (workFloats reach))
-work-room reach h = subst (λ n. (reach + 1536) * 3 ≤ n) (sym (length-replicate (workFloats reach) (ofBits binary64 0))) (work-enough reach h)
-
 -- ---- a merge
 
 module _ {tol : Tolerance} {counter : ℕ} {t : Tables} {one two i j : ℕ} {p : Plan} {reach : ℕ} {gone : List ℕ} (k : Merging tol counter t one two i j p reach gone) where
@@ -101,32 +84,31 @@ module _ {tol : Tolerance} {counter : ℕ} {t : Tables} {one two i j : ℕ} {p :
   mergedResult = merged tol (nextId counter) (view t) (laneIn c (t .lanes) i) (laneIn c (t .lanes) j) (k .plans .left) (k .plans .right) .result
 
   -- THE LAW, of the plan as it was told
-  told-laid : (work : List Float) → (reach + 1536) * 3 ≤ length work → relaid (tol .join) (plan k) (nextId counter) reach gone i j work (linesOf t) ≡ linesOf (laid t mergedResult)
+  told-laid : (work : List Float) → length work ≡ workFloats → relaid (tol .join) (plan k) (nextId counter) reach gone i j work (linesOf t) ≡ linesOf (laid t mergedResult)
   unfolding relaid merged
   told-laid work space =
       ap (gathered (drawn k work space)) redrawn-points
       ∙ (lines-gathered (drawn k work space) points-to ∙ ap linesOf (gathered-laid (drawn k work space) t (starts k) (M.done k) (lies k work space) (M.has-room k)))
 
   -- THE LAW: the tables with lines that a merge leaves are those of the merged map
-  pub relaid-laid : (work : List Float) → (reach + 1536) * 3 ≤ length work → relaid (tol .join) p (nextId counter) reach gone i j work (linesOf t) ≡ linesOf (laid t mergedResult)
+  pub relaid-laid : (work : List Float) → length work ≡ workFloats → relaid (tol .join) p (nextId counter) reach gone i j work (linesOf t) ≡ linesOf (laid t mergedResult)
   relaid-laid work space = ap (λ q. relaid (tol .join) q (nextId counter) reach gone i j work (linesOf t)) (k .plans .told) ∙ told-laid work space
 
   -- the same in the array of work that is taken
-  pub relay-laid : relaid (tol .join) p (nextId counter) reach gone i j (blank (workFloats reach)) (linesOf t) ≡ linesOf (laid t mergedResult)
-  relay-laid = relaid-laid (blank (workFloats reach)) (work-room reach (omega (arith, M.near-all k)))
+  pub relay-laid : relaid (tol .join) p (nextId counter) reach gone i j blank (linesOf t) ≡ linesOf (laid t mergedResult)
+  relay-laid = relaid-laid blank (length-replicate workFloats (ofBits binary64 0))
 
   -- ---- what the code asks
 
-  drawing : (work : List Float) → (reach + 1536) * 3 ≤ length work → Drawing c (t .lanes) (t .boundaries) i j (plan k) reach work
+  drawing : (work : List Float) → length work ≡ workFloats → Drawing c (t .lanes) (t .boundaries) i j (plan k) work
   drawing work space =
       record {
         drawable = M.known k .drawable;
         first = M.here-first k;
         second = M.here-second k;
-        copied = copied k;
         left-few = rw (side-points (M.pl k) (M.a k .left)) (few-left k);
         right-few = rw (side-points (M.pr k) (M.a k .right)) (few-right k);
-        room = space;
+        room = omega arith;
         centered = center-marked (tol .join) c (t .lanes) i j;
       }
 
@@ -143,7 +125,7 @@ module _ {tol : Tolerance} {counter : ℕ} {t : Tables} {one two i j : ℕ} {p :
       (redrawnOf (t .lanes) i Right (t .boundaries) (plan k .right) (nextId counter + sideIds (plan k .left)) (rightAt (plan k) reach)) (t .boundaries)
   redrawable = record { counts = M.counts k .boundaries; room = rw (side-ids (M.pl k), side-ids (M.pr k)) (M.boundary-room k) }
 
-  gatherable : (work : List Float) (space : (reach + 1536) * 3 ≤ length work) → Gatherable (drawn k work space) (redrawnTables (plan k) (nextId counter) reach gone i j (linesOf t))
+  gatherable : (work : List Float) (space : length work ≡ workFloats) → Gatherable (drawn k work space) (redrawnTables (plan k) (nextId counter) reach gone i j (linesOf t))
   gatherable work space =
       subst (Gatherable (drawn k work space)) (sym redrawn-points)
       (lines-gatherable (drawn k work space) points-to (gatherable-pointed (drawn k work space) t (starts k) (M.done k) (lies k work space) (M.has-room k)))
@@ -152,6 +134,7 @@ module _ {tol : Tolerance} {counter : ℕ} {t : Tables} {one two i j : ℕ} {p :
   told-relayable =
       record {
         near = omega (arith, M.near-all k);
+        stored = copied k;
         ids = rw (side-ids (M.pl k)) (M.ids-small k);
         drawing = drawing;
         linked = linked;

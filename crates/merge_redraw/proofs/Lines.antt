@@ -6,7 +6,7 @@ use Prim.Native.Nat.{ℕ, _+_, _-_, _*_, _≤_}
 use native.Mathlib.Nat.{add-zero}
 use native.Mathlib.Omega.{arith}
 use lib.Ieee.{Float}
-use lib.ListN.{length, take, drop, length-drop}
+use lib.ListN.{length, drop, length-drop}
 use lib.Seq.{take-all, drop-length}
 use borrow.Rule.Slice.PartMut.{midOf, postOf, putMid, post-is}
 use Rattle.lists.specs.Rows.{over}
@@ -18,7 +18,7 @@ use Rattle.merge_plan.specs.declared.Joined.{Joined}
 use Rattle.merge_plan.specs.declared.Plan.{Plan}
 use Rattle.rules.specs.Names.{Left, Right}
 use Rattle.merge_draw.specs.Redrawing.{storedLine}
-use Rattle.merge_redraw.specs.Relaying.{sidePoints, isKept, turned, sideFloats, sideDrawn, isSome, centerDrawn, drawnWork}
+use Rattle.merge_redraw.specs.Relaying.{sidePoints, isKept, turned, sideFloats, sideDrawn, isSome, centerDrawn, rightAt, centerAt, drawnLines}
 
 -- a list written to the front of the part that begins at place a
 pub part-written : {A : Type 0} (w v l : List A) (a : ℕ) → a ≤ length w → v ≡ over (midOf a (length w - a) w) 0 l → putMid a (length w - a) w v ≡ over w a l
@@ -55,10 +55,13 @@ center-drawn o b l k e w v a h f =
 
 -- ---- all of them
 
--- the copy, and behind it the lines of both sides and the centreline
-pub all-drawn : (join : Float) (c : List Float) (lanes boundaries : List ℕ) (i j : ℕ) (p : Plan) (reach a b : ℕ) → a ≡ sidePoints (p .left) → b ≡ sidePoints (p .right)
-    → (w copied left right center : List Float) → copied ≡ over w 0 (take (reach * 3) c) → left ≡ over copied (reach * 3) (sideDrawn join c lanes boundaries i j Left (p .left))
-    → right ≡ over left ((reach + a) * 3) (sideDrawn join c lanes boundaries i j Right (p .right)) → center ≡ over right ((reach + a + b) * 3) (centerDrawn join c lanes i j (p .center))
-    → center ≡ drawnWork join c lanes boundaries i j p reach w
-unfolding drawnWork
-all-drawn join c lanes boundaries i j p reach a b ae be w copied left right center ce le re e = rw (e, re, le, ce, ae, be)
+-- the lines of both sides and the centreline
+pub all-drawn : (join : Float) (c : List Float) (lanes boundaries : List ℕ) (i j : ℕ) (p : Plan) (a b : ℕ) → a ≡ sidePoints (p .left) → b ≡ sidePoints (p .right)
+    → (w left right center : List Float) → left ≡ over w (0 * 3) (sideDrawn join c lanes boundaries i j Left (p .left))
+    → right ≡ over left (a * 3) (sideDrawn join c lanes boundaries i j Right (p .right)) → center ≡ over right ((a + b) * 3) (centerDrawn join c lanes i j (p .center))
+    → center ≡ drawnLines join c lanes boundaries i j p w
+unfolding drawnLines
+all-drawn join c lanes boundaries i j p a b ae be w left right center le re e =
+    let x : a * 3 ≡ rightAt p 0 * 3 = omega arith in
+    let y : (a + b) * 3 ≡ centerAt p 0 * 3 = omega arith in
+    rw (e, re, le, x, y)

@@ -1,27 +1,26 @@
 -- The tables with lines after a merge, put together from what each step leaves. Assumes nothing.
-use mathlib.Core.Path.{_≡_, sym, ap, _∙_}
+use mathlib.Core.Path.{_≡_, ap, _∙_}
 use mathlib.Core.Bool.{true}
 use mathlib.Core.List.{List}
-use Prim.Native.Nat.{ℕ, _+_, _*_, _^_, _≤_, _<_}
+use Prim.Native.Nat.{ℕ, _+_, _^_, _<_}
 use native.Mathlib.Omega.{arith}
 use lib.Ieee.{Float}
 use lib.ListN.{length}
-use borrow.Author.Tests.{le-leb, lt-leb}
 use Rattle.rules.specs.Names.{Left, Right}
 use Rattle.tables.specs.View.{Tables, word, idsAt}
-use Rattle.layout.specs.Layout.{lineTables, gathered, Gatherable}
+use Rattle.layout.specs.Layout.{lineTables, sourced, gathered, Gatherable}
 use Rattle.lookup.specs.Lookup.{rowAt, sortedTable}
 use Rattle.merge_plan.specs.declared.Plan.{Plan}
 use Rattle.merge_draw.specs.declared.Taken.{Taken}
 use Rattle.merge_draw.specs.Redrawing.{LanesLinked}
-use Rattle.merge_redraw.specs.Relaying.{sidePoints, sideIds, rightAt, centerAt, drawnWork, redrawnOf, boundariesRedrawn, Redrawable, takenOf, lanesRedrawn, redrawnTables, relaid, workFloats, blank, Drawing, Relayable}
+use Rattle.merge_redraw.specs.Relaying.{sidePoints, sideIds, rightAt, centerAt, drawnLines, redrawnOf, boundariesRedrawn, Redrawable, takenOf, lanesRedrawn, redrawnTables, relaid, workFloats, Drawing, Relayable}
 use Rattle.merge_redraw.specs.declared.Redrawn.{Redrawn}
 
 module _ (join : Float) (p : Plan) (next reach : ℕ) (gone : List ℕ) (i j : ℕ) (lanes boundaries stops crosswalks : List ℕ) (c work : List Float)
-    (h : Relayable join p next reach gone i j (lineTables lanes boundaries stops crosswalks c)) (room : (reach + 1536) * 3 ≤ length work) where
+    (h : Relayable join p next reach gone i j (lineTables lanes boundaries stops crosswalks c)) (room : length work ≡ workFloats) where
   -- ---- what the steps ask
 
-  pub draw-asks : Drawing c lanes boundaries i j p reach work
+  pub draw-asks : Drawing c lanes boundaries i j p work
   draw-asks = h .drawing work room
 
   pub taken-asks : (next + sideIds (p .left) < 2 ^ 64) × (centerAt p reach < 2 ^ 64)
@@ -46,30 +45,15 @@ module _ (join : Float) (p : Plan) (next reach : ℕ) (gone : List ℕ) (i j : �
     pub redraw-asks : Redrawable gone one two boundaries
     redraw-asks = rw (e1, two-is) (h .redrawable)
 
-    module _ (w : List Float) (we : w ≡ drawnWork join c lanes boundaries i j p reach work) (b : List ℕ) (be : b ≡ boundariesRedrawn gone one two boundaries)
+    module _ (w : List Float) (we : w ≡ drawnLines join c lanes boundaries i j p work) (b : List ℕ) (be : b ≡ boundariesRedrawn gone one two boundaries)
         (l : List ℕ) (le : l ≡ lanesRedrawn (word 0 (rowAt 52 lanes i)) (word 0 (rowAt 52 lanes j)) taken (idsAt 35 (rowAt 52 lanes j)) lanes) where
       tables-are : lineTables l b stops crosswalks c ≡ redrawnTables p next reach gone i j (lineTables lanes boundaries stops crosswalks c)
       unfolding redrawnTables
       tables-are = rw (le, be, e1, two-is, te)
 
-      pub gather-asks : Gatherable w (lineTables l b stops crosswalks c)
+      pub gather-asks : Gatherable (sourced reach c w) (lineTables l b stops crosswalks c)
       gather-asks = rw (we, tables-are) (h .gatherable work room)
 
-      pub all-relaid : (x : Tables) → x ≡ gathered w (lineTables l b stops crosswalks c) → x ≡ relaid join p next reach gone i j work (lineTables lanes boundaries stops crosswalks c)
+      pub all-relaid : (x : Tables) → x ≡ gathered (sourced reach c w) (lineTables l b stops crosswalks c) → x ≡ relaid join p next reach gone i j work (lineTables lanes boundaries stops crosswalks c)
       unfolding relaid
-      all-relaid x e = e ∙ (ap (λ z. gathered z (lineTables l b stops crosswalks c)) we ∙ ap (gathered (drawnWork join c lanes boundaries i j p reach work)) tables-are)
-
--- ---- the array of work
-
-pub small-floats : (reach : ℕ) → reach ≤ 2560 → workFloats reach ≡ 12288
-small-floats reach a = rw (le-leb reach 2560 a)
-
-pub medium-floats : (reach : ℕ) → 2560 < reach → reach ≤ 14848 → workFloats reach ≡ 49152
-medium-floats reach a b = rw (lt-leb reach 2560 a, le-leb reach 14848 b)
-
-pub large-floats : (reach : ℕ) → 2560 < reach → 14848 < reach → workFloats reach ≡ 201216
-large-floats reach a b = rw (lt-leb reach 2560 a, lt-leb reach 14848 b)
-
-pub relaid-in : (join : Float) (p : Plan) (next reach : ℕ) (gone : List ℕ) (i j : ℕ) (t x : Tables) (n : ℕ) → workFloats reach ≡ n → x ≡ relaid join p next reach gone i j (blank n) t
-    → x ≡ relaid join p next reach gone i j (blank (workFloats reach)) t
-relaid-in join p next reach gone i j t x n e z = z ∙ ap (λ m. relaid join p next reach gone i j (blank m) t) (sym e)
+      all-relaid x e = e ∙ (ap (λ z. gathered (sourced reach c z) (lineTables l b stops crosswalks c)) we ∙ ap (gathered (sourced reach c (drawnLines join c lanes boundaries i j p work))) tables-are)

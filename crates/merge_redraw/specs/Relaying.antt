@@ -1,13 +1,10 @@
--- The tables with lines as a merge leaves them, in words: joined lines drawn into an array of work behind a copy of the coordinates, rows that point there, and
--- the layout. Nothing that a host calls rests on this page; the laws of merge_laid tie it to `laid` and the rules.
+-- The tables with lines as a merge leaves them, in words: joined lines drawn into an array of work, rows that point there, and the layout. Nothing that a host calls rests on this page; the laws of merge_laid tie it to `laid` and the rules.
 use Prim.Native.Nat.{ℕ, _+_, _*_, _^_, _≤_, _<_}
 use mathlib.Core.Path.{_≡_}
 use mathlib.Core.Bool.{Bool, true, false, not, cond}
 use mathlib.Core.List.{List, [], _∷_}
-use lib.Dec.{eqb, leb}
-use lib.ListN.{length, take, replicate}
+use lib.ListN.{length, replicate}
 use lib.Ieee.{Float, binary64, ofBits}
-use Rattle.lists.specs.Every.{all}
 use Rattle.lists.specs.Rows.{over}
 use Rattle.lists.specs.Select.{has}
 use Rattle.lists.specs.declared.Found.{Found}
@@ -17,11 +14,10 @@ use Rattle.entities.specs.Records.{Line}
 use Rattle.rules.specs.Names.{Side, Left, Right}
 use Rattle.rules.specs.Limits.{maxBoundaries, maxLanes, maxPoints}
 use Rattle.tables.specs.View.{Tables, word, mark, idsAt, refAt}
-use Rattle.tables.specs.Formed.{spans, counted}
+use Rattle.tables.specs.Formed.{counted}
 use Rattle.tables.specs.Columns.{boundaryAttributes, boundaryKind, boundaryWords, laneCenterline, laneWords, rowCount, rowId, successorsAt}
-use Rattle.apart.specs.Marks.{within}
 use Rattle.store.specs.Rows.{keptRows, onRows, appendedRows}
-use Rattle.layout.specs.Layout.{lineTables, countedLines, gathered, Gatherable}
+use Rattle.layout.specs.Layout.{lineTables, sourced, gathered, Gatherable}
 use Rattle.lookup.specs.Lookup.{rowAt, placeOf, sideWord, sortedTable, centersStored, Drawable}
 use Rattle.lookup.specs.declared.OptionCount.{OptionCount}
 use Rattle.merge_plan.specs.declared.Joined.{Joined}
@@ -55,19 +51,19 @@ sideDrawn join c lanes boundaries i j side p = sideFloats p (refAt (sideWord sid
 abbrev pub centerDrawn : Float → List Float → List ℕ → ℕ → ℕ → OptionCount → List Float
 centerDrawn join c lanes i j o = cond (isSome o) (flat (joinedCenters join c lanes i j)) []
 
--- where the lines lie, in points: the left one behind the copy, then the right one, then the centreline
+-- where the lines lie, in points, the first of them from `at` on: the left one, then the right one, then the centreline
 abbrev pub rightAt : Plan → ℕ → ℕ
-rightAt p reach = reach + sidePoints (p .left)
+rightAt p at = at + sidePoints (p .left)
 
 abbrev pub centerAt : Plan → ℕ → ℕ
-centerAt p reach = rightAt p reach + sidePoints (p .right)
+centerAt p at = rightAt p at + sidePoints (p .right)
 
-unfoldable pub drawnWork : Float → List Float → List ℕ → List ℕ → ℕ → ℕ → Plan → ℕ → List Float → List Float
-drawnWork join c lanes boundaries i j p reach work =
-    let copied = over work 0 (take (reach * 3) c) in
-    let left = over copied (reach * 3) (sideDrawn join c lanes boundaries i j Left (p .left)) in
-    let right = over left (rightAt p reach * 3) (sideDrawn join c lanes boundaries i j Right (p .right)) in
-    over right (centerAt p reach * 3) (centerDrawn join c lanes i j (p .center))
+-- the lines of the merge, one after another in an array of work
+unfoldable pub drawnLines : Float → List Float → List ℕ → List ℕ → ℕ → ℕ → Plan → List Float → List Float
+drawnLines join c lanes boundaries i j p work =
+    let left = over work 0 (sideDrawn join c lanes boundaries i j Left (p .left)) in
+    let right = over left (rightAt p 0 * 3) (sideDrawn join c lanes boundaries i j Right (p .right)) in
+    over right (centerAt p 0 * 3) (centerDrawn join c lanes i j (p .center))
 
 -- ---- boundaries
 
@@ -135,7 +131,7 @@ lanesRedrawn first second taken successors t = onRows laneWords (rowMerged first
 
 -- ---- all of it
 
--- the tables with lines, their rows pointing into the work
+-- the tables with lines; rows point to the lines of the merge as if these lay behind point `reach` of the coordinates
 unfoldable pub redrawnTables : Plan → ℕ → ℕ → List ℕ → ℕ → ℕ → Tables → Tables
 redrawnTables p next reach gone i j t =
     let b = rowAt laneWords (t .lanes) j in
@@ -149,26 +145,25 @@ redrawnTables p next reach gone i j t =
 -- and laid out anew
 unfoldable pub relaid : Float → Plan → ℕ → ℕ → List ℕ → ℕ → ℕ → List Float → Tables → Tables
 relaid join p next reach gone i j work t =
-    gathered (drawnWork join (t .coordinates) (t .lanes) (t .boundaries) i j p reach work) (redrawnTables p next reach gone i j t)
+    gathered (sourced reach (t .coordinates) (drawnLines join (t .coordinates) (t .lanes) (t .boundaries) i j p work)) (redrawnTables p next reach gone i j t)
 
--- the array of work that is taken: room for the copy and for three lines of two times 256 points
-abbrev pub workFloats : ℕ → ℕ
-workFloats reach = cond (leb reach 2560) 12288 (cond (leb reach 14848) 49152 201216)
+-- the array of work: room for three lines of two times 256 points
+abbrev pub workFloats : ℕ
+workFloats = 4608
 
-abbrev pub blank : ℕ → List Float
-blank n = replicate n (ofBits binary64 0)
+abbrev pub blank : List Float
+blank = replicate workFloats (ofBits binary64 0)
 
 -- ---- what is asked
 
--- of drawing: the lines of both lanes lie among the points that are copied, and each drawn line has room in the work
-pub record Drawing (c : List Float) (lanes boundaries : List ℕ) (i j : ℕ) (p : Plan) (reach : ℕ) (work : List Float) : Type 0 where
+-- of drawing: each drawn line has room in the work
+pub record Drawing (c : List Float) (lanes boundaries : List ℕ) (i j : ℕ) (p : Plan) (work : List Float) : Type 0 where
   pub drawable : Drawable lanes boundaries c
   pub first : i < word rowCount lanes
   pub second : j < word rowCount lanes
-  pub copied : reach * 3 ≤ length c
   pub left-few : sidePoints (p .left) ≤ 512
   pub right-few : sidePoints (p .right) ≤ 512
-  pub room : (reach + 1536) * 3 ≤ length work
+  pub room : workFloats ≤ length work
   pub centered : isSome (p .center) ≡ true → (mark laneCenterline (rowAt laneWords lanes i) ≡ true) × (mark laneCenterline (rowAt laneWords lanes j) ≡ true)
 
 -- of drawing the centreline
@@ -180,12 +175,13 @@ pub record CenterDrawing (c : List Float) (lanes : List ℕ) (i j : ℕ) (center
   pub marked : isSome center ≡ true → (mark laneCenterline (rowAt laneWords lanes i) ≡ true) × (mark laneCenterline (rowAt laneWords lanes j) ≡ true)
   pub room : (at + 512) * 3 ≤ length work
 
--- of the whole, for any array of work that is long enough
+-- of the whole, for any array of work
 pub record Relayable (join : Float) (p : Plan) (next reach : ℕ) (gone : List ℕ) (i j : ℕ) (t : Tables) : Type 0 where
   pub near : reach ≤ maxPoints
+  pub stored : reach * 3 ≤ length (t .coordinates)
   pub ids : next + sideIds (p .left) < 2 ^ 64
-  pub drawing : (work : List Float) → (reach + 1536) * 3 ≤ length work → Drawing (t .coordinates) (t .lanes) (t .boundaries) i j p reach work
+  pub drawing : (work : List Float) → length work ≡ workFloats → Drawing (t .coordinates) (t .lanes) (t .boundaries) i j p work
   pub linked : LanesLinked (t .lanes)
   pub redrawable : Redrawable gone (redrawnOf (t .lanes) i Left (t .boundaries) (p .left) next reach) (redrawnOf (t .lanes) i Right (t .boundaries) (p .right) (next + sideIds (p .left)) (rightAt p reach)) (t .boundaries)
-  pub gatherable : (work : List Float) → (reach + 1536) * 3 ≤ length work
-      → Gatherable (drawnWork join (t .coordinates) (t .lanes) (t .boundaries) i j p reach work) (redrawnTables p next reach gone i j t)
+  pub gatherable : (work : List Float) → length work ≡ workFloats
+      → Gatherable (sourced reach (t .coordinates) (drawnLines join (t .coordinates) (t .lanes) (t .boundaries) i j p work)) (redrawnTables p next reach gone i j t)

@@ -1,5 +1,5 @@
-// edit/merge.rs: the lines of a merge. Joined lines are drawn into an array of work behind a copy of the coordinates; `merge_rows` has the rows point there, and
-// `relay` has the layout bring every line to its place.
+// edit/merge.rs: the lines of a merge. Joined lines are drawn into an array of work; `merge_rows` has the rows point there, and `merge_relay` has the layout bring
+// every line to its place.
 ghost use mathlib.Core.Path.{_≡_};
 ghost use mathlib.Core.Bool.{true};
 ghost use Prim.Native.Nat.{_+_, _*_, _≤_, _<_};
@@ -105,7 +105,7 @@ fn draw_center(
     }
 }
 
-// The coordinates up to where lines reach, and behind them the joined lines.
+// The joined lines: the left side's, the right side's, the centreline.
 pub fn draw(
     join: f64,
     lanes: &[u64],
@@ -114,18 +114,16 @@ pub fn draw(
     boundaries: &[u64],
     coordinates: &[f64],
     plan: Plan,
-    reach: usize,
     work: &mut [f64],
 )
-    requires { ⌜ W.Drawing (now coordinates) (now lanes) (now boundaries) i j plan reach (now work) ⌝ }
-    ensures { λ _. ⌜ now (work .exit) ≡ W.drawnWork join (now (coordinates .entry)) (now (lanes .entry)) (now (boundaries .entry)) i j plan reach (now (work .entry)) ⌝ }
+    requires { ⌜ W.Drawing (now coordinates) (now lanes) (now boundaries) i j plan (now work) ⌝ }
+    ensures { λ _. ⌜ now (work .exit) ≡ W.drawnLines join (now (coordinates .entry)) (now (lanes .entry)) (now (boundaries .entry)) i j plan (now (work .entry)) ⌝ }
 {
     let left = plan.left;
     let right = plan.right;
     let center = plan.center;
-    let right_at = reach + side_points(left);
+    let right_at = side_points(left);
     let center_at = right_at + side_points(right);
-    layout::copy(coordinates, 0, reach * POINT, work, 0);
     draw_side(
         join,
         lanes,
@@ -136,7 +134,7 @@ pub fn draw(
         coordinates,
         left,
         work,
-        reach,
+        0,
     );
     draw_side(
         join,

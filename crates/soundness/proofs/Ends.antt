@@ -101,7 +101,7 @@ module _ (counter : ℕ) (t : Tables) (small : counter ≤ lastCounter) (words :
       ∙ five (line-parts c 5 2 (t .boundaries) (b .lines) .store) (l .store) (line-parts c 4 1 (t .stop-lines) (s .lines) .store)
       (line-parts c 7 1 (t .crosswalks) (x .left-lines) .store) (line-parts c 7 3 (t .crosswalks) (x .right-lines) .store)
 
-  -- what `lines_apart` asks for
+  -- what `lines_clear` asks for
   pub may-take : allCounted t ≡ true → allGood (largestId counter) t ≡ true → takeable 65536 (t .lanes) (t .boundaries) (t .stop-lines) (t .crosswalks) ≡ true
   may-take n g = let h = held n in takeable-of t (h .lanes .count) (h .boundaries .count) (h .stop-lines .count) (h .crosswalks .count) (stored-all n g)
 

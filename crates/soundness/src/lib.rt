@@ -199,7 +199,7 @@ pub fn sound(
             crosswalks,
             coordinates,
         ) {
-            if apart::lines_apart(lanes, boundaries, stop_lines, crosswalks) {
+            if clear::lines_clear(lanes, boundaries, stop_lines, crosswalks) {
                 let linked = link_tests::links_returned(lanes);
                 return both(linked, link_tests::neighbors_returned(lanes));
             }

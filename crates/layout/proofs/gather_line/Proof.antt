@@ -5,6 +5,7 @@ use Rattle.layout.proofs.gather_line.Tie as tie
 use native.Mathlib.Omega.{arith}
 use Prim.Native.Nat.{_/_}
 use lib.ListN.{length}
+use Rattle.layout.specs.Layout.{sourced}
 use Rattle.layout.proofs.Laws.{line-words, line-fits, line-done}
 
 add-next : tie.Need-add-next
@@ -30,13 +31,13 @@ slice-write-rows c = search needs
 
 copy-line-requires : tie.Need-copy-line-requires
 copy-line-requires c κs =
-    let a = c .before .before .before .before .before .before .args in
-    (line-words (length (a .work .now) / 3) (a .k) (a .rows .now) (c .before .before .before .before .before .before .pre .1 .0), line-fits (a .k) (a .at) (length (a .coordinates .now)) (a .rows .now) (c .before .before .before .before .before .before .pre .1 .1))
+    let a = c .before .before .before .before .before .before .before .args in
+    (c .before .before .before .before .before .before .before .pre .0, (line-words (length (sourced (a .reach) (a .work .now) (a .drawn .now)) / 3) (a .k) (a .rows .now) (c .before .before .before .before .before .before .before .pre .1 .1 .0), line-fits (a .k) (a .at) (length (a .coordinates .now)) (a .rows .now) (c .before .before .before .before .before .before .before .pre .1 .1 .1)))
 
 add-result : tie.Need-add-result
 add-result c =
-    let a = c .before .before .before .before .before .before .before .before .before .args in
-    omega (arith, line-fits (a .k) (a .at) (length (a .coordinates .now)) (a .rows .now) (c .before .before .before .before .before .before .before .before .before .pre .1 .1), c .before .before .before .before .before .before .before .before .before .good)
+    let a = c .before .before .before .before .before .before .before .before .before .before .args in
+    omega (arith, line-fits (a .k) (a .at) (length (a .coordinates .now)) (a .rows .now) (c .before .before .before .before .before .before .before .before .before .before .pre .1 .1 .1), c .before .before .before .before .before .before .before .before .before .before .good)
 
 same-length : tie.Need-same-length
 same-length c = search needs
@@ -46,9 +47,9 @@ same-length-2 c = search needs
 
 returns : tie.Need-returns
 returns c =
-    let a = c .before .before .before .before .before .before .before .before .before .args in
+    let a = c .before .before .before .before .before .before .before .before .before .before .args in
     let l = c .before .before .copy-line in
-    line-done (a .k) (a .at) (a .rows .now) (a .work .now) (a .coordinates .now) (l .last .1 .1 .1 .0) (l .ensures)
+    line-done (a .k) (a .at) (a .rows .now) (sourced (a .reach) (a .work .now) (a .drawn .now)) (a .coordinates .now) (l .last .1 .1 .1 .1 .1 .0) (l .ensures)
 
 pub gather-line-spec : {M : Type 1} → statement M
 gather-line-spec =

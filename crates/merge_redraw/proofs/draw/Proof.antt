@@ -8,41 +8,30 @@ use Rattle.merge_redraw.proofs.Lines.{all-drawn}
 side-points-requires : tie.Need-side-points-requires
 side-points-requires c κs = search needs
 
-add-right-at : tie.Need-add-right-at
-add-right-at c = search needs
-
 side-points-requires-2 : tie.Need-side-points-requires-2
 side-points-requires-2 c κs = search needs
 
 add-center-at : tie.Need-add-center-at
 add-center-at c = search needs
 
-mul-copy : tie.Need-mul-copy
-mul-copy c = search needs
-
-copy-requires : tie.Need-copy-requires
-copy-requires c κs = search needs
-
 draw-side-requires : tie.Need-draw-side-requires
-draw-side-requires c κs =
-    let p = c .before .before .before .before .before .before .before .before .before .before .before .pre in
-    (p .drawable, (p .first, (p .second, omega (arith, c .before .before .before .copy .kept .1 .1 .1 .0, p .room))))
+draw-side-requires c κs = search needs
 
 draw-side-requires-2 : tie.Need-draw-side-requires-2
 draw-side-requires-2 c κs =
-    let p = c .before .before .before .before .before .before .before .before .before .before .before .before .before .before .before .pre in
-    (p .drawable, (p .first, (p .second, omega (arith, c .before .before .before .before .before .before .before .copy .kept .1 .1 .1 .0, c .before .before .before .draw-side .kept .1 .1 .1 .1 .1 .1 .1 .1 .0, c .before .before .before .before .before .before .before .before .before .before .side-points .ensures, p .left-few, p .room))))
+    let p = c .before .before .before .before .before .before .before .before .before .before .before .pre in
+    (p .drawable, (p .first, (p .second, omega (arith, c .before .before .before .draw-side .kept .1 .1 .1 .1 .1 .1 .1 .1 .0, c .before .before .before .before .before .before .side-points .ensures, p .left-few, p .room))))
 
 draw-center-requires : tie.Need-draw-center-requires
 draw-center-requires c κs =
-    let p = c .before .before .before .before .before .before .before .before .before .before .before .before .before .before .before .before .before .before .before .pre in
+    let p = c .before .before .before .before .before .before .before .before .before .before .before .before .before .before .before .pre in
     record {
       sorted = p .drawable .lanes-sorted;
       centers = p .drawable .centers-stored;
       first = p .first;
       second = p .second;
       marked = p .centered;
-      room = omega (arith, c .before .before .before .before .before .before .before .before .before .before .before .copy .kept .1 .1 .1 .0, c .before .before .before .before .before .before .before .draw-side .kept .1 .1 .1 .1 .1 .1 .1 .1 .0, c .before .before .before .draw-side2 .kept .1 .1 .1 .1 .1 .1 .1 .1 .0, c .before .before .before .before .before .before .before .before .before .before .before .before .before .before .side-points .ensures, c .before .before .before .before .before .before .before .before .before .before .before .before .before .side-points2 .ensures, p .left-few, p .right-few, p .room);
+      room = omega (arith, c .before .before .before .before .before .before .before .draw-side .kept .1 .1 .1 .1 .1 .1 .1 .1 .0, c .before .before .before .draw-side2 .kept .1 .1 .1 .1 .1 .1 .1 .1 .0, c .before .before .before .before .before .before .before .before .before .before .side-points .ensures, c .before .before .before .before .before .before .before .before .before .side-points2 .ensures, p .left-few, p .right-few, p .room);
     }
 
 same-length : tie.Need-same-length
@@ -50,21 +39,18 @@ same-length c = search needs
 
 returns : tie.Need-returns
 returns c =
-    let a = c .before .before .before .before .before .before .before .before .before .before .before .before .before .before .before .before .before .before .before .before .before .before .args in
-    all-drawn (a .join) (a .coordinates .now) (a .lanes .now) (a .boundaries .now) (a .i) (a .j) (a .plan) (a .reach) (c .before .before .before .before .before .before .before .before .before .before .before .before .before .before .before .before .before .side-points .result) (c .before .before .before .before .before .before .before .before .before .before .before .before .before .before .before .before .side-points2 .result)
-    (c .before .before .before .before .before .before .before .before .before .before .before .before .before .before .before .before .before .side-points .ensures) (c .before .before .before .before .before .before .before .before .before .before .before .before .before .before .before .before .side-points2 .ensures) (a .work .now) (c .before .before .before .before .before .before .before .before .before .before .before .before .before .before .copy .last .1 .1 .1 .0) (c .before .before .before .before .before .before .before .before .before .before .draw-side .last .1 .1 .1 .1 .1 .1 .1 .1 .0)
-    (c .before .before .before .before .before .before .draw-side2 .last .1 .1 .1 .1 .1 .1 .1 .1 .0) (c .before .before .draw-center .last .1 .1 .1 .1 .1 .1 .0) (c .before .before .before .before .before .before .before .before .before .before .before .before .before .before .copy .ensures) (c .before .before .before .before .before .before .before .before .before .before .draw-side .ensures) (c .before .before .before .before .before .before .draw-side2 .ensures) (c .before .before .draw-center .ensures)
+    let a = c .before .before .before .before .before .before .before .before .before .before .before .before .before .before .before .before .before .before .args in
+    all-drawn (a .join) (a .coordinates .now) (a .lanes .now) (a .boundaries .now) (a .i) (a .j) (a .plan) (c .before .before .before .before .before .before .before .before .before .before .before .before .before .side-points .result) (c .before .before .before .before .before .before .before .before .before .before .before .before .side-points2 .result)
+    (c .before .before .before .before .before .before .before .before .before .before .before .before .before .side-points .ensures) (c .before .before .before .before .before .before .before .before .before .before .before .before .side-points2 .ensures) (a .work .now) (c .before .before .before .before .before .before .before .before .before .before .draw-side .last .1 .1 .1 .1 .1 .1 .1 .1 .0)
+    (c .before .before .before .before .before .before .draw-side2 .last .1 .1 .1 .1 .1 .1 .1 .1 .0) (c .before .before .draw-center .last .1 .1 .1 .1 .1 .1 .0) (c .before .before .before .before .before .before .before .before .before .before .draw-side .ensures) (c .before .before .before .before .before .before .draw-side2 .ensures) (c .before .before .draw-center .ensures)
 
 pub draw-spec : {M : Type 1} → statement M
 draw-spec =
     tie.close
     (tie.spec
     side-points-requires
-    add-right-at
     side-points-requires-2
     add-center-at
-    mul-copy
-    copy-requires
     draw-side-requires
     draw-side-requires-2
     draw-center-requires

@@ -20,8 +20,8 @@ all-counted-requires c κs = search needs
 rows-sound-requires : tie.Need-rows-sound-requires
 rows-sound-requires c κs = sym (c .before .all-counted .ensures) ∙ c .if1 .taken
 
-lines-apart-requires : tie.Need-lines-apart-requires
-lines-apart-requires c κs =
+lines-clear-requires : tie.Need-lines-clear-requires
+lines-clear-requires c κs =
     let t = tablesOf (c .before .before .before .before .before .before .before .before .before .before .before .before .args .lanes .now) (c .before .before .before .before .before .before .before .before .before .before .before .before .args .boundaries .now) (c .before .before .before .before .before .before .before .before .before .before .before .before .args .roads .now) (c .before .before .before .before .before .before .before .before .before .before .before .before .args .junctions .now) (c .before .before .before .before .before .before .before .before .before .before .before .before .args .rules .now) (c .before .before .before .before .before .before .before .before .before .before .before .before .args .stop-lines .now) (c .before .before .before .before .before .before .before .before .before .before .before .before .args .crosswalks .now) (c .before .before .before .before .before .before .before .before .before .before .before .before .args .coordinates .now) in
     let k = c .before .before .before .before .before .before .before .before .before .before .before .before .args .counter in
     let small : k ≤ lastCounter = omega (arith, c .before .before .before .before .before .before .before .before .before .before .before .before .good .0 .1) in
@@ -53,7 +53,7 @@ returns c =
     let k = c .before .before .before .before .before .before .before .before .before .before .before .before .before .before .before .before .before .args .counter in
     let small : k ≤ lastCounter = omega (arith, c .before .before .before .before .before .before .before .before .before .before .before .before .before .before .before .before .before .good .0 .1) in
     let w = words-of t (c .before .before .before .before .before .before .before .before .before .before .before .before .before .before .before .before .shared-slice-known .given) (c .before .before .before .before .before .before .before .before .before .before .before .before .before .before .before .shared-slice-known2 .given) (c .before .before .before .before .before .before .before .before .before .before .before .before .before .before .shared-slice-known3 .given) (c .before .before .before .before .before .before .before .before .before .before .before .before .before .shared-slice-known4 .given) (c .before .before .before .before .before .before .before .before .before .before .before .before .shared-slice-known5 .given) (c .before .before .before .before .before .before .before .before .before .before .before .shared-slice-known6 .given) (c .before .before .before .before .before .before .before .before .before .before .shared-slice-known7 .given) in
-    joined _ _ (c .before .before .links-returned .ensures) (c .before .neighbors-returned .ensures) (c .both .ensures) (end-tied k t small w (sym (c .before .before .before .before .before .before .before .before .all-counted .ensures) ∙ c .before .before .before .before .before .before .before .if1 .taken) (sym (c .before .before .before .before .before .before .rows-sound .ensures) ∙ c .before .before .before .before .before .if2 .taken) (ap allClear (spans-lines t) ∙ (sym (c .before .before .before .before .lines-apart .ensures) ∙ c .before .before .before .if3 .taken)))
+    joined _ _ (c .before .before .links-returned .ensures) (c .before .neighbors-returned .ensures) (c .both .ensures) (end-tied k t small w (sym (c .before .before .before .before .before .before .before .before .all-counted .ensures) ∙ c .before .before .before .before .before .before .before .if1 .taken) (sym (c .before .before .before .before .before .before .rows-sound .ensures) ∙ c .before .before .before .before .before .if2 .taken) (ap allClear (spans-lines t) ∙ (sym (c .before .before .before .before .lines-clear .ensures) ∙ c .before .before .before .if3 .taken)))
 
 returns-2 : tie.Need-returns-2
 returns-2 c =
@@ -61,7 +61,7 @@ returns-2 c =
     let k = c .before .before .before .before .before .before .before .before .before .before .before .before .before .before .args .counter in
     let small : k ≤ lastCounter = omega (arith, c .before .before .before .before .before .before .before .before .before .before .before .before .before .before .good .0 .1) in
     let w = words-of t (c .before .before .before .before .before .before .before .before .before .before .before .before .before .shared-slice-known .given) (c .before .before .before .before .before .before .before .before .before .before .before .before .shared-slice-known2 .given) (c .before .before .before .before .before .before .before .before .before .before .before .shared-slice-known3 .given) (c .before .before .before .before .before .before .before .before .before .before .shared-slice-known4 .given) (c .before .before .before .before .before .before .before .before .before .shared-slice-known5 .given) (c .before .before .before .before .before .before .before .before .shared-slice-known6 .given) (c .before .before .before .before .before .before .before .shared-slice-known7 .given) in
-    end-touching k t small w (ap allClear (spans-lines t) ∙ (sym (c .before .lines-apart .ensures) ∙ c .if3 .left))
+    end-touching k t small w (ap allClear (spans-lines t) ∙ (sym (c .before .lines-clear .ensures) ∙ c .if3 .left))
 
 returns-3 : tie.Need-returns-3
 returns-3 c =
@@ -85,7 +85,7 @@ sound-spec =
     (tie.spec
     all-counted-requires
     rows-sound-requires
-    lines-apart-requires
+    lines-clear-requires
     links-returned-requires
     neighbors-returned-requires
     both-requires
