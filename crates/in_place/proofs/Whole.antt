@@ -20,7 +20,8 @@ use Rattle.layout.specs.Layout.{lineFloats, pointsIn, countedLines, gathered, s
 use Rattle.order.specs.Order.{behindAll}
 use Rattle.in_place.specs.Settle.{downAll, upAll, started, lies, Movable, Placed, Settleable}
 use Rattle.in_place.proofs.Moves.{lies-cases, length-sourced}
-use Rattle.in_place.proofs.Settled.{Loose, Stored, line-cases, first-any, first-stored, Settles, settled}
+use Rattle.order.proofs.Heads.{Loose, Stored, line-cases, first-any, first-stored}
+use Rattle.in_place.proofs.Settled.{Settles, settled}
 
 -- ---- lines in order lie
 

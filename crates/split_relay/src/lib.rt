@@ -1,5 +1,11 @@
-// edit/split.rs: the tables with lines after a split: lines drawn by `split_lines`, rows written by `split_tables`, all brought to their places by `settle` or
+// edit/split.rs: the tables with lines after a split: lines drawn by `split_lines`, rows written by `split_tables`, all brought to their places by `in_place` or
 // `layout`.
+ghost use mathlib.Core.Path.{_≡_};
+ghost use Prim.Native.Nat.{_+_, _*_, _≤_, _<_};
+ghost use lib.ListN.{length};
+ghost use Rattle.layout.specs.Layout as L;
+ghost use Rattle.in_place.specs.Settle.{Layable};
+ghost use Rattle.split_relay.specs.Relaying as W;
 use geometry::Point2;
 use layout::SMALL_POINTS;
 use tables::BOUNDARY;
@@ -27,6 +33,8 @@ fn lay_out(
     reach: usize,
     drawn: &[f64],
 )
+    requires { ⌜ Layable reach (now drawn) (L.lineTables (now lanes) (now boundaries) (now «stop_lines») (now crosswalks) (now coordinates)) ⌝ }
+    ensures { λ _. ⌜ L.lineTables (now (lanes .exit)) (now (boundaries .exit)) (now («stop_lines» .exit)) (now (crosswalks .exit)) (now (coordinates .exit)) ≡ L.gathered (L.sourced reach (now (coordinates .entry)) (now (drawn .entry))) (L.lineTables (now (lanes .entry)) (now (boundaries .entry)) (now («stop_lines» .entry)) (now (crosswalks .entry)) (now (coordinates .entry))) ⌝ }
 {
     if reach <= SMALL_POINTS {
         layout::gather_small(
@@ -41,7 +49,7 @@ fn lay_out(
         return;
     }
     if order::in_order(lanes, boundaries, stop_lines, crosswalks, reach) {
-        settle::settle(
+        in_place::settle(
             lanes,
             boundaries,
             stop_lines,
@@ -82,6 +90,8 @@ fn relay_in(
     centers: &[u64],
     drawn: &mut [f64],
 )
+    requires { ⌜ (W.Relayable (W.cutting point reach (now seen) (now cut) next (now marks) (now pieces) m (now lines) (now centers)) (L.lineTables (now lanes) (now boundaries) (now «stop_lines») (now crosswalks) (now coordinates))) × (W.Room (W.cutting point reach (now seen) (now cut) next (now marks) (now pieces) m (now lines) (now centers)) (L.lineTables (now lanes) (now boundaries) (now «stop_lines») (now crosswalks) (now coordinates)) (now drawn)) ⌝ }
+    ensures { λ _. ⌜ L.lineTables (now (lanes .exit)) (now (boundaries .exit)) (now («stop_lines» .exit)) (now (crosswalks .exit)) (now (coordinates .exit)) ≡ W.relaid (W.cutting point reach (now (seen .entry)) (now (cut .entry)) next (now (marks .entry)) (now (pieces .entry)) m (now (lines .entry)) (now (centers .entry))) (now (drawn .entry)) (L.lineTables (now (lanes .entry)) (now (boundaries .entry)) (now («stop_lines» .entry)) (now (crosswalks .entry)) (now (coordinates .entry))) ⌝ }
 {
     let behind = split_lines::draw(
         boundaries,
@@ -135,6 +145,8 @@ fn relay_small(
     lines: &[u64],
     centers: &[u64],
 )
+    requires { ⌜ (W.Relayable (W.cutting point reach (now seen) (now cut) next (now marks) (now pieces) m (now lines) (now centers)) (L.lineTables (now lanes) (now boundaries) (now «stop_lines») (now crosswalks) (now coordinates))) × (W.drawnPoints (W.cutting point reach (now seen) (now cut) next (now marks) (now pieces) m (now lines) (now centers)) (L.lineTables (now lanes) (now boundaries) (now «stop_lines») (now crosswalks) (now coordinates)) ≤ 2048) ⌝ }
+    ensures { λ _. ⌜ L.lineTables (now (lanes .exit)) (now (boundaries .exit)) (now («stop_lines» .exit)) (now (crosswalks .exit)) (now (coordinates .exit)) ≡ W.relaid (W.cutting point reach (now (seen .entry)) (now (cut .entry)) next (now (marks .entry)) (now (pieces .entry)) m (now (lines .entry)) (now (centers .entry))) (W.blank 6144) (L.lineTables (now (lanes .entry)) (now (boundaries .entry)) (now («stop_lines» .entry)) (now (crosswalks .entry)) (now (coordinates .entry))) ⌝ }
 {
     let mut drawn = [0.0; SMALL];
     relay_in(
@@ -174,6 +186,8 @@ fn relay_large(
     lines: &[u64],
     centers: &[u64],
 )
+    requires { ⌜ W.Relayable (W.cutting point reach (now seen) (now cut) next (now marks) (now pieces) m (now lines) (now centers)) (L.lineTables (now lanes) (now boundaries) (now «stop_lines») (now crosswalks) (now coordinates)) ⌝ }
+    ensures { λ _. ⌜ L.lineTables (now (lanes .exit)) (now (boundaries .exit)) (now («stop_lines» .exit)) (now (crosswalks .exit)) (now (coordinates .exit)) ≡ W.relaid (W.cutting point reach (now (seen .entry)) (now (cut .entry)) next (now (marks .entry)) (now (pieces .entry)) m (now (lines .entry)) (now (centers .entry))) (W.blank 196608) (L.lineTables (now (lanes .entry)) (now (boundaries .entry)) (now («stop_lines» .entry)) (now (crosswalks .entry)) (now (coordinates .entry))) ⌝ }
 {
     let mut drawn = [0.0; LARGE];
     relay_in(
@@ -215,6 +229,8 @@ pub fn relay(
     lines: &[u64],
     centers: &[u64],
 )
+    requires { ⌜ (W.Relayable (W.cutting point reach (now seen) (now cut) next (now marks) (now pieces) m (now lines) (now centers)) (L.lineTables (now lanes) (now boundaries) (now «stop_lines») (now crosswalks) (now coordinates))) × (points ≡ W.drawnPoints (W.cutting point reach (now seen) (now cut) next (now marks) (now pieces) m (now lines) (now centers)) (L.lineTables (now lanes) (now boundaries) (now «stop_lines») (now crosswalks) (now coordinates))) ⌝ }
+    ensures { λ _. ⌜ L.lineTables (now (lanes .exit)) (now (boundaries .exit)) (now («stop_lines» .exit)) (now (crosswalks .exit)) (now (coordinates .exit)) ≡ W.relaid (W.cutting point reach (now (seen .entry)) (now (cut .entry)) next (now (marks .entry)) (now (pieces .entry)) m (now (lines .entry)) (now (centers .entry))) (W.blank (W.workFloats (length (now (cut .entry))) points)) (L.lineTables (now (lanes .entry)) (now (boundaries .entry)) (now («stop_lines» .entry)) (now (crosswalks .entry)) (now (coordinates .entry))) ⌝ }
 {
     if SMALL_GROUP < cut.len() {
         relay_large(
