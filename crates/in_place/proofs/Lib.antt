@@ -5,3 +5,4 @@ pub mod Walks
 pub mod Starts
 pub mod Columns
 pub mod Whole
+pub mod Laying

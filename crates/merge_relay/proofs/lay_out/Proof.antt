@@ -2,7 +2,7 @@
 use borrow.Author.Needs.{needs}
 use Rattle.merge_relay.proofs.lay_out.Statement.{statement}
 use Rattle.merge_relay.proofs.lay_out.Tie as tie
-use Rattle.merge_relay.proofs.Laying.{order-asks, settle-asks}
+use Rattle.in_place.proofs.Laying.{order-asks, settle-asks}
 
 gather-small-requires : tie.Need-gather-small-requires
 gather-small-requires c κs = search needs
