@@ -1,5 +1,5 @@
 // edit/split.rs: the tables with lines after a split: lines drawn by `split_lines`, rows written by `split_tables`, all brought to their places by `in_place` or
-// `layout`.
+// `gathers`.
 ghost use mathlib.Core.Path.{_≡_};
 ghost use Prim.Native.Nat.{_+_, _*_, _≤_, _<_};
 ghost use lib.ListN.{length};
