@@ -35,7 +35,7 @@ const ENTITY: usize = 2;
 
 // The second halves, then the new pieces: the pieces are numbered first.
 pub fn list_created(next: u64, ids: usize, lanes: usize, created: &mut [u64])
-    requires { ⌜ (next + (ids + lanes) ≤ 2 ^ 64) × ((ids ≤ 8192) × ((lanes ≤ 1024) × ((ids + lanes) * 2 ≤ length (now created)))) ⌝ }
+    requires { ⌜ (next + (ids + lanes) < 2 ^ 64) × ((ids ≤ 8192) × ((lanes ≤ 1024) × ((ids + lanes) * 2 ≤ length (now created)))) ⌝ }
     ensures { λ _. ⌜ now (created .exit) ≡ R.listed (now (created .entry)) (D.createdBy next ids lanes) ⌝ }
 {
     let lane = EntityKind::Lane;

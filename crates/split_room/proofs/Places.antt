@@ -1,11 +1,11 @@
 -- Lists that have places for second halves: one list, one row, and one turn over the rules. Assumes nothing.
-use mathlib.Core.Path.{_≡_, refl, sym, ap, _∙_}
+use mathlib.Core.Path.{_≡_, refl, sym, _∙_}
 use Prim.Native.Nat.{ℕ, suc, _+_, _-_, _*_, _≤_, _<_}
 use native.Mathlib.Numerals.{add-one}
 use native.Mathlib.Omega.{arith}
-use mathlib.Core.Bool.{Bool, true, false, not, _&&_, cond, true≢false}
-use mathlib.Core.List.{List, [], _∷_}
-use lib.Dec.{eqb, leb}
+use mathlib.Core.Bool.{Bool, true, false, not, _&&_, true≢false}
+use mathlib.Core.List.{List, []}
+use lib.Dec.{leb}
 use lib.ListN.{length, getD, take, drop, length-drop, drop-of-length-le}
 use lib.Seq.{drop-cons, drop-drop, take-all, take-take, length-take-le}
 use borrow.Author.Tests.{eq-eqb, ne-eqb, leb-true}
@@ -91,9 +91,6 @@ module _ (cut w : List ℕ) (f : ruleFormed w ≡ true) (l : length w ≡ 330) w
   own-few = rule-lanes w f
 
   module _ (anchored : Bool) where
-    pub own-anchored : anchored ≡ true → true ≡ ownFits anchored cut w
-    own-anchored a = rw a
-
     pub own-named : anchored ≡ false → (r : ℕ) → r ≡ namedOf cut (take (6 + word 5 w - 6) (drop 6 w)) → leb (word 5 w + r) 64 ≡ ownFits anchored cut w
     own-named a r e = let z : 6 + word 5 w - 6 ≡ word 5 w = omega arith in rw (a, e, z)
 

@@ -4,7 +4,7 @@ use Prim.Native.Nat.{ℕ, zero, suc, _+_, _-_, _*_, _≤_, _<_}
 use native.Mathlib.Numerals.{add-one}
 use native.Mathlib.Omega.{arith}
 use mathlib.Core.Bool.{Bool, true, false, not, _&&_, cond}
-use mathlib.Core.List.{List, [], _∷_, _++_}
+use mathlib.Core.List.{List, [], _∷_}
 use lib.Dec.{eqb, leb}
 use lib.ListN.{length, getD, take, drop, length-append, drop-of-length-le}
 use lib.Seq.{drop-cons, drop-drop}
@@ -12,7 +12,7 @@ use borrow.Author.Tests.{eq-eqb, ne-eqb, leb-true, le-leb}
 use Rattle.lists.specs.Every.{all}
 use Rattle.lists.proofs.Every.{all-head, all-tail}
 use Rattle.lists.proofs.Rows.{length-reads, getD-reads}
-use Rattle.tables.specs.View.{word, mark, rows}
+use Rattle.tables.specs.View.{word, rows}
 use Rattle.tables.specs.Formed.{counted}
 use Rattle.row_tests.specs.Good.{allRows}
 use Rattle.row_tests.proofs.Tables.{table-some, table-few, table-room, row-room}

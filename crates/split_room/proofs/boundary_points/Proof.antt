@@ -1,7 +1,6 @@
 -- `split_room::boundary_points` meets its contract. The invariant: the points of the boundaries before number i, of which j are marked, and of those from there on are the whole. The measure is how many are left. Assumes nothing.
 use Rattle.split_room.proofs.boundary_points.Statement.{statement}
 use Rattle.split_room.proofs.boundary_points.Tie as tie
-use mathlib.Core.Path.{_≡_}
 use mathlib.Core.Logic.{⊎-elim}
 use Prim.Native.Nat.{_+_, _*_, _-_, _≤_}
 use native.Mathlib.Omega.{arith}

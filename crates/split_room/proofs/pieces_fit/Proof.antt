@@ -1,7 +1,7 @@
 -- `split_room::pieces_fit` meets its contract. The invariant: the pieces before number j are short, so all are where those from there on are. The measure is how many are left. Assumes nothing.
 use Rattle.split_room.proofs.pieces_fit.Statement.{statement}
 use Rattle.split_room.proofs.pieces_fit.Tie as tie
-use mathlib.Core.Path.{_≡_, refl}
+use mathlib.Core.Path.{_≡_}
 use Prim.Native.Nat.{_-_, _≤_}
 use native.Mathlib.Omega.{arith}
 use Rattle.split_room.specs.Fitting.{piecesFit}
