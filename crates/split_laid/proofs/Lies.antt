@@ -127,11 +127,13 @@ each-reads : {A : Type 0} (F : A → Type 0) (s : ℕ) (dec : List ℕ → A) (n
 unfolding reads EachOf
 each-reads F s dec zero w h = refl
 each-reads F s dec (suc n) w h =
-    let z : 0 * s ≡ 0 = omega arith in
-    (rw z at (h 0 (omega arith)), each-reads F s dec n (drop s w) (λ j l.
-    let k : suc j < suc n = omega arith in
-    let q : suc j * s ≡ s + j * s = omega arith in
-    rw drop-drop (rw q at (h (suc j) k))))
+    let z : 0 * s ≡ 0 = omega arith in (
+      rw z at (h 0 (omega arith)),
+      each-reads F s dec n (drop s w) (λ j l.
+          let k : suc j < suc n = omega arith in
+          let q : suc j * s ≡ s + j * s = omega arith in
+          rw drop-drop (rw q at (h (suc j) k))),
+    )
 
 pub each-rows-at : {A : Type 0} (F : A → Type 0) (s : ℕ) (dec : List ℕ → A) (t : List ℕ) → ((j : ℕ) → j < word 0 t → F (dec (rowAt s t j))) → EachOf F (rows s dec t)
 unfolding rows
@@ -171,9 +173,10 @@ module _ (work : List Float) (centers : List ℕ) where
     second-lie : (rank at : ℕ) (qs : List LanePlan) → Runs work at (centerLines qs) → StartsAt centers rank at qs → EachOf LaneLies (secondStarts pieces m centers next ps xs c rank qs)
     unfolding Runs centerLines StartsAt secondStarts EachOf
     second-lie rank at [] h s = refl
-    second-lie rank at (x ∷ qs) h s =
-        (optional-lies (firstStart centers rank + firstSize centers rank) (x .second-center) (rw (s .0, s .1 .0) (h .1 .0)),
-        second-lie (suc rank) (at + length (pointsOr (x .first-center)) + length (pointsOr (x .second-center))) qs (h .1 .1) (s .1 .1))
+    second-lie rank at (x ∷ qs) h s = (
+      optional-lies (firstStart centers rank + firstSize centers rank) (x .second-center) (rw (s .0, s .1 .0) (h .1 .0)),
+      second-lie (suc rank) (at + length (pointsOr (x .first-center)) + length (pointsOr (x .second-center))) qs (h .1 .1) (s .1 .1),
+    )
 
     module _ (reach : ℕ) (few : reach ≤ length c / 3) (begins : take (reach * 3) work ≡ take (reach * 3) c) (at : ℕ) (h : Runs work at (centerLines ps)) (s : StartsAt centers 0 at ps) where
       -- a lane that is there

@@ -180,7 +180,6 @@ module _ (pieces : List ℕ) (m : ℕ) (cut : List ℕ) (next : ℕ) (centers : 
 pub ids-few : (k : ℕ) (w : List ℕ) → word k w ≤ 16 → length (idsAt k w) ≤ 16
 ids-few k w h = omega (arith, length-take (word k w) (drop (suc k) w))
 
-
 -- what a row asks: it is formed, its centreline is stored, and its predecessors fit
 pub record Cuttable (c : List Float) (hs : List (ℕ × ℕ)) (w : List ℕ) : Type 0 where
   pub formed : laneFormed w ≡ true
@@ -223,12 +222,21 @@ module _ (pieces : List ℕ) (m : ℕ) (cut : List ℕ) (next : ℕ) (centers : 
           let f = q .formed in
           let l = own-line x0 x1 x2 x3 x4 x5 x6 x7 x8 x9 x10 x11 x12 x13 x14 x15 x16 x17 n k ps ss lp ls c f (mark 6 lane) (q .center) in
           laid-row x0 x1 x2 x3 x4 x5 x6 x7 x8 x9 x10 x11 x12 x13 x14 x15 x16 x17 n k ps ss lp ls x7 (uncut pairs (laneOf c lane))
-          ∙ rw (own3 x0 x1 x2 x3 x4 x5 x6 x7 x8 x9 x10 x11 x12 x13 x14 x15 x16 x17 n k ps ss lp ls c f, own5 x0 x1 x2 x3 x4 x5 x6 x7 x8 x9 x10 x11 x12 x13 x14 x15 x16 x17 n k ps ss lp ls c f,
-          own6 x0 x1 x2 x3 x4 x5 x6 x7 x8 x9 x10 x11 x12 x13 x14 x15 x16 x17 n k ps ss lp ls c f, own9 x0 x1 x2 x3 x4 x5 x6 x7 x8 x9 x10 x11 x12 x13 x14 x15 x16 x17 n k ps ss lp ls c f,
-          own10 x0 x1 x2 x3 x4 x5 x6 x7 x8 x9 x10 x11 x12 x13 x14 x15 x16 x17 n k ps ss lp ls c f, own11 x0 x1 x2 x3 x4 x5 x6 x7 x8 x9 x10 x11 x12 x13 x14 x15 x16 x17 n k ps ss lp ls c f,
-          own14 x0 x1 x2 x3 x4 x5 x6 x7 x8 x9 x10 x11 x12 x13 x14 x15 x16 x17 n k ps ss lp ls c f, own15 x0 x1 x2 x3 x4 x5 x6 x7 x8 x9 x10 x11 x12 x13 x14 x15 x16 x17 n k ps ss lp ls c f,
-          own16 x0 x1 x2 x3 x4 x5 x6 x7 x8 x9 x10 x11 x12 x13 x14 x15 x16 x17 n k ps ss lp ls c f, own17 x0 x1 x2 x3 x4 x5 x6 x7 x8 x9 x10 x11 x12 x13 x14 x15 x16 x17 n k ps ss lp ls c f,
-          l .0, l .1, own-after) (sym (came-put x2 x4 x7 x8 x14 x15 x16 x17 (k ∷ ss)))
+          ∙ rw (
+            own3 x0 x1 x2 x3 x4 x5 x6 x7 x8 x9 x10 x11 x12 x13 x14 x15 x16 x17 n k ps ss lp ls c f,
+            own5 x0 x1 x2 x3 x4 x5 x6 x7 x8 x9 x10 x11 x12 x13 x14 x15 x16 x17 n k ps ss lp ls c f,
+            own6 x0 x1 x2 x3 x4 x5 x6 x7 x8 x9 x10 x11 x12 x13 x14 x15 x16 x17 n k ps ss lp ls c f,
+            own9 x0 x1 x2 x3 x4 x5 x6 x7 x8 x9 x10 x11 x12 x13 x14 x15 x16 x17 n k ps ss lp ls c f,
+            own10 x0 x1 x2 x3 x4 x5 x6 x7 x8 x9 x10 x11 x12 x13 x14 x15 x16 x17 n k ps ss lp ls c f,
+            own11 x0 x1 x2 x3 x4 x5 x6 x7 x8 x9 x10 x11 x12 x13 x14 x15 x16 x17 n k ps ss lp ls c f,
+            own14 x0 x1 x2 x3 x4 x5 x6 x7 x8 x9 x10 x11 x12 x13 x14 x15 x16 x17 n k ps ss lp ls c f,
+            own15 x0 x1 x2 x3 x4 x5 x6 x7 x8 x9 x10 x11 x12 x13 x14 x15 x16 x17 n k ps ss lp ls c f,
+            own16 x0 x1 x2 x3 x4 x5 x6 x7 x8 x9 x10 x11 x12 x13 x14 x15 x16 x17 n k ps ss lp ls c f,
+            own17 x0 x1 x2 x3 x4 x5 x6 x7 x8 x9 x10 x11 x12 x13 x14 x15 x16 x17 n k ps ss lp ls c f,
+            l .0,
+            l .1,
+            own-after,
+          ) (sym (came-put x2 x4 x7 x8 x14 x15 x16 x17 (k ∷ ss)))
 
       module _ (rank : ℕ) (o : Option Line) (h : HalfWords pieces m false xs (firstSize centers rank) o lane) where
         abbrev formerHalf : Lane

@@ -9,7 +9,6 @@ use lib.ListN.{length}
 use borrow.Author.Tests.{eqb-true, ltb-true, ne-eqb}
 use Rattle.lists.specs.Every.{all}
 use Rattle.lists.specs.Select.{keep, any, ascending}
-
 use Rattle.lists.proofs.Select.{all-weaken, above-all, ascending-tail, keep-none}
 use Rattle.tables.specs.View.{word}
 use Rattle.lookup.specs.Lookup.{rowUses}
