@@ -1,0 +1,1 @@
+// edit/split.rs: laws: the change set that a split writes is the definition's (proofs/).
