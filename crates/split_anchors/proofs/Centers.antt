@@ -114,7 +114,7 @@ module _ (m : Map) (ps : List LanePlan) (group : List ℕ) (ls : List Lane) (p :
     pub present : (l : Lane) → In l ls → There m l
 
   module _ (h : Cut) (c : List Float) (boundaries : List ℕ) (same : m .boundaries ≡ rows 5 (boundaryOf c) boundaries) (j : ℕ) (x : LanePlan) (i : In (j, x) (numbered new ps)) where
-    planned : In x ps
+    pub planned : In x ps
     planned = in-numbered new ps j x i
 
     its-lane : In (x .of) ls
@@ -126,11 +126,15 @@ module _ (m : Map) (ps : List LanePlan) (group : List ℕ) (ls : List Lane) (p :
     by-second : bySecond ps new j ≡ some (j, x)
     by-second = in-found secondId (numbered new ps) (j, x) (numbered-up new ps) i
 
+    -- the lane in the old map
+    pub lane-before : lane m (x .of .id) ≡ some (x .of)
+    lane-before = first-lane m ps new (h .lanes .choice) (x .of .id) (j, x) by-first
+
     first-after : lane then (x .of .id) ≡ some (firstHalf xs (halves new ps) j x)
     unfolding cutMap
     first-after =
         after-lane m ps new (h .lanes) xs then refl (x .of .id)
-        ∙ (ap (λ o. laneAt m ps new (h .lanes .choice) xs (x .of .id) o (byFirst ps new (x .of .id)) (bySecond ps new (x .of .id))) (first-lane m ps new (h .lanes .choice) (x .of .id) (j, x) by-first)
+        ∙ (ap (λ o. laneAt m ps new (h .lanes .choice) xs (x .of .id) o (byFirst ps new (x .of .id)) (bySecond ps new (x .of .id))) lane-before
         ∙ ap (λ o. laneAt m ps new (h .lanes .choice) xs (x .of .id) (some (x .of)) o (bySecond ps new (x .of .id))) by-first)
 
     second-after : lane then j ≡ some (secondHalf xs (halves new ps) j x)

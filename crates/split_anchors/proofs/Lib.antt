@@ -1,3 +1,5 @@
 pub mod Members
 pub mod Sides
 pub mod Centers
+pub mod Places
+pub mod Told

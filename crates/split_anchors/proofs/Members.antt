@@ -3,9 +3,10 @@ use mathlib.Core.Path.{_≡_, refl, sym, ap, _∙_}
 use mathlib.Core.Bool.{Bool, true, false, _||_, cond}
 use mathlib.Core.List.{List, [], _∷_, _++_, map}
 use mathlib.Core.Option.{Option, none, some}
-use Prim.Native.Nat.{ℕ, _<_}
+use Prim.Native.Nat.{ℕ, suc, _<_}
 use native.Mathlib.Omega.{arith}
 use lib.Dec.{eqb, ltb}
+use lib.ListN.{length, getD}
 use borrow.Author.Tests.{eq-eqb, ne-eqb, ltb-true}
 use Rattle.lists.specs.Every.{all}
 use Rattle.lists.specs.Select.{keep, any, find, each, ascending}
@@ -79,3 +80,18 @@ module _ {A B : Type 0} where
 -- a numbered one
 pub in-numbered : {A : Type 0} (n : ℕ) (xs : List A) (j : ℕ) (x : A) → In (j, x) (numbered n xs) → In x xs
 in-numbered {A} n xs j x i = rw (numbered-list n xs) at (in-map (λ (z : ℕ × A). z .1) (numbered n xs) (j, x) i)
+
+-- its place
+pub placeIn : {A : Type 0} (xs : List A) (x : A) → In x xs → ℕ
+placeIn (y ∷ xs) x here = 0
+placeIn (y ∷ xs) x (there i) = suc (placeIn xs x i)
+
+pub place-within : {A : Type 0} (xs : List A) (x : A) (i : In x xs) → placeIn xs x i < length xs
+unfolding placeIn
+place-within (y ∷ xs) x here = omega arith
+place-within (y ∷ xs) x (there i) = let h = place-within xs x i in omega arith
+
+pub place-map : {A B : Type 0} (f : A → B) (d : B) (xs : List A) (x : A) (i : In x xs) → getD (map f xs) (placeIn xs x i) d ≡ f x
+unfolding placeIn
+place-map f d (y ∷ xs) x here = refl
+place-map f d (y ∷ xs) x (there i) = place-map f d xs x i
