@@ -151,6 +151,11 @@ pub fn run() -> bool {
         second: 522,
     };
     time("merge_lanes, full map", &spared, ahead);
+    // More lines and fewer lie behind those that change: what moving a line takes.
+    for (name, first) in [("the same, first lanes", 2), ("the same, last lanes", 1010)] {
+        let second = first + 8;
+        time(name, &spared, Call::MergeLanes { first, second });
+    }
     let full = full(0);
     // Lanes in no order, with gaps between their ids: the worst for a search that begins near by.
     let scattered = grid_by(100, 10, 8, |place| 1 + 7 * (place as u64 * 389 % 1000) + place as u64 % 7);

@@ -1,2 +1,3 @@
 pub mod Created
 pub mod Warned
+pub mod Touched
