@@ -1,6 +1,6 @@
 -- The centreline of a half in the map after the cut is what the old tables make of it, so an anchor lies past the same cuts. Assumes nothing.
 use mathlib.Core.Path.{_≡_, refl, sym, ap, _∙_}
-use mathlib.Core.Bool.{Bool, true, false, _||_, cond}
+use mathlib.Core.Bool.{true, false, cond}
 use mathlib.Core.List.{List, [], _∷_, map}
 use mathlib.Core.Option.{Option, none, some}
 use Prim.Native.Nat.{ℕ}
@@ -8,18 +8,19 @@ use lib.Dec.{eqb}
 use lib.Ieee.{Float}
 use borrow.Author.Tests.{eq-eqb}
 use Rattle.lists.specs.Select.{any}
+use Rattle.lists.proofs.Booleans.{or-right}
 use Rattle.polyline.specs.Polyline.{firstPiece, secondPiece}
 use Rattle.entities.specs.declared.Tolerance.{Tolerance}
 use Rattle.entities.specs.declared.Refusal.the-variants as R
 use Rattle.entities.specs.Records.{Line, Lane, Boundary, Map}
 use Rattle.rules.specs.Names.{Point2, Side, Left, Right}
 use Rattle.rules.specs.Map.{lane, boundary, boundaryOn, centerline, oriented-boundary, derived, explicitOr, station, uses}
-use Rattle.rules.specs.Edit.{Res, refuse, yield, _>>=_, Passed, check, require}
-use Rattle.rules.specs.Split.{LanePlan, Piece, centerPiece, cuttable, lane-plan, lane-plans, crosses, all-cross, halves, firstHalf, secondHalf, firstRef, secondRef, centerOf, pastCut, onSecond, cutMap}
+use Rattle.rules.specs.Edit.{Res, yield, _>>=_, Passed, check, require}
+use Rattle.rules.specs.Split.{LanePlan, Piece, centerPiece, cuttable, lane-plan, lane-plans, crosses, all-cross, halves, firstHalf, secondHalf, centerOf, pastCut, onSecond, cutMap}
 use Rattle.laws.proofs.Lawful.{yields, no-yield}
 use Rattle.laws.proofs.Find.{numbered, numbered-up}
 use Rattle.laws.proofs.SplitPlans.{bound}
-use Rattle.laws.proofs.SplitLanes.{Numbered, firstId, secondId, Cutting, byFirst, bySecond, firsts-up, first-lane, second-new, laneAt}
+use Rattle.laws.proofs.SplitLanes.{firstId, secondId, Cutting, byFirst, bySecond, firsts-up, first-lane, second-new, laneAt}
 use Rattle.laws.proofs.SplitLinks.{after-lane}
 use Rattle.tables.specs.View.{rows, laneOf, boundaryOf}
 use Rattle.lookup.specs.Lookup.{rowAt}
@@ -147,13 +148,9 @@ module _ (m : Map) (ps : List LanePlan) (group : List ℕ) (ls : List Lane) (p :
     used : (side : Side) → any (uses (boundaryOn side (x .of) .boundary)) ls ≡ true
     used side = in-any (uses (boundaryOn side (x .of) .boundary)) ls (x .of) its-lane (go side)
       where
-        or-true : (b : Bool) → (b || true) ≡ true
-        or-true true = refl
-        or-true false = refl
-
         go : (side : Side) → uses (boundaryOn side (x .of) .boundary) (x .of) ≡ true
         go Left = rw (eq-eqb (x .of .left .boundary) (x .of .left .boundary) refl)
-        go Right = ap (λ b. eqb (x .of .left .boundary) (x .of .right .boundary) || b) (eq-eqb (x .of .right .boundary) (x .of .right .boundary) refl) ∙ or-true (eqb (x .of .left .boundary) (x .of .right .boundary))
+        go Right = or-right (eqb (x .of .left .boundary) (x .of .right .boundary)) (eqb (x .of .right .boundary) (x .of .right .boundary)) (eq-eqb (x .of .right .boundary) (x .of .right .boundary) refl)
 
     -- a boundary along a half
     pub side-line : (side : Side) → (oriented-boundary then side (firstHalf xs (halves new ps) j x) ≡ halfSide c boundaries p false (boundaryOn side (x .of)))

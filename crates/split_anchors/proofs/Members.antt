@@ -1,9 +1,10 @@
 -- What stands in a list: found by its key where keys ascend, and in lists made of others. Assumes nothing.
-use mathlib.Core.Path.{_≡_, refl, sym, ap, _∙_}
+use mathlib.Core.Path.{_≡_, refl, sym, _∙_}
 use mathlib.Core.Bool.{Bool, true, false, _||_, cond}
 use mathlib.Core.List.{List, [], _∷_, _++_, map}
-use mathlib.Core.Option.{Option, none, some}
-use Prim.Native.Nat.{ℕ, suc, _<_}
+use mathlib.Core.Option.{some}
+use Prim.Native.Nat.{ℕ, zero, suc, _+_, _<_}
+use native.Mathlib.Nat.{le-of-suc-le-suc, not-suc-le-zero}
 use native.Mathlib.Omega.{arith}
 use lib.Dec.{eqb, ltb}
 use lib.ListN.{length, getD}
@@ -95,3 +96,10 @@ pub place-map : {A B : Type 0} (f : A → B) (d : B) (xs : List A) (x : A) (i : 
 unfolding placeIn
 place-map f d (y ∷ xs) x here = refl
 place-map f d (y ∷ xs) x (there i) = place-map f d xs x i
+
+-- the one at number r
+pub numbered-in : {A : Type 0} (n : ℕ) (xs : List A) (r : ℕ) (d : A) → r < length xs → In (n + r, getD xs r d) (numbered n xs)
+unfolding numbered
+numbered-in n [] r d h = absurd (not-suc-le-zero h)
+numbered-in n (x ∷ xs) zero d h = let z : n + 0 ≡ n = omega arith in rw z here
+numbered-in n (x ∷ xs) (suc r) d h = let z : n + suc r ≡ suc n + r = omega arith in rw z (there (numbered-in (suc n) xs r d (le-of-suc-le-suc h)))

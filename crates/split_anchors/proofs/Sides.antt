@@ -1,7 +1,7 @@
 -- The boundaries of the map after the cut, under the ids of the pieces, and a half's boundary along it. Assumes nothing.
 use mathlib.Core.Path.{_≡_, refl, sym, ap, _∙_}
 use mathlib.Core.Bool.{Bool, true, false, not, _||_, cond}
-use mathlib.Core.List.{List, [], _∷_, _++_, map}
+use mathlib.Core.List.{List, [], _∷_, map}
 use mathlib.Core.Option.{Option, none, some}
 use Prim.Native.Nat.{ℕ, suc, _+_, _≤_}
 use native.Mathlib.Omega.{arith}
@@ -11,11 +11,9 @@ use borrow.Author.Tests.{ne-eqb, eqb-true, ltb-true, leb-true}
 use Rattle.lists.specs.Every.{all}
 use Rattle.lists.specs.Select.{keep, any, find, each, has, ascending}
 use Rattle.lists.proofs.Select.{all-map, keys-keep}
-use Rattle.entities.specs.Records.{Line, Lane, Boundary, Map}
-use Rattle.rules.specs.Names.{BoundaryRef, Point2, Side, Left, Right}
-use Rattle.rules.specs.Map.{station, boundary, boundaryOn, oriented, orientedIn, uses}
-use Rattle.rules.specs.Edit.{upFrom}
-use Rattle.rules.specs.Merge.{redrawn}
+use Rattle.entities.specs.Records.{Lane, Boundary, Map}
+use Rattle.rules.specs.Names.{BoundaryRef, Point2}
+use Rattle.rules.specs.Map.{station, boundary, oriented, orientedIn, uses}
 use Rattle.rules.specs.Split.{LanePlan, Piece, pieceOf, pieceIds, pieces, piecesIds, pieceFor, cutBoundary, newPiece, newPieces, firstRef, secondRef, halves, cutMap}
 use Rattle.laws.proofs.Find.{orElse, find-append, find-none}
 use Rattle.laws.proofs.Exact.{changedBy, found-map}
@@ -27,7 +25,7 @@ use Rattle.tables.specs.View.{rows, boundaryOf}
 use Rattle.lookup.specs.Lookup.{drawn}
 use Rattle.split_lines.specs.Cut.{firstLine, secondLine}
 use Rattle.split_half.specs.Half.{halfOf, takesSecond, along, halfSide}
-use Rattle.split_anchors.proofs.Members.{In, here, there, all-in, in-found, found-in, in-front, in-behind, in-kept, in-each}
+use Rattle.split_anchors.proofs.Members.{In, here, there, all-in, in-found, found-in, in-kept, in-each}
 
 -- ---- the pieces
 

@@ -1,9 +1,8 @@
 -- The marks that are found before the cut say of every rule what document 01 says of it in the map after the cut. Assumes nothing.
 use mathlib.Core.Path.{_≡_, refl, sym, ap, _∙_}
 use mathlib.Core.Logic.{_⊎_, inl, inr}
-use Prim.Native.Nat.{ℕ, suc, _*_, _<_}
-use native.Mathlib.Omega.{arith}
-use mathlib.Core.Bool.{Bool, true, false, _&&_, _||_, cond, true≢false}
+use Prim.Native.Nat.{ℕ, suc, _<_}
+use mathlib.Core.Bool.{Bool, true, false, cond}
 use mathlib.Core.List.{List, [], _∷_, map}
 use mathlib.Core.Option.{Option, none, some}
 use lib.Ieee.{Float}
@@ -20,7 +19,7 @@ use Rattle.rules.specs.Names.{Point2}
 use Rattle.rules.specs.Map.{lane, rule-anchor}
 use Rattle.rules.specs.Split.{LanePlan, onSecond, cutMap}
 use Rattle.laws.proofs.Find.{no-some, some-is, numbered, numbered-list}
-use Rattle.laws.proofs.SplitLanes.{map-map, Numbered, firstId, firsts-up}
+use Rattle.laws.proofs.SplitLanes.{map-map, Numbered, firsts-up}
 use Rattle.tables.specs.View.{word, idsAt, rows, laneOf, boundaryOf, ruleOf, stopLineOf, crosswalkOf}
 use Rattle.lookup.specs.Lookup.{placeOf, rowAt, crossed}
 use Rattle.lookup.proofs.Laws.{find-at, find-none}
@@ -36,7 +35,7 @@ use Rattle.split_anchors.proofs.Places.{anchored-at, mark-at}
 
 -- ---- general
 
-marks-each : (side : LanePlan → ℕ → Bool) (past : List Bool) (ids : List ℕ) (n : ℕ) (ps : List LanePlan)
+pub marks-each : (side : LanePlan → ℕ → Bool) (past : List Bool) (ids : List ℕ) (n : ℕ) (ps : List LanePlan)
     → ((j : ℕ) (x : LanePlan) → In (j, x) (numbered n ps) → (k : ℕ) → k < length ids → getD ids k 0 ≡ x .of .id → getD past k false ≡ side x j) → Marks side past ids n ps
 unfolding Marks numbered
 marks-each side past ids n [] h = refl

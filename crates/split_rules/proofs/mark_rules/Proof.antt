@@ -3,7 +3,6 @@ use Rattle.split_rules.proofs.mark_rules.Statement.{statement}
 use Rattle.split_rules.proofs.mark_rules.Tie as tie
 use Prim.Native.Nat.{_-_}
 use native.Mathlib.Omega.{arith}
-use lib.ListN.{length}
 use Rattle.tables.specs.View.{word}
 use Rattle.split_rules.proofs.Passing.{Done, done-none, done-more, done-all, rules-some, rules-few, marks-room, rule-may}
 
