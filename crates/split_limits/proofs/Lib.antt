@@ -1,2 +1,5 @@
 pub mod Lengths
 pub mod Lists
+pub mod Links
+pub mod Boundaries
+pub mod Centers
