@@ -229,3 +229,59 @@ module _ (xs : List Piece) (hs : List (ℕ × ℕ)) where
   unfolding secondHalves
   half-centers n [] = refl
   half-centers n (x ∷ ps) = ap (λ ls. x .second-center ∷ ls) (half-centers (suc n) ps)
+
+module _ (c : List Float) (centers : List ℕ) (m : Map) (ps : List LanePlan) (xs : List Piece) (next : ℕ) (t : List ℕ) (seen : List Bool)
+    (own : m .lanes ≡ rows 52 (laneOf c) t) (up : ascending (keys 52 (word 0 t) (drop 1 t)) ≡ true) (there : word 0 t ≤ length seen)
+    (whose : map (laneOf c) (picked seen (rows 52 (λ w. w) t)) ≡ map (λ x. x .of) ps) (told : AllPlans centers 0 ps) (fine : centersStored c t ≡ true) where
+  abbrev ws : List (List ℕ)
+  ws = rows 52 (λ w. w) t
+
+  abbrev firsts : List Lane
+  firsts = map (cutLane ps xs (halves next ps)) (m .lanes)
+
+  abbrev seconds : List Lane
+  seconds = secondHalves xs (halves next ps) next ps
+
+  rows-lined : Lined c centers (after c centers xs next ps) 0 seen ws ps
+  unfolding rows keys
+  rows-lined =
+      lined c centers xs next ps 0 0 seen ws ps (λ k l. refl) (all-of (λ w. leb 0 (word 0 w)) ws (λ w q. le-leb 0 (word 0 w) (omega arith)))
+      (ap ascending (mapped-reads 52 (λ (w : List ℕ). w) (word 0) (word 0 t) (drop 1 t)) ∙ up) (rw (length-reads 52 (λ (w : List ℕ). w) (word 0 t) (drop 1 t)) there) whose told
+
+  rows-good : all (good c centers (after c centers xs next ps)) ws ≡ true
+  unfolding rows centersStored
+  rows-good = all-reads 52 (λ (w : List ℕ). w) (good c centers (after c centers xs next ps)) (word 0 t) (drop 1 t) ∙ fine
+
+  -- the centrelines of the first halves and of the uncut, and of the second halves
+  firsts-are : map (λ l. l .centerline) firsts ≡ map (after c centers xs next ps) ws
+  unfolding rows
+  firsts-are =
+      map-twice (cutLane ps xs (halves next ps)) (λ (l : Lane). l .centerline) (m .lanes)
+      ∙ (ap (map (λ l. cutLane ps xs (halves next ps) l .centerline)) (own ∙ sym (mapped-reads 52 (λ (w : List ℕ). w) (laneOf c) (word 0 t) (drop 1 t)))
+      ∙ map-twice (laneOf c) (λ l. cutLane ps xs (halves next ps) l .centerline) ws)
+
+  sums : (g : Option Line → ℕ) → map (λ l. g (l .centerline)) (firsts ++ seconds) ≡ map (λ w. g (after c centers xs next ps w)) ws ++ map (λ x. g (x .second-center)) ps
+  sums g =
+      map-append (λ (l : Lane). g (l .centerline)) firsts seconds
+      ∙ (ap (λ ns. ns ++ map (λ l. g (l .centerline)) seconds) (sym (map-twice (λ (l : Lane). l .centerline) g firsts) ∙ (ap (map g) firsts-are ∙ map-twice (after c centers xs next ps) g ws))
+      ∙ ap (λ ns. map (λ w. g (after c centers xs next ps w)) ws ++ ns) (sym (map-twice (λ (l : Lane). l .centerline) g seconds) ∙ (ap (map g) (half-centers xs (halves next ps) next ps) ∙ map-twice (λ (x : LanePlan). x .second-center) g ps)))
+
+  pub centers-cut : pointsOf (each (λ l. optionalLine (l .centerline)) (cutMap m ps xs (halves next ps) next .lanes)) ≡ lanePoints centers 0 seen (rows 52 (λ w. w) t)
+  unfolding cutMap
+  centers-cut =
+      center-total (firsts ++ seconds)
+      ∙ (ap total (sums (λ o. length (pointsOr o)))
+      ∙ (total-both (map (λ w. length (pointsOr (after c centers xs next ps w))) ws) (map (λ x. length (pointsOr (x .second-center))) ps)
+      ∙ lane-points c centers (after c centers xs next ps) 0 seen ws ps rows-lined rows-good))
+
+  pub center-lines-cut : all (λ c. leb (length c) 256) (each (λ l. optionalLine (l .centerline)) (cutMap m ps xs (halves next ps) next .lanes)) ≡ piecesFit centers 0 (length ps)
+  unfolding cutMap
+  center-lines-cut =
+      let p : Option Line → Bool = λ o. leb (length (pointsOr o)) 256 in
+      let f = sym (all-map p (λ (l : Lane). l .centerline) firsts) ∙ (ap (all p) firsts-are ∙ all-map p (after c centers xs next ps) ws) in
+      let s = sym (all-map p (λ (l : Lane). l .centerline) seconds) ∙ (ap (all p) (half-centers xs (halves next ps) next ps) ∙ all-map p (λ (x : LanePlan). x .second-center) ps) in
+      center-all (firsts ++ seconds)
+      ∙ (all-both (λ (l : Lane). p (l .centerline)) firsts seconds
+      ∙ (ap (λ b. b && all (λ (l : Lane). p (l .centerline)) seconds) f
+      ∙ (ap (λ b. all (λ w. p (after c centers xs next ps w)) ws && b) s
+      ∙ lane-lines c centers (after c centers xs next ps) 0 seen ws ps rows-lined rows-good)))
