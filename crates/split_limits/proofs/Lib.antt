@@ -3,3 +3,5 @@ pub mod Lists
 pub mod Links
 pub mod Boundaries
 pub mod Centers
+pub mod Points
+pub mod Whole
