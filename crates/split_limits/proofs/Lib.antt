@@ -5,3 +5,4 @@ pub mod Boundaries
 pub mod Centers
 pub mod Points
 pub mod Whole
+pub mod Numbers
