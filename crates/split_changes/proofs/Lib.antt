@@ -1,3 +1,4 @@
 pub mod Created
 pub mod Warned
 pub mod Touched
+pub mod Differing
