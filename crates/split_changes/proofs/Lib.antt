@@ -2,3 +2,4 @@ pub mod Created
 pub mod Warned
 pub mod Touched
 pub mod Differing
+pub mod Kept

@@ -9,7 +9,9 @@ use lib.ListN.{length, drop}
 use borrow.Author.Tests.{ne-eqb, eqb-true, eqb-false, ltb-true}
 use Rattle.lists.specs.Rows.{over, keys}
 use Rattle.lists.specs.Select.{keep, has, ascending}
+use Rattle.lists.specs.Every.{all}
 use Rattle.lists.specs.declared.Found.the-variants.{At}
+use Rattle.lists.proofs.Booleans.{and-both, and-fst, and-snd}
 use Rattle.lists.proofs.Rows.{mapped-reads, length-keys}
 use Rattle.lists.proofs.Select.{keep-map, keep-none, map-twice, all-weaken, above-all, ascending-tail}
 use Rattle.entities.specs.Records.{Lane}
@@ -31,6 +33,14 @@ unfolding picked keep
 picked-told p [] [] = refl
 picked-told p [] (b ∷ rest) = refl
 picked-told p (x ∷ xs) rest = rw (picked-told p xs rest)
+
+-- what holds of all rows holds of the marked
+pub all-picked : {A : Type 0} (p : A → Bool) (bs : List Bool) (ws : List A) → all p ws ≡ true → all p (picked bs ws) ≡ true
+unfolding picked all
+all-picked p [] ws h = refl
+all-picked p (b ∷ bs) [] h = refl
+all-picked p (true ∷ bs) (w ∷ ws) h = and-both (p w) (all p (picked bs ws)) (and-fst (p w) (all p ws) h) (all-picked p bs ws (and-snd (p w) (all p ws) h))
+all-picked p (false ∷ bs) (w ∷ ws) h = all-picked p bs ws (and-snd (p w) (all p ws) h)
 
 ids-rows : (t : List ℕ) → idsOf t ≡ map (word 0) (rows 52 (λ w. w) t)
 unfolding keys rows

@@ -27,6 +27,7 @@ use Rattle.store.proofs.LaidRows.{points-append}
 use Rattle.row_tests.proofs.Relations.{all-reads}
 use Rattle.layout.proofs.Standing.{line-long}
 use Rattle.split_plan.specs.Placing.{picked}
+use Rattle.split_laws.proofs.Chosen.{all-picked}
 use Rattle.split_room.specs.Fitting.{boundaryPoints, piecesFit}
 
 pub total-both : (a b : List ℕ) → total (a ++ b) ≡ total a + total b
@@ -150,13 +151,6 @@ all-both p (x ∷ xs) ys = ap (λ b. p x && b) (all-both p xs ys) ∙ sym (and-a
 unfoldable pub AllTold : List ℕ → List ℕ → ℕ → List Piece → Type 0
 AllTold pieces lines j [] = _≡_ {A = ℕ} 0 0
 AllTold pieces lines j (x ∷ xs) = PieceTold pieces lines j x × AllTold pieces lines (suc j) xs
-
-pub all-picked : {A : Type 0} (p : A → Bool) (bs : List Bool) (ws : List A) → all p ws ≡ true → all p (picked bs ws) ≡ true
-unfolding picked all
-all-picked p [] ws h = refl
-all-picked p (b ∷ bs) [] h = refl
-all-picked p (true ∷ bs) (w ∷ ws) h = and-both (p w) (all p (picked bs ws)) (and-fst (p w) (all p ws) h) (all-picked p bs ws (and-snd (p w) (all p ws) h))
-all-picked p (false ∷ bs) (w ∷ ws) h = all-picked p bs ws (and-snd (p w) (all p ws) h)
 
 none-for : (i : ℕ) (xs : List Piece) → all (λ x. ltb i (x .of .id)) xs ≡ true → pieceFor xs i ≡ none
 unfolding find all

@@ -28,7 +28,8 @@ use Rattle.store.specs.Laid.{pointsOf}
 use Rattle.layout.proofs.Standing.{line-long}
 use Rattle.split_plan.specs.Placing.{picked}
 use Rattle.split_room.specs.Fitting.{centerPoints, lanePoints, piecesFit}
-use Rattle.split_limits.proofs.Boundaries.{all-both, all-picked, total-both}
+use Rattle.split_laws.proofs.Chosen.{all-picked}
+use Rattle.split_limits.proofs.Boundaries.{all-both, total-both}
 
 -- points of a centreline, none where it is absent
 abbrev size : Option Line → ℕ
