@@ -25,7 +25,7 @@ use Rattle.laws.proofs.SplitLinks.{after-lane}
 use Rattle.tables.specs.View.{rows, laneOf, boundaryOf}
 use Rattle.lookup.specs.Lookup.{rowAt}
 use Rattle.split_half.specs.Half.{halfSide, halfCenter, rowPast}
-use Rattle.split_anchors.proofs.Members.{In, here, there, in-found, in-any, in-map, in-numbered}
+use Rattle.split_laws.proofs.Members.{In, here, there, in-found, in-any, in-map, in-numbered}
 use Rattle.split_anchors.proofs.Sides.{parts, next, after, Lines, side-after}
 
 -- ---- what an accepted call asks

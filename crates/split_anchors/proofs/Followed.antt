@@ -31,7 +31,7 @@ use Rattle.split_named.proofs.Grown.{rows-room}
 use Rattle.split_named.proofs.Words.{isSome, cutIds, below}
 use Rattle.split_named.proofs.Differs.{own-differ}
 use Rattle.split_named.proofs.Rules.{numbered-rows, RuleMarked, rule-followed, rule-differs}
-use Rattle.split_anchors.proofs.Members.{In, all-in, in-map, in-numbered}
+use Rattle.split_laws.proofs.Members.{In, all-in, in-map, in-numbered}
 use Rattle.split_anchors.proofs.Told.{marks-each}
 
 -- ---- a list that names no cut lane

@@ -1,4 +1,3 @@
-pub mod Members
 pub mod Sides
 pub mod Centers
 pub mod Places

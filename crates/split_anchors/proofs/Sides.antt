@@ -25,7 +25,7 @@ use Rattle.tables.specs.View.{rows, boundaryOf}
 use Rattle.lookup.specs.Lookup.{drawn}
 use Rattle.split_lines.specs.Cut.{firstLine, secondLine}
 use Rattle.split_half.specs.Half.{halfOf, takesSecond, along, halfSide}
-use Rattle.split_anchors.proofs.Members.{In, here, there, all-in, in-found, found-in, in-kept, in-each}
+use Rattle.split_laws.proofs.Members.{In, here, there, all-in, in-found, found-in, in-kept, in-each}
 
 -- ---- the pieces
 

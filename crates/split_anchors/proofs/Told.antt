@@ -28,7 +28,7 @@ use Rattle.follows.specs.Following.{marksOf}
 use Rattle.split_rules.specs.Past.{foundPast, rankPast, lanePast, anchorOf, isThere, anchoredBy, pastBy, Marking}
 use Rattle.split_named.proofs.Words.{isSome, cutIds, Marks}
 use Rattle.split_named.proofs.Rules.{RuleMarked}
-use Rattle.split_anchors.proofs.Members.{In, here, there, placeIn, place-within, place-map}
+use Rattle.split_laws.proofs.Members.{In, here, there, placeIn, place-within, place-map}
 use Rattle.split_anchors.proofs.Sides.{next, after}
 use Rattle.split_anchors.proofs.Centers.{Cut, planned, lane-before, past-is}
 use Rattle.split_anchors.proofs.Places.{anchored-at, mark-at}

@@ -3,3 +3,4 @@ pub mod Warned
 pub mod Touched
 pub mod Differing
 pub mod Kept
+pub mod Led

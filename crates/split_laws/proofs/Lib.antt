@@ -3,3 +3,4 @@ pub mod ByRows
 pub mod Whole
 pub mod Pieces
 pub mod Few
+pub mod Members

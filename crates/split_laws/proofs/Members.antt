@@ -59,6 +59,12 @@ module _ {A : Type 0} where
       go true j = there j
       go false j = j
 
+  -- tests that agree on what stands in a list keep the same of it
+  pub keep-in : (p q : A → Bool) (xs : List A) → ((x : A) → In x xs → p x ≡ q x) → keep p xs ≡ keep q xs
+  unfolding keep
+  keep-in p q [] h = refl
+  keep-in p q (x ∷ xs) h = rw (h x here, keep-in p q xs (λ y i. h y (there i)))
+
   pub in-any : (q : A → Bool) (xs : List A) (x : A) → In x xs → q x ≡ true → any q xs ≡ true
   unfolding any
   in-any q (y ∷ ys) x here h = rw h
