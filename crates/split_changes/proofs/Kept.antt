@@ -1,8 +1,8 @@
 -- What a split lists as modified among boundaries is the definition's: those that are cut and keep their ids. Assumes nothing.
 use mathlib.Core.Path.{_≡_, refl, ap, _∙_, sym}
-use Prim.Native.Nat.{ℕ, suc, _+_, _*_, _<_}
+use Prim.Native.Nat.{ℕ, suc, _+_, _*_}
 use native.Mathlib.Omega.{arith}
-use mathlib.Core.Bool.{Bool, true, false, _&&_, _||_, cond}
+use mathlib.Core.Bool.{Bool, true, false, _&&_, _||_}
 use mathlib.Core.List.{List, [], _∷_, _++_, map}
 use lib.Dec.{eqb, ltb}
 use lib.Ieee.{Float}
@@ -10,7 +10,7 @@ use lib.ListN.{length}
 use borrow.Author.Tests.{ltb-true, eq-eqb, ne-eqb}
 use Rattle.lists.specs.Every.{all}
 use Rattle.lists.specs.Select.{any, keep, ascending}
-use Rattle.lists.proofs.Booleans.{and-fst, and-snd, and-false, or-false}
+use Rattle.lists.proofs.Booleans.{and-fst, and-snd, and-false}
 use Rattle.lists.proofs.Select.{all-map, above-all, ascending-tail}
 use Rattle.rules.specs.Names.{BoundaryKind}
 use Rattle.rules.specs.Edit.{refs, boundariesWhere}

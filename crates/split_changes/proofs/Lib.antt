@@ -4,3 +4,4 @@ pub mod Touched
 pub mod Differing
 pub mod Kept
 pub mod Led
+pub mod Modified
