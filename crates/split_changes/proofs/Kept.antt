@@ -20,6 +20,7 @@ use Rattle.mentions.proofs.Filters.{ids-where}
 use Rattle.split_plan.specs.Placing.{picked}
 use Rattle.split_plan.proofs.Marked.{picked-none}
 use Rattle.split_laws.proofs.Chosen.{all-picked}
+use Rattle.split_laid.proofs.Boundaries.{AllWords}
 use Rattle.split_marks.specs.Touched.{aloneFrom}
 use Rattle.split_lists.specs.Changes.{markedIds}
 
@@ -60,6 +61,13 @@ module _ (pieces : List ℕ) where
   unfoldable pub Kept : ℕ → List Piece → Type 0
   Kept j [] = _≡_ {A = ℕ} 0 0
   Kept j (x ∷ xs) = (eqb (word (j * 3 + 1) pieces) (word (j * 3) pieces) ≡ x .alone) × Kept (suc j) xs
+
+  -- the rows of pieces that the layout's laws speak of do
+  pub words-kept : (lines : List ℕ) (j at : ℕ) (xs : List Piece) → AllWords pieces lines j at xs → Kept j xs
+  unfolding AllWords Kept
+  words-kept lines j at [] h = refl
+  words-kept lines j at (x ∷ xs) h =
+      (ap (λ k. eqb k (word (j * 3) pieces)) (h .0 .first) ∙ (ap (eqb (x .first)) (h .0 .id) ∙ h .0 .alone), words-kept lines (suc j) _ xs (h .1))
 
   above-rows : (w : List ℕ) (ws : List (List ℕ)) → ascending (map (word 0) (w ∷ ws)) ≡ true → all (λ v. ltb (word 0 w) (word 0 v)) ws ≡ true
   unfolding ascending

@@ -6,3 +6,4 @@ pub mod Centers
 pub mod Points
 pub mod Whole
 pub mod Numbers
+pub mod Words
