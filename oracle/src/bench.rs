@@ -7,7 +7,7 @@ use vectormap_core::*;
 
 use crate::generate::{furnish, grid, grid_by};
 use crate::sound;
-use crate::step::{Call, Room, State, edit};
+use crate::step::{edit, Call, Room, State};
 use crate::tables::*;
 
 const TURNS: usize = 201;
@@ -28,22 +28,48 @@ fn timed<T>(run: impl FnOnce() -> T) -> (Duration, T) {
     (start.elapsed(), made)
 }
 
+/// Room for what any edit of the benchmark lists.
+const AMPLE: Room = Room {
+    created: 100,
+    modified: 200,
+    deleted: 100,
+    warnings: 100,
+};
+
 /// The editor's library on the same map, if the edit is there; each turn on a copy that is not timed.
-fn library(m: &Map, call: Call) -> Option<impl FnMut() -> Duration> {
+fn library(m: &Map, call: Call, room: Room, number: u64) -> Option<impl FnMut() -> Duration> {
     let mut editor = crate::ffi::library()?;
-    let room = Room {
-        created: 100,
-        modified: 200,
-        deleted: 100,
-        warnings: 100,
-    };
     let state = State::new(crate::cases::plain(m, 40, 400), m.peek_next_id());
     editor.has(call.command()).then_some(move || {
         let mut lent = crate::against::lend(&state, &room);
         let (took, made) = timed(|| black_box(&mut *editor).call(&call, black_box(&mut lent)));
-        assert_eq!(made.number, 0, "{call:?}");
+        assert_eq!(made.number, number, "{call:?}");
         took
     })
+}
+
+/// What the test, what is decided and what is written take: a call that is refused for want of a list has decided all and written nothing.
+fn stages(name: &str, m: &Map, call: Call) {
+    let none = Room {
+        modified: 0,
+        ..AMPLE
+    };
+    let (Some(mut made), Some(mut refused)) =
+        (library(m, call, AMPLE, 0), library(m, call, none, 10))
+    else {
+        return;
+    };
+    let tables = crate::cases::plain(m, 40, 400);
+    let [whole, decided, test] = medians(|_| {
+        let lent = tables.clone();
+        let test = tested_by_editor(&lent, m.peek_next_id()).unwrap_or_default();
+        [made(), refused(), test]
+    });
+    println!(
+        "{name}: the test {test:.1}, decided {:.1}, written {:.1}",
+        decided - test,
+        whole - decided
+    );
 }
 
 /// The test of soundness on the Rust's own map.
@@ -74,7 +100,7 @@ fn time(name: &str, m: &Map, call: Call) {
         assert!(made.is_ok(), "{name}");
         took
     };
-    let mut editor = library(m, call);
+    let mut editor = library(m, call, AMPLE, 0);
     let tables = crate::cases::plain(m, 40, 400);
     let [alone, first, whole, test] = medians(|_| {
         let whole = editor.as_mut().map_or(Duration::ZERO, |run| run());
@@ -156,9 +182,13 @@ pub fn run() -> bool {
         let second = first + 8;
         time(name, &spared, Call::MergeLanes { first, second });
     }
+    stages("merge_lanes, by stages", &plain, merge);
+    stages("merge_lanes, full map, by stages", &spared, ahead);
     let full = full(0);
     // Lanes in no order, with gaps between their ids: the worst for a search that begins near by.
-    let scattered = grid_by(100, 10, 8, |place| 1 + 7 * (place as u64 * 389 % 1000) + place as u64 % 7);
+    let scattered = grid_by(100, 10, 8, |place| {
+        1 + 7 * (place as u64 * 389 % 1000) + place as u64 % 7
+    });
     println!("the test of soundness");
     for (name, m) in [
         ("plain", &plain),
