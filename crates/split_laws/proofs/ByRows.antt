@@ -15,7 +15,7 @@ use Rattle.polyline.specs.Polyline.{firstPiece, secondPiece}
 use Rattle.tables.specs.View.{word, rows, laneOf, boundaryOf}
 use Rattle.lookup.specs.Lookup.{drawn}
 use Rattle.lookup.proofs.Center.{center-drawn}
-use Rattle.split_plan.specs.Placing.{rowStation, allOf, rowCrosses, idCrosses, allPass}
+use Rattle.split_plan.specs.Placing.{planOf, plansOf, rowStation, allOf, rowCrosses, idCrosses, allPass}
 use Rattle.split_plan.specs.declared.Cut.{Cut}
 use Rattle.split_plan.proofs.Marked.{Each}
 use Rattle.split_plan.proofs.Marked as M
@@ -42,16 +42,6 @@ last-made (some c) near pick fits r q f = go (near c)
         on false = refl
 
 -- ---- plans
-
--- the plan of a lane with a station
-abbrev pub planOf : Point2 → Lane → Float → LanePlan
-planOf p l s = record { of = l; station = s; first-center = centerPiece firstPiece (l .centerline) p; second-center = centerPiece secondPiece (l .centerline) p }
-
--- the plans of rows with their stations
-unfoldable pub plansOf : List Float → Point2 → List (List ℕ) → List Float → List LanePlan
-plansOf c p [] ss = []
-plansOf c p (w ∷ ws) [] = []
-plansOf c p (w ∷ ws) (s ∷ ss) = planOf p (laneOf c w) s ∷ plansOf c p ws ss
 
 module _ (tol : Tolerance) (c : List Float) (b : List ℕ) (m : Map) (e : m .boundaries ≡ rows 5 (boundaryOf c) b) (own : ℕ) (k : Cut) where
   abbrev stationOf : List ℕ → Res Float

@@ -23,14 +23,14 @@ use Rattle.row_tests.specs.Returned.{searchable}
 use Rattle.lookup.specs.Lookup.{placeOf, rowAt, centerLine}
 use Rattle.lookup.proofs.Laws.{find-at, find-none, place-id}
 use Rattle.lookup.proofs.Center.{center-drawn}
-use Rattle.split_plan.specs.Placing.{placing, placed, placeTold, groupMarks, markedRows, rowStation, allOf, goodOf, stationsTold, groupStations, groupCut, rowCrosses, allPass, crossTold}
+use Rattle.split_plan.specs.Placing.{placing, placed, placeTold, groupMarks, markedRows, plansOf, rowStation, allOf, goodOf, stationsTold, groupStations, groupCut, rowCrosses, allPass, crossTold}
 use Rattle.split_plan.specs.declared.Cut.{Cut}
 use Rattle.split_plan.specs.declared.Placed.the-variants as P
 use Rattle.split_plan.specs.declared.Stations.the-variants as L
 use Rattle.split_plan.specs.declared.Crossed.the-variants as X
 use Rattle.split_plan.proofs.Marked.{Each, each-length, each-good, all-each}
 use Rattle.split_laws.proofs.Chosen.{lanes-chosen, ids-chosen}
-use Rattle.split_laws.proofs.ByRows.{plansOf, row-plans, plans-of, plans-ids, plans-stations, row-crossings}
+use Rattle.split_laws.proofs.ByRows.{row-plans, plans-of, plans-ids, plans-stations, row-crossings}
 
 -- ---- what the map's definition does with what is decided
 
@@ -45,6 +45,8 @@ cutBy tol next own m group ls k ps = cut tol next m own group ps (pieces group (
 pub record Plans (tol : Tolerance) (next own : ℕ) (at : SplitAt) (neighbors : Bool) (t : Tables) (k : Cut) (seen : List Bool) (n : ℕ) : Type 0 where
   pub plans : List LanePlan
   pub planned : lane-plans tol (view t) own (k .station) (k .point) (keep (λ x. has (x .id) (groupOf (view t) own neighbors)) (view t .lanes)) ≡ yield plans
+  pub crossed : all-cross (view t) (k .point) (keep (λ x. has (x .id) (groupOf (view t) own neighbors)) (view t .lanes)) ≡ yield passed
+  pub by-stations : plans ≡ plansOf (t .coordinates) (k .point) (markedRows seen (t .lanes)) (groupStations (tol .piece) (t .coordinates) (t .lanes) (t .boundaries) own k seen)
   pub of-lanes : map (λ x. x .of) plans ≡ keep (λ x. has (x .id) (groupOf (view t) own neighbors)) (view t .lanes)
   pub ids : map (λ x. x .of .id) plans ≡ groupCut (tol .piece) (t .coordinates) (t .lanes) (t .boundaries) own k seen
   pub stations : map (λ x. x .station) plans ≡ groupStations (tol .piece) (t .coordinates) (t .lanes) (t .boundaries) own k seen
@@ -206,6 +208,8 @@ module _ (tol : Tolerance) (next own : ℕ) (at : SplitAt) (neighbors : Bool) (t
             record {
               plans = ps;
               planned = done;
+              crossed = crossings-told ∙ e;
+              by-stations = ap (plansOf (t .coordinates) (k .point) marked) (sym good);
               of-lanes = plans-of tol (t .coordinates) (t .boundaries) (view t) refl own k each ∙ by-rows;
               ids = plans-ids tol (t .coordinates) (t .boundaries) (view t) refl own k each ∙ ap (map (word 0)) (sym all-taken);
               stations = by-plan ∙ sym good;

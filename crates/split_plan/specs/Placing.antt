@@ -9,12 +9,12 @@ use lib.Ieee.{Float}
 use lib.ListN.{length, take}
 use Rattle.lists.specs.Rows.{over}
 use Rattle.lists.specs.Select.{has}
-use Rattle.polyline.specs.Polyline.{flat, lineLength, point-at}
-use Rattle.entities.specs.Records.{Line}
+use Rattle.polyline.specs.Polyline.{flat, lineLength, point-at, firstPiece, secondPiece}
+use Rattle.entities.specs.Records.{Line, Lane}
 use Rattle.rules.specs.Names.{SplitAt, NoUsableLine, PositionOutside, Point2}
 use Rattle.rules.specs.Map.{boundary, centerline, station, flatPoint}
 use Rattle.rules.specs.Edit.{Res, refuse, yield, _>>=_, Passed, passed, check, require}
-use Rattle.rules.specs.Split.{cutStation, cuttable, crosses, groupOf}
+use Rattle.rules.specs.Split.{LanePlan, centerPiece, cutStation, cuttable, crosses, groupOf}
 use Rattle.tables.specs.View.{word, rows, laneOf}
 use Rattle.tables.specs.Columns.{laneLeft, laneRight, laneWords, rowId}
 use Rattle.group.specs.Walk.{laneMap, idsOf}
@@ -115,6 +115,16 @@ stationsTold (yield ss) = L.Of (length ss)
 -- the rows of the lanes that are marked
 abbrev pub markedRows : List Bool → List ℕ → List (List ℕ)
 markedRows seen lanes = picked seen (rows laneWords (λ w. w) lanes)
+
+-- the plan of a lane with a station
+abbrev pub planOf : Point2 → Lane → Float → LanePlan
+planOf p l s = record { of = l; station = s; first-center = centerPiece firstPiece (l .centerline) p; second-center = centerPiece secondPiece (l .centerline) p }
+
+-- the plans of rows with their stations
+unfoldable pub plansOf : List Float → Point2 → List (List ℕ) → List Float → List LanePlan
+plansOf c p [] ss = []
+plansOf c p (w ∷ ws) [] = []
+plansOf c p (w ∷ ws) (s ∷ ss) = planOf p (laneOf c w) s ∷ plansOf c p ws ss
 
 abbrev pub groupStations : Float → List Float → List ℕ → List ℕ → ℕ → Cut → List Bool → List Float
 groupStations piece c lanes boundaries own k seen = goodOf (rowStation piece c boundaries own k) (markedRows seen lanes)

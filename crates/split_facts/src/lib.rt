@@ -1,0 +1,1 @@
+// What is known of a split whose lanes are planned, and the laws that need all of it.
