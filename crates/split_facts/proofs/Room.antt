@@ -222,3 +222,126 @@ module _ {tol : Tolerance} {counter : ℕ} {t : Tables} {own : ℕ} {stations : 
         formed = known plan .parts .rules;
         anchors = omega (arith, rules-few, anchored-many);
       }
+
+  -- ---- anchors
+
+  -- whether a rule has an anchor after the cut
+  abbrev pub realOf : List ℕ → Bool
+  realOf w = isSome (rule-anchor (cutOf t (nextId counter) (plansIn t (k .point) (k .seen) stations) (piecesIn counter t (k .point) (k .seen) (k .cut))) (ruleOf w))
+
+  -- of all rules; `anchored` says so only of those that name a cut lane
+  abbrev pub real : List Bool
+  real = rows 330 realOf (t .rules)
+
+  real-at : (j : ℕ) → j < word 0 (t .rules) → getD real j false ≡ realOf (rowAt 330 (t .rules) j)
+  unfolding rows
+  real-at j l = getD-reads 330 realOf (word 0 (t .rules)) j (drop 1 (t .rules)) false l ∙ rw drop-drop
+
+  abbrev toldOf : List ℕ → Bool
+  toldOf w = isThere (anchorOf (t .coordinates) (t .stop-lines) (t .crosswalks) (k .cut) w)
+
+  anchor-same : (w : List ℕ) → rule-anchor (cutOf t (nextId counter) ps xs) (ruleOf w) ≡ rule-anchor (crossed (t .coordinates) (t .stop-lines) (t .crosswalks)) (ruleOf w)
+  unfolding view
+  anchor-same w = anchor-after (view t) ps (k .cut) (lanesIn t (k .seen)) (k .point) (nextId counter) (accepted (h .number)) (t .coordinates) (t .stop-lines) (t .crosswalks) refl refl (ruleOf w)
+
+  rule-alike : (w : List ℕ) → ruleFormed w ≡ true → ruleFits (toldOf w) (k .cut) w ≡ ruleFits (realOf w) (k .cut) w
+  rule-alike w f = go (any (λ i. has i (k .cut)) (idsAt 5 w)) refl
+    where
+      there-some : (o : Option Point2) → isThere o ≡ isSome o
+      there-some none = refl
+      there-some (some a) = refl
+
+      go : (b : Bool) → any (λ i. has i (k .cut)) (idsAt 5 w) ≡ b → ruleFits (toldOf w) (k .cut) w ≡ ruleFits (realOf w) (k .cut) w
+      go true q =
+          let o = rule-anchor (crossed (t .coordinates) (t .stop-lines) (t .crosswalks)) (ruleOf w) in
+          let e : toldOf w ≡ isSome o = ap (λ b. isThere (cond b o none)) q ∙ there-some o in
+          ap (λ b. ruleFits b (k .cut) w) (e ∙ ap isSome (sym (anchor-same w)))
+      go false q = rule-either (k .cut) w f q (toldOf w) (realOf w)
+
+  rules-passing : all ruleFormed (rows 330 (λ w. w) (t .rules)) ≡ true
+  rules-passing = all-rows 330 (λ w. w) ruleFormed (t .rules) ∙ known plan .parts .rules
+
+  -- a rule that names no cut lane fits with either mark
+  pub rules-same : rulesFit anchored (k .cut) 0 (rows 330 (λ w. w) (t .rules)) ≡ rulesFit real (k .cut) 0 (rows 330 (λ w. w) (t .rules))
+  unfolding over rows
+  rules-same =
+      let ws = rows 330 (λ w. w) (t .rules) in
+      let e : real ≡ map realOf ws ++ [] = sym (append-nil (map realOf ws) ∙ mapped-reads 330 (λ (w : List ℕ). w) realOf (word 0 (t .rules)) (drop 1 (t .rules))) in
+      marks-alike (k .cut) toldOf realOf rule-alike anchored real 0 ws (drop (0 + length (map toldOf ws)) (replicate 512 false)) [] rules-passing (a .anchors) e
+
+  -- ---- room
+
+  abbrev short : Line → Bool
+  short l = leb (length l) 256
+
+  lines-short : (all (λ b. short (b .geometry)) (view t .boundaries) ≡ true) × (all (λ l. all short (S.optionalLine (l .centerline))) (view t .lanes) ≡ true)
+      × (all (λ s. short (s .geometry)) (view t .stop-lines) ≡ true) × (all (λ c. short (c .left-edge)) (view t .crosswalks) ≡ true) × (all (λ c. short (c .right-edge)) (view t .crosswalks) ≡ true)
+  lines-short =
+      five-of (all (λ b. short (b .geometry)) (view t .boundaries)) (all (λ l. all short (S.optionalLine (l .centerline))) (view t .lanes)) (all (λ s. short (s .geometry)) (view t .stop-lines))
+      (all (λ c. short (c .left-edge)) (view t .crosswalks)) (all (λ c. short (c .right-edge)) (view t .crosswalks)) (sym (all-lines short (view t)) ∙ limits (view t) (limits-kept plan) .short)
+
+  pub told : Told t (nextId counter) (plansIn t (k .point) (k .seen) stations) (piecesIn counter t (k .point) (k .seen) (k .cut)) (k .pieces) (k .lines) (k .centers) (k .marks) (k .seen) real
+  unfolding allStored
+  told =
+      let (bs, cs, ss, ls, rs) = lines-short in
+      record {
+        limits = limits-kept plan;
+        linked = linked plan;
+        planned = planned plan;
+        cuts = cuts-up plan;
+        new = cuts-below (view t) ps (k .cut) (lanesIn t (k .seen)) (k .point) (nextId counter) (accepted (h .number));
+        boundaries-up = A.boundaries-up (h .number);
+        marked = omega (arith, A.boundaries-few (h .number), A.marks-many (h .number));
+        boundaries-cut = W.pieces-of h;
+        boundaries-told = words-told (k .pieces) (k .lines) 0 (k .reach) xs (W.piece-words h);
+        boundaries-stored = known plan .boundary-lines;
+        boundaries-short = bs;
+        lanes-up = sorted-ascends 1024 52 (t .lanes) (known plan .drawable .lanes-sorted);
+        lanes-seen = omega (arith, A.lanes-few (h .number), A.seen-many (h .number));
+        lanes-cut = sym (of-lanes plan);
+        lanes-told = W.plans-told h;
+        centers-stored = known plan .drawable .centers-stored;
+        stops-stored = known plan .crossable .stops-stored;
+        lefts-stored = known plan .crossable .lefts-stored;
+        rights-stored = known plan .crossable .rights-stored;
+        stops-short = all-map short (λ s. s .geometry) (view t .stop-lines) ∙ ss;
+        lefts-short = all-map short (λ x. x .left-edge) (view t .crosswalks) ∙ ls;
+        rights-short = all-map short (λ x. x .right-edge) (view t .crosswalks) ∙ rs;
+        roads-counted = counts plan .roads;
+        road-lists = known plan .parts .roads;
+        junctions-counted = counts plan .junctions;
+        junction-lists = known plan .parts .junctions;
+        rules-counted = counts plan .rules;
+        rules-formed = known plan .parts .rules;
+        anchors = real-at;
+      }
+
+  pub room-is : fitsRoom (roomOf t) (splitOf tol counter t own (k .point) (k .seen) (k .cut) stations .result)
+      ≡ (((piecesFit (k .lines) 0 (k .many) && piecesFit (k .centers) 0 (length (k .cut)))
+      && pointsFit (pointsAfter (k .pieces) (k .lines) (k .centers) (k .marks) (k .seen) (t .lanes) (t .boundaries) (t .stop-lines) (t .crosswalks)) (t .coordinates))
+      && ((allRows 68 (listFits (k .cut) 3) (t .roads) && allRows 69 (listFits (k .cut) 4) (t .junctions)) && rulesFit anchored (k .cut) 0 (rows 330 (λ w. w) (t .rules))))
+  unfolding splitOf
+  room-is =
+      room-split t tol (nextId counter) own (k .cut) ps xs (k .pieces) (k .lines) (k .centers) (k .marks) (k .seen) real told
+      ∙ put (many-plans plan) (pieces-many (h .number)) (sym (W.many-is h)) (plan .ids)
+    where
+      n : ℕ
+      n = pointsAfter (k .pieces) (k .lines) (k .centers) (k .marks) (k .seen) (t .lanes) (t .boundaries) (t .stop-lines) (t .crosswalks)
+
+      sorted : (s p r j u : Bool) → (s && (p && (r && (j && u)))) ≡ ((s && p) && ((r && j) && u))
+      sorted false p r j u = refl
+      sorted true false r j u = refl
+      sorted true true false j u = refl
+      sorted true true true j u = refl
+
+      put : {l i m : ℕ} {c : List ℕ} → l ≡ length (k .cut) → i ≡ ids → m ≡ k .many → c ≡ k .cut
+          → (rowsFit 1024 52 (word 0 (t .lanes) + l) (t .lanes)
+          && (rowsFit 4096 5 (word 0 (t .boundaries) + i) (t .boundaries)
+          && ((piecesFit (k .lines) 0 m && piecesFit (k .centers) 0 l)
+          && (pointsFit n (t .coordinates) && (allRows 68 (listFits c 3) (t .roads) && (allRows 69 (listFits c 4) (t .junctions) && rulesFit real c 0 (rows 330 (λ w. w) (t .rules))))))))
+          ≡ (((piecesFit (k .lines) 0 (k .many) && piecesFit (k .centers) 0 (length (k .cut))) && pointsFit n (t .coordinates))
+          && ((allRows 68 (listFits (k .cut) 3) (t .roads) && allRows 69 (listFits (k .cut) 4) (t .junctions)) && rulesFit anchored (k .cut) 0 (rows 330 (λ w. w) (t .rules))))
+      put e1 e2 e3 e4 =
+          rw (e1, e2, e3, e4, h .number .lanes-fit, h .number .boundaries-fit, rules-same)
+          (sorted (piecesFit (k .lines) 0 (k .many) && piecesFit (k .centers) 0 (length (k .cut))) (pointsFit n (t .coordinates)) (allRows 68 (listFits (k .cut) 3) (t .roads)) (allRows 69 (listFits (k .cut) 4) (t .junctions))
+          (rulesFit real (k .cut) 0 (rows 330 (λ w. w) (t .rules))))
