@@ -1,9 +1,9 @@
 -- What the functions that measure a split ask, of a split whose boundaries are marked. Assumes nothing.
-use mathlib.Core.Path.{_≡_, refl, sym, ap, _∙_, subst}
+use mathlib.Core.Path.{_≡_, refl, sym, ap, _∙_}
 use Prim.Native.Nat.{ℕ, suc, _+_, _-_, _*_, _/_, _^_, _≤_, _<_, min}
 use native.Mathlib.Omega.{arith}
 use mathlib.Core.Bool.{Bool, true, false, not, _&&_, _||_, cond}
-use mathlib.Core.List.{List, [], _∷_, _++_, map}
+use mathlib.Core.List.{List, [], _∷_, map}
 use lib.Dec.{leb}
 use lib.Ieee.{Float}
 use lib.ListN.{length, length-append, length-map, length-replicate, drop, replicate}
@@ -15,14 +15,14 @@ use Rattle.lists.proofs.Booleans.{and-both, and-fst, and-snd}
 use Rattle.lists.proofs.Every.{all-head, all-tail}
 use Rattle.lists.proofs.Rows.{length-keys, length-over, length-reads, mapped-reads}
 use Rattle.lists.proofs.Select.{all-map, all-weaken}
-use Rattle.polyline.specs.Polyline.{points, slice, firstPiece, secondPiece, nearest-point, lineLength}
+use Rattle.polyline.specs.Polyline.{points, firstPiece, secondPiece, nearest-point, lineLength}
 use Rattle.polyline.proofs.Counts.{length-slice-le}
 use Rattle.geometry.specs.Float.{zeroᶠ}
 use Rattle.entities.specs.declared.Tolerance.{Tolerance}
 use Rattle.entities.specs.Records.{Line}
 use Rattle.rules.specs.Names.{Point2, OptionNearest, NoNearest, ANearest}
 use Rattle.rules.specs.Sound.{nextId}
-use Rattle.tables.specs.View.{Tables, word, mark, part, rows}
+use Rattle.tables.specs.View.{Tables, word, part, rows}
 use Rattle.tables.specs.Formed.{spans, spanAt, stored, counted}
 use Rattle.apart.proofs.Marks.{counted-more}
 use Rattle.row_tests.specs.Good.{allRows}
@@ -40,7 +40,7 @@ use Rattle.split_lines.proofs.Pieces.{first-none, second-none, first-some, seco
 use Rattle.split_laws.proofs.Chosen.{picked-told, all-picked}
 use Rattle.split_laws.proofs.Few.{used-few}
 use Rattle.split_rules.specs.Past.{Marking}
-use Rattle.split_facts.specs.Splitting.{plansIn, reachOf, Planned, Numbered}
+use Rattle.split_facts.specs.Splitting.{plansIn, reachOf, Numbered}
 use Rattle.split_facts.proofs.Facts.{known, counts, cut-up, many-plans, ids-small}
 
 -- ---- general
@@ -111,9 +111,6 @@ lines-short c stride offset marked chosen t h =
 
 module _ {tol : Tolerance} {counter : ℕ} {t : Tables} {own : ℕ} {p : Point2} {seen : List Bool} {cut : List ℕ} {stations : List Float} {ids : ℕ} {marks : List Bool}
     (n : Numbered tol counter t own p seen cut stations ids marks) where
-  abbrev c : List Float
-  c = t .coordinates
-
   pub rows-room : word 0 (t .lanes) + length cut ≤ 1024
   rows-room =
       leb-true (word 0 (t .lanes) + length cut) 1024

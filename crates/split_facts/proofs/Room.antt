@@ -1,6 +1,6 @@
 -- The map after a split fits its room where the tests of numbers, found before anything is written, say so. Assumes nothing.
-use mathlib.Core.Path.{_≡_, refl, sym, ap, _∙_, subst}
-use Prim.Native.Nat.{ℕ, suc, _+_, _*_, _≤_, _<_}
+use mathlib.Core.Path.{_≡_, refl, sym, ap, _∙_}
+use Prim.Native.Nat.{ℕ, suc, _+_, _≤_, _<_}
 use native.Mathlib.Omega.{arith}
 use mathlib.Core.Bool.{Bool, true, false, not, _&&_, _||_, cond, true≢false}
 use mathlib.Core.List.{List, [], _∷_, _++_, map, append-nil}
@@ -9,24 +9,24 @@ use lib.Dec.{eqb, leb}
 use lib.Ieee.{Float}
 use lib.ListN.{length, getD, drop, replicate, length-map, length-replicate}
 use lib.Seq.{getD-drop, drop-drop}
-use borrow.Author.Tests.{leb-true, le-leb}
+use borrow.Author.Tests.{le-leb}
 use Rattle.lists.specs.Every.{all}
 use Rattle.lists.specs.Rows.{over}
-use Rattle.lists.specs.Select.{keep, any, has, ascending}
-use Rattle.lists.proofs.Booleans.{and-both, and-fst, and-snd, and-false, neither}
+use Rattle.lists.specs.Select.{any, has, ascending}
+use Rattle.lists.proofs.Booleans.{and-both, and-snd, neither}
 use Rattle.lists.proofs.Every.{all-and, all-head, all-tail}
 use Rattle.lists.proofs.Rows.{length-over, length-reads, getD-reads, mapped-reads}
 use Rattle.lists.proofs.Select.{all-map, all-keep, keep-none, any-or, any-same, has-any}
 use Rattle.entities.specs.declared.Tolerance.{Tolerance}
-use Rattle.entities.specs.Records.{Line, Lane, Boundary, Rule, Map}
+use Rattle.entities.specs.Records.{Line, Lane}
 use Rattle.laws.proofs.Links.{eqb-swap}
 use Rattle.rules.specs.Names.{Point2}
 use Rattle.rules.specs.Map.{rule-anchor}
 use Rattle.rules.specs.Sound as S
 use Rattle.rules.specs.Sound.{fitsRoom, withinLimits, nextId}
 use Rattle.rules.specs.Split.{LanePlan, Piece, piecesIds, groupOf}
-use Rattle.tables.specs.View.{Tables, word, mark, idsAt, rows, view, laneOf, boundaryOf, ruleOf, stopLineOf, crosswalkOf}
-use Rattle.tables.specs.Formed.{spanAt, stored, counted, ruleFormed}
+use Rattle.tables.specs.View.{Tables, word, mark, idsAt, rows, view, laneOf, boundaryOf, ruleOf}
+use Rattle.tables.specs.Formed.{spanAt, stored, ruleFormed}
 use Rattle.store.specs.Store.{roomOf}
 use Rattle.apart.proofs.Marks.{counted-more}
 use Rattle.row_tests.specs.Good.{allRows}
@@ -35,23 +35,23 @@ use Rattle.row_tests.proofs.Tables.{table-few}
 use Rattle.soundness.proofs.Back.{five-of}
 use Rattle.soundness.proofs.Rows.{all-rows}
 use Rattle.soundness.proofs.Whole.{all-lines}
-use Rattle.lookup.specs.Lookup.{rowAt, crossed, allStored, allShort, centersStored}
+use Rattle.lookup.specs.Lookup.{rowAt, crossed, allStored, centersStored}
 use Rattle.lookup.proofs.Good.{rows-weaker}
 use Rattle.lookup.proofs.Laws.{sorted-ascends}
 use Rattle.room.specs.Room.{rowsFit, pointsFit}
 use Rattle.sound_facts.proofs.Room.{limits}
-use Rattle.split_plan.specs.Placing.{picked, markedRows}
+use Rattle.split_plan.specs.Placing.{picked}
 use Rattle.split_relay.specs.Relaying.{Cutting}
 use Rattle.split_rules.specs.Past.{isThere, anchorOf, anchoredBy}
-use Rattle.split_room.specs.Fitting.{piecesFit, centerPoints, pointsAfter, listFits, namedOf, ownFits, ruleFits, rulesFit, PointsOf, CentersOf, Counting, ListsOf, RulesOf}
-use Rattle.split_named.proofs.Words.{isSome, cutIds, below}
+use Rattle.split_room.specs.Fitting.{piecesFit, centerPoints, pointsAfter, listFits, namedOf, ownFits, ruleFits, rulesFit, Counting, ListsOf, RulesOf}
+use Rattle.split_named.proofs.Words.{isSome, cutIds}
 use Rattle.split_anchors.proofs.Accepted.{cuts-below}
 use Rattle.split_anchors.proofs.Told.{anchor-after}
 use Rattle.split_limits.proofs.Links.{few, up}
 use Rattle.split_limits.proofs.Numbers.{Told, cutOf, room-split}
 use Rattle.split_limits.proofs.Whole.{fits-split}
 use Rattle.split_limits.proofs.Words.{words-told}
-use Rattle.split_facts.specs.Splitting.{lanesIn, plansIn, piecesIn, splitOf, Planned, Numbered, Measured, Anchored}
+use Rattle.split_facts.specs.Splitting.{lanesIn, plansIn, piecesIn, splitOf, Planned, Measured, Anchored}
 use Rattle.split_facts.proofs.Facts.{known, counts, chosen-lanes, of-lanes, cut-up, many-plans, pieces-many, accepted}
 use Rattle.split_facts.proofs.Asks as A
 use Rattle.split_facts.proofs.Words as W

@@ -1,5 +1,5 @@
 -- The words that are measured and listed of a split are those of document 01's pieces and plans. Assumes nothing.
-use mathlib.Core.Path.{_≡_, refl, sym, ap, _∙_, subst}
+use mathlib.Core.Path.{_≡_, refl, sym, ap, _∙_}
 use Prim.Native.Nat.{ℕ, zero, suc, _+_, _*_, _≤_, _<_}
 use native.Mathlib.Omega.{arith}
 use mathlib.Core.Bool.{Bool, true, false, not, _||_, cond}
@@ -9,38 +9,36 @@ use lib.Dec.{eqb, leb, ltb}
 use lib.Ieee.{Float}
 use lib.ListN.{length, getD, drop, replicate, length-append, length-map, length-replicate}
 use lib.Seq.{getD-drop, drop-drop}
-use borrow.Author.Tests.{eq-eqb, ne-eqb, le-leb, leb-true, ltb-true, lt-ltb}
+use borrow.Author.Tests.{eq-eqb, ne-eqb, le-leb, ltb-true, lt-ltb}
 use Rattle.lists.specs.Every.{all}
 use Rattle.lists.specs.Rows.{over, keys, reads}
 use Rattle.lists.specs.Select.{keep, any, each, has, ascending}
-use Rattle.lists.proofs.Booleans.{and-both, and-fst, and-snd}
-use Rattle.lists.proofs.Every.{all-head, all-tail, all-append, all-drop, all-cons}
+use Rattle.lists.proofs.Every.{all-head, all-tail, all-append, all-drop}
 use Rattle.lists.proofs.Rows.{length-over, mapped-reads}
-use Rattle.lists.proofs.Select.{all-map, all-keep, all-weaken, any-map, map-twice, map-same, keep-map, keep-same, ascending-keep}
+use Rattle.lists.proofs.Select.{all-map, all-keep, all-weaken, any-map, map-twice, keep-map, keep-same, ascending-keep}
 use Rattle.polyline.specs.Polyline.{firstPiece, secondPiece, nearest-point}
 use Rattle.entities.specs.declared.Tolerance.{Tolerance}
 use Rattle.entities.specs.Records.{Line, Lane, Boundary}
 use Rattle.rules.specs.Names.{Point2, NoNearest}
 use Rattle.rules.specs.Map.{station, uses}
 use Rattle.rules.specs.Sound.{nextId}
-use Rattle.rules.specs.Split.{LanePlan, Piece, centerPiece, pieceOf, pieceIds, pieces, groupOf}
+use Rattle.rules.specs.Split.{LanePlan, Piece, centerPiece, pieceOf, pieceIds, pieces}
 use Rattle.tables.specs.View.{Tables, word, mark, lineAt, rows, laneOf, boundaryOf, view}
 use Rattle.order.specs.Order.{columnOf}
-use Rattle.lookup.specs.Lookup.{pointsOr, rowUses}
+use Rattle.lookup.specs.Lookup.{pointsOr}
 use Rattle.split_plan.specs.Placing.{picked, markedRows, planOf, plansOf}
 use Rattle.split_pieces.specs.Pieces as Q
-use Rattle.split_lines.specs.Cut.{pieceAt, firstLine, secondLine, bothLines, lineIn, chosenLines, measured, drawnPieces}
+use Rattle.split_lines.specs.Cut.{pieceAt, firstLine, secondLine, bothLines, lineIn, measured, drawnPieces}
 use Rattle.split_lines.proofs.Pieces.{first-none, second-none}
 use Rattle.split_relay.specs.Relaying.{Cutting, boundaryLines, centerLines}
-use Rattle.split_rows.specs.Halves.{firstStart, firstSize}
 use Rattle.split_laws.proofs.Chosen.{picked-told}
 use Rattle.split_laws.proofs.Pieces.{idsIn, pieces-rows}
 use Rattle.split_anchors.proofs.Sides as S
-use Rattle.split_laid.proofs.Boundaries.{pieceSize, PieceWords, AllWords}
+use Rattle.split_laid.proofs.Boundaries.{pieceSize, AllWords}
 use Rattle.split_laid.proofs.Lies.{pieceLines, StartsAt}
 use Rattle.split_laid.proofs.Lies as L
-use Rattle.split_limits.proofs.Centers.{PlanTold, AllPlans}
-use Rattle.split_facts.specs.Splitting.{lanesIn, plansIn, piecesIn, reachOf, Planned, Numbered, Measured}
+use Rattle.split_limits.proofs.Centers.{AllPlans}
+use Rattle.split_facts.specs.Splitting.{lanesIn, plansIn, piecesIn, Planned, Measured}
 use Rattle.split_facts.proofs.Facts.{known, pieces-same, accepted}
 use Rattle.split_facts.proofs.Asks as A
 
