@@ -1,1 +1,4 @@
 pub mod Facts
+pub mod Asks
+pub mod Words
+pub mod Room
