@@ -1,0 +1,102 @@
+-- The change set of a split whose lanes are planned, from marks, pieces and rows; and what listing it asks. Assumes nothing.
+use mathlib.Core.Path.{_≡_, refl, sym, ap, _∙_}
+use Prim.Native.Nat.{ℕ, suc, _+_, _*_, _^_, _≤_, _<_}
+use native.Mathlib.Omega.{arith}
+use mathlib.Core.Bool.{Bool, true, false, cond}
+use mathlib.Core.List.{List, [], _∷_, _++_, map}
+use mathlib.Core.Option.{some}
+use lib.Ieee.{Float}
+use lib.ListN.{length}
+use Rattle.lists.specs.Rows.{rowWith}
+use Rattle.lists.specs.Select.{any, has, keep, each, numbered, secondOf, ascending}
+use Rattle.lists.specs.declared.Found.{Found}
+use Rattle.lists.specs.declared.Found.the-variants.{At, Nothing}
+use Rattle.lists.proofs.Rows.{found-within, found-has, there}
+use Rattle.entities.specs.declared.Tolerance.{Tolerance}
+use Rattle.entities.specs.Records.{Lane, Boundary, Issue}
+use Rattle.rules.specs.Names.{Point2}
+use Rattle.rules.specs.Map.{uses}
+use Rattle.rules.specs.Sound.{nextId}
+use Rattle.rules.specs.Edit.{Edited}
+use Rattle.rules.specs.Split.{LanePlan, Piece, piecesIds, pieces, halves, droppedAll, unsharedPiece, groupOf}
+use Rattle.rules.specs.Split as R
+use Rattle.laws.proofs.SplitGroup.{group-has}
+use Rattle.tables.specs.View.{Tables, word, rows, laneOf, boundaryOf, view}
+use Rattle.lookup.specs.Lookup.{rowAt}
+use Rattle.split_lists.specs.Changes.{createdBy, warningsBy, rowsDropped, piecesIssues, Beside}
+use Rattle.split_plan.specs.Placing.{markedRows}
+use Rattle.grow.proofs.Growing.{numberAt, second-numbered}
+use Rattle.split_named.proofs.Grown.{halves-numbered}
+use Rattle.split_laid.proofs.Boundaries.{AllWords}
+use Rattle.split_changes.proofs.Created as C
+use Rattle.split_changes.proofs.Warned.{pieces-warned, dropped-warned}
+use Rattle.split_relay.specs.Relaying.{Cutting}
+use Rattle.split_facts.specs.Splitting.{lanesIn, plansIn, piecesIn, splitOf, Planned, Numbered, Measured, Anchored}
+use Rattle.split_facts.proofs.Facts as F
+
+module _ {tol : Tolerance} {counter : ℕ} {t : Tables} {own : ℕ} {stations : List Float} {ids : ℕ} {k : Cutting} (h : Measured tol counter t own stations ids k) where
+  abbrev p : Planned tol counter t own (k .point) (k .seen) (k .cut) stations
+  p = h .number .plan
+
+  abbrev ps : List LanePlan
+  ps = plansIn t (k .point) (k .seen) stations
+
+  abbrev xs : List Piece
+  xs = piecesIn counter t (k .point) (k .seen) (k .cut)
+
+  -- ---- ids
+
+  next-is : nextId counter + piecesIds (piecesIn counter t (k .point) (k .seen) (k .cut)) ≡ k .next
+  next-is = ap (λ n. nextId counter + n) (F.pieces-many (h .number)) ∙ sym (h .next)
+
+  pub ids-is : splitOf tol counter t own (k .point) (k .seen) (k .cut) stations .ids ≡ ids + length (k .cut)
+  unfolding splitOf R.cut
+  ids-is = ap (λ n. n + length ps) (F.pieces-many (h .number)) ∙ ap (λ n. ids + n) (F.many-plans p)
+
+  -- the second halves, by the cut lanes' places
+  halves-are : halves (nextId counter + piecesIds (piecesIn counter t (k .point) (k .seen) (k .cut))) (plansIn t (k .point) (k .seen) stations) ≡ numbered (k .next) (k .cut)
+  halves-are =
+      halves-numbered (nextId counter + piecesIds xs) ps
+      ∙ (ap (λ n. numbered n (map (λ (x : LanePlan). x .of .id) ps)) next-is ∙ ap (numbered (k .next)) (p .ids))
+
+  -- ---- created, deleted
+
+  pub created-is : splitOf tol counter t own (k .point) (k .seen) (k .cut) stations .changes .created ≡ createdBy (nextId counter) ids (length (k .cut))
+  unfolding splitOf R.cut
+  created-is =
+      C.created-is (k .cut) (view t .lanes) (k .point) (nextId counter) (keep (λ b. any (uses (b .id)) (lanesIn t (k .seen))) (view t .boundaries)) ps
+      ∙ (ap (λ n. createdBy (nextId counter) n (length ps)) (F.pieces-many (h .number)) ∙ ap (createdBy (nextId counter) ids) (F.many-plans p))
+
+  pub deleted-is : splitOf tol counter t own (k .point) (k .seen) (k .cut) stations .changes .deleted ≡ []
+  unfolding splitOf R.cut
+  deleted-is = refl
+
+  -- ---- the lane itself is in its group
+
+  pub own-place : (r : ℕ) × ((rowWith own (k .cut) ≡ At r) × (r < length (k .cut)))
+  own-place = go (rowWith own (k .cut)) refl (sym (found-has own (k .cut)) ∙ held)
+    where
+      held : has own (k .cut) ≡ true
+      held = ap (has own) (sym (F.group-is p)) ∙ group-has (view t) own (laneOf (t .coordinates) (rowAt 52 (t .lanes) (p .row))) (F.found p) (F.lane-ids-up p) (p .neighbors)
+
+      go : (f : Found) → rowWith own (k .cut) ≡ f → there f ≡ true → (r : ℕ) × ((rowWith own (k .cut) ≡ At r) × (r < length (k .cut)))
+      go (At r) e u = (r, (e, found-within own (k .cut) r e))
+      go Nothing e u = let z : _≡_ {A = ℕ} 0 1 = cc in absurd (omega arith)
+
+  pub second-is : (r : ℕ) → rowWith own (k .cut) ≡ At r → splitOf tol counter t own (k .point) (k .seen) (k .cut) stations .second ≡ some (k .next + r)
+  unfolding splitOf R.cut
+  second-is r e = ap (λ hs. secondOf hs own) halves-are ∙ (second-numbered (k .next) own (k .cut) ∙ ap (numberAt (k .next)) e)
+
+  -- ---- warnings
+
+  pub warnings-is : AllWords (k .pieces) (k .lines) 0 (k .reach) (piecesIn counter t (k .point) (k .seen) (k .cut)) → k .many ≡ length (piecesIn counter t (k .point) (k .seen) (k .cut))
+      → splitOf tol counter t own (k .point) (k .seen) (k .cut) stations .changes .warnings ≡ warningsBy (k .pieces) (k .many) (k .cut) (k .next) (k .seen) (t .lanes)
+  unfolding splitOf R.cut
+  warnings-is words many-is =
+      let a : each unsharedPiece xs ≡ piecesIssues (k .pieces) 0 (k .many) = sym (pieces-warned (k .pieces) (k .lines) 0 (k .reach) xs words) ∙ ap (piecesIssues (k .pieces) 0) (sym many-is) in
+      let b : droppedAll (halves (nextId counter + piecesIds xs) ps) (nextId counter + piecesIds xs) ps ≡ rowsDropped (k .cut) (k .next) (k .next) (markedRows (k .seen) (t .lanes)) =
+      ap (λ hs. droppedAll hs (nextId counter + piecesIds xs) ps) halves-are
+      ∙ (ap (λ n. droppedAll (numbered (k .next) (k .cut)) n ps) next-is
+      ∙ sym (dropped-warned (t .coordinates) (k .cut) (k .next) (k .next) ps (markedRows (k .seen) (t .lanes)) (F.of-lanes p))) in
+      ap (λ (zs : List Issue). zs ++ droppedAll (halves (nextId counter + piecesIds xs) ps) (nextId counter + piecesIds xs) ps) a
+      ∙ ap (λ (zs : List Issue). piecesIssues (k .pieces) 0 (k .many) ++ zs) b
