@@ -6,7 +6,7 @@ use mathlib.Core.Bool.{Bool, true, false, cond}
 use mathlib.Core.List.{List, [], _∷_, _++_, map}
 use mathlib.Core.Option.{some}
 use lib.Ieee.{Float}
-use lib.ListN.{length}
+use lib.ListN.{length, take, length-map, length-append}
 use Rattle.lists.specs.Rows.{rowWith}
 use Rattle.lists.specs.Select.{any, has, keep, each, numbered, secondOf, ascending}
 use Rattle.lists.specs.declared.Found.{Found}
@@ -23,8 +23,11 @@ use Rattle.rules.specs.Split as R
 use Rattle.laws.proofs.SplitGroup.{group-has}
 use Rattle.tables.specs.View.{Tables, word, rows, laneOf, boundaryOf, view}
 use Rattle.lookup.specs.Lookup.{rowAt}
-use Rattle.split_lists.specs.Changes.{createdBy, warningsBy, rowsDropped, piecesIssues, Beside}
-use Rattle.split_plan.specs.Placing.{markedRows}
+use Rattle.split_lists.specs.Changes.{markedIds, modifiedBy, createdBy, warningsBy, rowsDropped, piecesIssues, Beside}
+use Rattle.split_plan.specs.Placing.{picked, markedRows}
+use Rattle.split_plan.proofs.Marked.{picked-none}
+use Rattle.split_marks.specs.Touched.{marked}
+use Rattle.soundness.proofs.Whole.{rows-count}
 use Rattle.grow.proofs.Growing.{numberAt, second-numbered}
 use Rattle.split_named.proofs.Grown.{halves-numbered}
 use Rattle.split_laid.proofs.Boundaries.{AllWords}
@@ -33,6 +36,39 @@ use Rattle.split_changes.proofs.Warned.{pieces-warned, dropped-warned}
 use Rattle.split_relay.specs.Relaying.{Cutting}
 use Rattle.split_facts.specs.Splitting.{lanesIn, plansIn, piecesIn, splitOf, Planned, Numbered, Measured, Anchored}
 use Rattle.split_facts.proofs.Facts as F
+
+-- ---- general
+
+-- as many are chosen as are marked
+pub picked-marked : {A : Type 0} (bs : List Bool) (xs : List A) → length (picked bs xs) ≡ marked (take (length xs) bs)
+unfolding picked marked
+picked-marked bs [] = ap length (picked-none bs)
+picked-marked [] (x ∷ xs) = refl
+picked-marked (true ∷ bs) (x ∷ xs) = ap suc (picked-marked bs xs)
+picked-marked (false ∷ bs) (x ∷ xs) = picked-marked bs xs
+
+-- marks behind the last have no part in it
+picked-front : {A : Type 0} (bs : List Bool) (xs : List A) → picked (take (length xs) bs) xs ≡ picked bs xs
+unfolding picked
+picked-front bs [] = sym (picked-none bs)
+picked-front [] (x ∷ xs) = refl
+picked-front (true ∷ bs) (x ∷ xs) = ap (λ zs. x ∷ zs) (picked-front bs xs)
+picked-front (false ∷ bs) (x ∷ xs) = picked-front bs xs
+
+rows-marked : (s : ℕ) (marks : List Bool) (t : List ℕ) → length (picked marks (rows s (λ w. w) t)) ≡ marked (take (word 0 t) marks)
+rows-marked s marks t = picked-marked marks (rows s (λ (w : List ℕ). w) t) ∙ ap (λ n. marked (take n marks)) (rows-count s (λ (w : List ℕ). w) t)
+
+-- as many ids are listed as rows are marked
+pub marked-many : (s : ℕ) (marks : List Bool) (t : List ℕ) → length (markedIds s marks t) ≡ marked (take (word 0 t) marks)
+marked-many s marks t = length-map (picked marks (rows s (λ (w : List ℕ). w) t)) (word 0) ∙ rows-marked s marks t
+
+pub modified-count : (lm bm rm jm um : List Bool) (lanes boundaries roads junctions rules : List ℕ)
+    → length (modifiedBy lm lanes bm boundaries rm roads jm junctions um rules)
+    ≡ marked (take (word 0 lanes) lm) + marked (take (word 0 boundaries) bm) + marked (take (word 0 roads) rm) + marked (take (word 0 junctions) jm) + marked (take (word 0 rules) um)
+unfolding modifiedBy
+modified-count lm bm rm jm um lanes boundaries roads junctions rules =
+    simp (length-append, length-map)
+    (omega (arith, rows-marked 52 lm lanes, rows-marked 5 bm boundaries, rows-marked 68 rm roads, rows-marked 69 jm junctions, rows-marked 330 um rules))
 
 module _ {tol : Tolerance} {counter : ℕ} {t : Tables} {own : ℕ} {stations : List Float} {ids : ℕ} {k : Cutting} (h : Measured tol counter t own stations ids k) where
   abbrev p : Planned tol counter t own (k .point) (k .seen) (k .cut) stations
