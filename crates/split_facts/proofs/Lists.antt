@@ -6,12 +6,14 @@ use mathlib.Core.Bool.{Bool, true, false, cond}
 use mathlib.Core.List.{List, [], _∷_, _++_, map}
 use mathlib.Core.Option.{some}
 use lib.Ieee.{Float}
-use lib.ListN.{length, take, length-map, length-append}
+use lib.Dec.{leb}
+use lib.ListN.{length, take, drop, replicate, length-map, length-append, length-replicate}
+use borrow.Author.Tests.{le-leb}
 use Rattle.lists.specs.Rows.{rowWith}
 use Rattle.lists.specs.Select.{any, has, keep, each, numbered, secondOf, ascending}
 use Rattle.lists.specs.declared.Found.{Found}
 use Rattle.lists.specs.declared.Found.the-variants.{At, Nothing}
-use Rattle.lists.proofs.Rows.{found-within, found-has, there}
+use Rattle.lists.proofs.Rows.{length-over, length-keys, found-within, found-has, there}
 use Rattle.entities.specs.declared.Tolerance.{Tolerance}
 use Rattle.entities.specs.Records.{Lane, Boundary, Issue}
 use Rattle.rules.specs.Names.{Point2}
@@ -23,10 +25,17 @@ use Rattle.rules.specs.Split as R
 use Rattle.laws.proofs.SplitGroup.{group-has}
 use Rattle.tables.specs.View.{Tables, word, rows, laneOf, boundaryOf, view}
 use Rattle.lookup.specs.Lookup.{rowAt}
-use Rattle.split_lists.specs.Changes.{markedIds, modifiedBy, createdBy, warningsBy, rowsDropped, piecesIssues, Beside}
-use Rattle.split_plan.specs.Placing.{picked, markedRows}
+use Rattle.split_lists.specs.Changes.{markedIds, modifiedBy, createdBy, warningsBy, rowsDropped, piecesIssues, Beside, AllListed}
+use Rattle.split_plan.specs.Placing.{picked, markedRows, groupMarks}
+use Rattle.split_pieces.specs.Pieces.{boundaryKeys, cutBy, cutMarks}
+use Rattle.group.specs.Walk.{idsOf, laneMap}
+use Rattle.apart.proofs.Marks.{counted-facts, counted-more}
+use Rattle.tables.specs.Formed.{laneFormed}
+use Rattle.row_tests.specs.Good.{allRows}
+use Rattle.row_tests.proofs.Formed.{lane-before}
+use Rattle.lookup.proofs.Good.{rows-weaker}
 use Rattle.split_plan.proofs.Marked.{picked-none}
-use Rattle.split_marks.specs.Touched.{marked}
+use Rattle.split_marks.specs.Touched.{marked, Named}
 use Rattle.soundness.proofs.Whole.{rows-count}
 use Rattle.grow.proofs.Growing.{numberAt, second-numbered}
 use Rattle.split_named.proofs.Grown.{halves-numbered}
@@ -136,3 +145,114 @@ module _ {tol : Tolerance} {counter : ℕ} {t : Tables} {own : ℕ} {stations : 
       ∙ sym (dropped-warned (t .coordinates) (k .cut) (k .next) (k .next) ps (markedRows (k .seen) (t .lanes)) (F.of-lanes p))) in
       ap (λ (zs : List Issue). zs ++ droppedAll (halves (nextId counter + piecesIds xs) ps) (nextId counter + piecesIds xs) ps) a
       ∙ ap (λ (zs : List Issue). piecesIssues (k .pieces) 0 (k .many) ++ zs) b
+
+  -- ---- what listing asks
+
+  pub record Few : Type 0 where
+    pub lanes : word 0 (t .lanes) ≤ 1024
+    pub boundaries : word 0 (t .boundaries) ≤ 4096
+    pub roads : word 0 (t .roads) ≤ 256
+    pub junctions : word 0 (t .junctions) ≤ 256
+    pub rules : word 0 (t .rules) ≤ 512
+
+  -- the rows of each table are within its marks
+  pub counts-few : Few
+  counts-few =
+      let c = F.counts p in
+      record {
+        lanes = counted-facts 1024 52 (t .lanes) (c .lanes) .1 .0;
+        boundaries = counted-facts 4096 5 (t .boundaries) (c .boundaries) .1 .0;
+        roads = counted-facts 256 68 (t .roads) (c .roads) .1 .0;
+        junctions = counted-facts 256 69 (t .junctions) (c .junctions) .1 .0;
+        rules = counted-facts 512 330 (t .rules) (c .rules) .1 .0;
+      }
+
+  pub modified-many : (lm bm rm jm um : List Bool) → word 0 (t .lanes) ≤ length lm → word 0 (t .boundaries) ≤ length bm → word 0 (t .roads) ≤ length rm → word 0 (t .junctions) ≤ length jm → word 0 (t .rules) ≤ length um
+      → length (modifiedBy lm (t .lanes) bm (t .boundaries) rm (t .roads) jm (t .junctions) um (t .rules))
+      ≡ marked (take (word 0 (t .lanes)) lm) + marked (take (word 0 (t .boundaries)) bm) + marked (take (word 0 (t .roads)) rm) + marked (take (word 0 (t .junctions)) jm) + marked (take (word 0 (t .rules)) um)
+  modified-many lm bm rm jm um l1 l2 l3 l4 l5 = modified-count lm bm rm jm um (t .lanes) (t .boundaries) (t .roads) (t .junctions) (t .rules)
+
+  pub lanes-named : (w : List Bool) → length w ≡ 1024 → Named 52 18 16 1024 (k .cut) (t .lanes) w
+  unfolding allRows
+  lanes-named w l =
+      let f = counts-few in
+      record {
+        ascend = F.cut-up p;
+        list = omega arith;
+        narrow = omega arith;
+        few = omega arith;
+        counts = F.counts p .lanes;
+        rows = rows-weaker 52 laneFormed (λ v. leb (word 18 v) 16) (λ v g. le-leb (word 18 v) 16 (lane-before v g)) (t .lanes) (F.known p .parts .lanes);
+        room = omega (arith, f .lanes);
+      }
+
+  pub roads-named : (w : List Bool) → length w ≡ 256 → Named 68 3 64 4096 (k .cut) (t .roads) w
+  roads-named w l =
+      let f = counts-few in
+      record {
+        ascend = F.cut-up p;
+        list = omega arith;
+        narrow = omega arith;
+        few = omega arith;
+        counts = counted-more 256 4096 68 (t .roads) (omega arith) (F.counts p .roads);
+        rows = F.known p .parts .roads;
+        room = omega (arith, f .roads);
+      }
+
+  pub junctions-named : (w : List Bool) → length w ≡ 256 → Named 69 4 64 4096 (k .cut) (t .junctions) w
+  junctions-named w l =
+      let f = counts-few in
+      record {
+        ascend = F.cut-up p;
+        list = omega arith;
+        narrow = omega arith;
+        few = omega arith;
+        counts = counted-more 256 4096 69 (t .junctions) (omega arith) (F.counts p .junctions);
+        rows = F.known p .parts .junctions;
+        room = omega (arith, f .junctions);
+      }
+
+  pub all-listed : (lm bm rm jm um : List Bool) → length lm ≡ 1024 → length bm ≡ 4096 → length rm ≡ 256 → length jm ≡ 256 → length um ≡ 512
+      → AllListed lm bm rm jm um (t .lanes) (t .boundaries) (t .roads) (t .junctions) (t .rules)
+  all-listed lm bm rm jm um l1 l2 l3 l4 l5 =
+      let f = counts-few in
+      let c = F.counts p in
+      record {
+        lanes-listed = record { some-words = omega arith; narrow = omega arith; few = omega arith; counts = c .lanes; marks-there = omega (arith, f .lanes) };
+        boundaries-listed = record { some-words = omega arith; narrow = omega arith; few = omega arith; counts = c .boundaries; marks-there = omega (arith, f .boundaries) };
+        roads-listed = record { some-words = omega arith; narrow = omega arith; few = omega arith; counts = c .roads; marks-there = omega (arith, f .roads) };
+        junctions-listed = record { some-words = omega arith; narrow = omega arith; few = omega arith; counts = c .junctions; marks-there = omega (arith, f .junctions) };
+        rules-listed = record { some-words = omega arith; narrow = omega arith; few = omega arith; counts = c .rules; marks-there = omega (arith, f .rules) };
+      }
+
+  pub seen-long : length (k .seen) ≡ 1024
+  seen-long =
+      let n : length (groupMarks (t .lanes) (p .row) (p .neighbors)) ≡ word 0 (t .lanes) =
+      length-map (idsOf (t .lanes)) (λ i. has i (groupOf (laneMap (t .lanes)) (word 0 (rowAt 52 (t .lanes) (p .row))) (p .neighbors))) ∙ length-keys 52 (word 0 (t .lanes)) (drop 1 (t .lanes)) in
+      ap length (p .marked)
+      ∙ (length-over (replicate 1024 false) 0 (groupMarks (t .lanes) (p .row) (p .neighbors)) (omega (arith, n, counts-few .lanes, length-replicate 1024 false)) ∙ length-replicate 1024 false)
+
+  pub marks-long : length (k .marks) ≡ 4096
+  marks-long =
+      let n : length (cutMarks (k .seen) (t .lanes) (t .boundaries)) ≡ word 0 (t .boundaries) =
+      length-map (boundaryKeys (t .boundaries)) (cutBy (k .seen) (t .lanes)) ∙ length-keys 5 (word 0 (t .boundaries)) (drop 1 (t .boundaries)) in
+      ap length (h .number .marked)
+      ∙ (length-over (replicate 4096 false) 0 (cutMarks (k .seen) (t .lanes) (t .boundaries)) (omega (arith, n, counts-few .boundaries, length-replicate 4096 false)) ∙ length-replicate 4096 false)
+
+  pub beside : Beside (k .cut) (k .next) (k .seen) (t .lanes)
+  beside =
+      record {
+        ascend = F.cut-up p;
+        ids = omega (arith, F.ids-small (h .number), h .next);
+        counts = F.counts p .lanes;
+        marks-there = omega (arith, seen-long, counts-few .lanes);
+        many = p .many;
+      }
+
+  pub alone-asks : map (boundaryOf (t .coordinates)) (picked (k .marks) (rows 5 (λ w. w) (t .boundaries))) ≡ map (λ x. x .of) (piecesIn counter t (k .point) (k .seen) (k .cut))
+      → k .many ≡ length (piecesIn counter t (k .point) (k .seen) (k .cut)) → k .many * 3 ≤ length (k .pieces)
+      → (word 0 (t .boundaries) ≤ length (k .marks)) × (marked (take (word 0 (t .boundaries)) (k .marks)) * 3 ≤ length (k .pieces))
+  alone-asks pieces-of many-is pieces-room =
+      let ws = picked (k .marks) (rows 5 (λ (w : List ℕ). w) (t .boundaries)) in
+      let n : length ws ≡ length xs = sym (length-map ws (boundaryOf (t .coordinates))) ∙ (ap length pieces-of ∙ length-map xs (λ (x : Piece). x .of)) in
+      (omega (arith, marks-long, counts-few .boundaries), omega (arith, n, many-is, rows-marked 5 (k .marks) (t .boundaries)))
