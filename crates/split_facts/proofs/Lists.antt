@@ -4,12 +4,14 @@ use Prim.Native.Nat.{ℕ, suc, _+_, _*_, _^_, _≤_, _<_}
 use native.Mathlib.Omega.{arith}
 use mathlib.Core.Bool.{Bool, true, false, cond}
 use mathlib.Core.List.{List, [], _∷_, _++_, map}
-use mathlib.Core.Option.{some}
+use mathlib.Core.Option.{Option, none, some}
 use lib.Ieee.{Float}
 use lib.Dec.{leb}
-use lib.ListN.{length, take, drop, replicate, length-map, length-append, length-replicate}
-use borrow.Author.Tests.{le-leb}
-use Rattle.lists.specs.Rows.{rowWith}
+use lib.ListN.{length, take, drop, replicate, length-map, length-append, length-take, length-replicate}
+use borrow.Author.Tests.{le-leb, leb-true}
+use Rattle.lists.specs.Every.{all}
+use Rattle.lists.proofs.Every.{all-head, all-tail}
+use Rattle.lists.specs.Rows.{over, rowWith}
 use Rattle.lists.specs.Select.{any, has, keep, each, numbered, secondOf, ascending}
 use Rattle.lists.specs.declared.Found.{Found}
 use Rattle.lists.specs.declared.Found.the-variants.{At, Nothing}
@@ -23,16 +25,19 @@ use Rattle.rules.specs.Edit.{Edited}
 use Rattle.rules.specs.Split.{LanePlan, Piece, piecesIds, pieces, halves, droppedAll, unsharedPiece, groupOf}
 use Rattle.rules.specs.Split as R
 use Rattle.laws.proofs.SplitGroup.{group-has}
-use Rattle.tables.specs.View.{Tables, word, rows, laneOf, boundaryOf, view}
+use Rattle.tables.specs.View.{Tables, word, idsAt, rows, laneOf, boundaryOf, view}
 use Rattle.lookup.specs.Lookup.{rowAt}
 use Rattle.split_lists.specs.Changes.{markedIds, modifiedBy, createdBy, warningsBy, rowsDropped, piecesIssues, Beside, AllListed}
 use Rattle.split_plan.specs.Placing.{picked, markedRows, groupMarks}
 use Rattle.split_pieces.specs.Pieces.{boundaryKeys, cutBy, cutMarks}
 use Rattle.group.specs.Walk.{idsOf, laneMap}
 use Rattle.apart.proofs.Marks.{counted-facts, counted-more}
-use Rattle.tables.specs.Formed.{laneFormed}
+use Rattle.tables.specs.Formed.{laneFormed, ruleFormed}
 use Rattle.row_tests.specs.Good.{allRows}
-use Rattle.row_tests.proofs.Formed.{lane-before}
+use Rattle.row_tests.proofs.Formed.{lane-before, rule-lanes}
+use Rattle.soundness.proofs.Rows.{all-rows}
+use Rattle.split_rules.specs.Past.{anchorOf, isThere, marksBy, anchoredBy, pastFrom, pastBy}
+use Rattle.follows.specs.Following.{Marking}
 use Rattle.lookup.proofs.Good.{rows-weaker}
 use Rattle.split_plan.proofs.Marked.{picked-none}
 use Rattle.split_marks.specs.Touched.{marked, Named}
@@ -78,6 +83,14 @@ unfolding modifiedBy
 modified-count lm bm rm jm um lanes boundaries roads junctions rules =
     simp (length-append, length-map)
     (omega (arith, rows-marked 52 lm lanes, rows-marked 5 bm boundaries, rows-marked 68 rm roads, rows-marked 69 jm junctions, rows-marked 330 um rules))
+
+-- the rows of each table are within its marks
+pub record Few (t : Tables) : Type 0 where
+  pub lanes : word 0 (t .lanes) ≤ 1024
+  pub boundaries : word 0 (t .boundaries) ≤ 4096
+  pub roads : word 0 (t .roads) ≤ 256
+  pub junctions : word 0 (t .junctions) ≤ 256
+  pub rules : word 0 (t .rules) ≤ 512
 
 module _ {tol : Tolerance} {counter : ℕ} {t : Tables} {own : ℕ} {stations : List Float} {ids : ℕ} {k : Cutting} (h : Measured tol counter t own stations ids k) where
   abbrev p : Planned tol counter t own (k .point) (k .seen) (k .cut) stations
@@ -148,15 +161,7 @@ module _ {tol : Tolerance} {counter : ℕ} {t : Tables} {own : ℕ} {stations : 
 
   -- ---- what listing asks
 
-  pub record Few : Type 0 where
-    pub lanes : word 0 (t .lanes) ≤ 1024
-    pub boundaries : word 0 (t .boundaries) ≤ 4096
-    pub roads : word 0 (t .roads) ≤ 256
-    pub junctions : word 0 (t .junctions) ≤ 256
-    pub rules : word 0 (t .rules) ≤ 512
-
-  -- the rows of each table are within its marks
-  pub counts-few : Few
+  pub counts-few : Few t
   counts-few =
       let c = F.counts p in
       record {
@@ -256,3 +261,60 @@ module _ {tol : Tolerance} {counter : ℕ} {t : Tables} {own : ℕ} {stations : 
       let ws = picked (k .marks) (rows 5 (λ (w : List ℕ). w) (t .boundaries)) in
       let n : length ws ≡ length xs = sym (length-map ws (boundaryOf (t .coordinates))) ∙ (ap length pieces-of ∙ length-map xs (λ (x : Piece). x .of)) in
       (omega (arith, marks-long, counts-few .boundaries), omega (arith, n, many-is, rows-marked 5 (k .marks) (t .boundaries)))
+
+-- ---- rules
+
+-- the marks of all rules stay as many
+past-long : (join : Float) (c : List Float) (lanes boundaries : List ℕ) (q : Point2) (cut : List ℕ) (stations : List Float) (stops crosswalks : List ℕ) (i : ℕ) (ws : List (List ℕ)) (past : List Bool)
+    → all (λ w. leb (word 5 w) 64) ws ≡ true → (i + length ws) * 64 ≤ length past → length (pastFrom join c lanes boundaries q cut stations stops crosswalks i ws past) ≡ length past
+unfolding pastFrom
+past-long join c lanes boundaries q cut stations stops crosswalks i [] past a l = refl
+past-long join c lanes boundaries q cut stations stops crosswalks i (w ∷ ws) past a l =
+    let f = leb-true (word 5 w) 64 (all-head (λ w. leb (word 5 w) 64) w ws a) in
+    let n = few (anchorOf c stops crosswalks cut w) in
+    let e = length-over past (i * 64) (marksBy join c lanes boundaries q cut stations (anchorOf c stops crosswalks cut w) (idsAt 5 w)) (omega (arith, n, f)) in
+    past-long join c lanes boundaries q cut stations stops crosswalks (suc i) ws (over past (i * 64) (marksBy join c lanes boundaries q cut stations (anchorOf c stops crosswalks cut w) (idsAt 5 w)))
+    (all-tail (λ w. leb (word 5 w) 64) w ws a) (omega (arith, e))
+    ∙ e
+  where
+    few : (o : Option Point2) → length (marksBy join c lanes boundaries q cut stations o (idsAt 5 w)) ≤ word 5 w
+    few none = omega arith
+    few (some z) = rw (length-map, length-take) (omega arith)
+
+module _ {tol : Tolerance} {counter : ℕ} {t : Tables} {own : ℕ} {stations : List Float} {ids : ℕ} {k : Cutting} {anchored past : List Bool} (h : Measured tol counter t own stations ids k)
+    (a : Anchored tol t stations k anchored past) where
+  abbrev plan : Planned tol counter t own (k .point) (k .seen) (k .cut) stations
+  plan = h .number .plan
+
+  anchored-long : length anchored ≡ 512
+  anchored-long =
+      let ws = rows 330 (λ (w : List ℕ). w) (t .rules) in
+      let f : List ℕ → Bool = λ w. isThere (anchorOf (t .coordinates) (t .stop-lines) (t .crosswalks) (k .cut) w) in
+      let n : length (map f ws) ≡ word 0 (t .rules) = length-map ws f ∙ rows-count 330 (λ (w : List ℕ). w) (t .rules) in
+      ap length (a .anchors) ∙ (length-over (replicate 512 false) 0 (map f ws) (omega (arith, n, counts-few h .rules, length-replicate 512 false)) ∙ length-replicate 512 false)
+
+  own-few : all (λ w. leb (word 5 w) 64) (rows 330 (λ w. w) (t .rules)) ≡ true
+  unfolding allRows
+  own-few =
+      all-rows 330 (λ (w : List ℕ). w) (λ w. leb (word 5 w) 64) (t .rules)
+      ∙ rows-weaker 330 ruleFormed (λ v. leb (word 5 v) 64) (λ v g. le-leb (word 5 v) 64 (rule-lanes v g)) (t .rules) (F.known plan .parts .rules)
+
+  sides-long : length past ≡ 32768
+  sides-long =
+      let ws = rows 330 (λ (w : List ℕ). w) (t .rules) in
+      ap length (a .sides)
+      ∙ (past-long (tol .join) (t .coordinates) (t .lanes) (t .boundaries) (k .point) (k .cut) stations (t .stop-lines) (t .crosswalks) 0 ws (replicate 32768 false) own-few
+      (omega (arith, rows-count 330 (λ (w : List ℕ). w) (t .rules), counts-few h .rules, length-replicate 32768 false))
+      ∙ length-replicate 32768 false)
+
+  pub rules-asks : (w : List Bool) → length w ≡ 512 → Marking anchored past (k .cut) (t .rules) w
+  rules-asks w l =
+      let f = counts-few h .rules in
+      record {
+        ascend = F.cut-up plan;
+        counts = F.counts plan .rules;
+        formed = F.known plan .parts .rules;
+        anchors = omega (arith, anchored-long);
+        places = omega (arith, sides-long);
+        room = omega arith;
+      }
