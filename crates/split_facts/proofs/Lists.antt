@@ -7,7 +7,8 @@ use mathlib.Core.List.{List, [], _∷_, _++_, map}
 use mathlib.Core.Option.{Option, none, some}
 use lib.Ieee.{Float}
 use lib.Dec.{leb}
-use lib.ListN.{length, take, drop, replicate, length-map, length-append, length-take, length-replicate}
+use lib.ListN.{length, getD, take, drop, replicate, length-map, length-append, length-take, length-replicate}
+use lib.Seq.{take-all}
 use borrow.Author.Tests.{le-leb, leb-true}
 use Rattle.lists.specs.Every.{all}
 use Rattle.lists.proofs.Every.{all-head, all-tail}
@@ -22,10 +23,10 @@ use Rattle.rules.specs.Names.{Point2}
 use Rattle.rules.specs.Map.{uses}
 use Rattle.rules.specs.Sound.{nextId}
 use Rattle.rules.specs.Edit.{Edited}
-use Rattle.rules.specs.Split.{LanePlan, Piece, piecesIds, pieces, halves, droppedAll, unsharedPiece, groupOf}
+use Rattle.rules.specs.Split.{LanePlan, Piece, piecesIds, pieces, halves, droppedAll, unsharedPiece, ruleDiffers, groupOf}
 use Rattle.rules.specs.Split as R
 use Rattle.laws.proofs.SplitGroup.{group-has}
-use Rattle.tables.specs.View.{Tables, word, idsAt, rows, laneOf, boundaryOf, view}
+use Rattle.tables.specs.View.{Tables, word, idsAt, rows, laneOf, boundaryOf, ruleOf, view}
 use Rattle.lookup.specs.Lookup.{rowAt}
 use Rattle.split_lists.specs.Changes.{markedIds, modifiedBy, createdBy, warningsBy, rowsDropped, piecesIssues, Beside, AllListed}
 use Rattle.split_plan.specs.Placing.{picked, markedRows, groupMarks}
@@ -37,7 +38,13 @@ use Rattle.row_tests.specs.Good.{allRows}
 use Rattle.row_tests.proofs.Formed.{lane-before, rule-lanes}
 use Rattle.soundness.proofs.Rows.{all-rows}
 use Rattle.split_rules.specs.Past.{anchorOf, isThere, marksBy, anchoredBy, pastFrom, pastBy}
-use Rattle.follows.specs.Following.{Marking}
+use Rattle.follows.specs.Following.{Marking, marksOf, rowDiffers}
+use Rattle.split_rules.specs.Past as P
+use Rattle.split_named.proofs.Words.{cutIds}
+use Rattle.split_anchors.proofs.Accepted.{cuts-below}
+use Rattle.split_anchors.proofs.Told.{rule-told}
+use Rattle.split_anchors.proofs.Followed.{told-differs}
+use Rattle.split_changes.proofs.Modified.{ruleAfter}
 use Rattle.lookup.proofs.Good.{rows-weaker}
 use Rattle.split_plan.proofs.Marked.{picked-none}
 use Rattle.split_marks.specs.Touched.{marked, Named}
@@ -318,3 +325,56 @@ module _ {tol : Tolerance} {counter : ℕ} {t : Tables} {own : ℕ} {stations : 
         places = omega (arith, sides-long);
         room = omega arith;
       }
+
+  -- ---- modified
+
+  abbrev plans : List LanePlan
+  plans = plansIn t (k .point) (k .seen) stations
+
+  abbrev parts : List Piece
+  parts = piecesIn counter t (k .point) (k .seen) (k .cut)
+
+  -- what the marks of rules were made from
+  pub marked-from : P.Marking (t .coordinates) (t .lanes) (t .boundaries) (cutIds (plansIn t (k .point) (k .seen) stations)) stations (t .rules) (t .stop-lines) (t .crosswalks) (replicate 512 false) (replicate 32768 false)
+  marked-from =
+      let f = counts-few h .rules in
+      let n : length (cutIds plans) ≡ length stations = length-map plans (λ (x : LanePlan). x .of .id) ∙ (sym (length-map plans (λ (x : LanePlan). x .station)) ∙ ap length (plan .stationed)) in
+      record {
+        drawable = F.known plan .drawable;
+        crossable = F.known plan .crossable;
+        ascend = ap ascending (plan .ids) ∙ F.cut-up plan;
+        stationed = omega (arith, n);
+        counts = F.counts plan .rules;
+        formed = F.known plan .parts .rules;
+        anchors = omega (arith, length-replicate 512 false);
+        marks = omega (arith, length-replicate 32768 false);
+      }
+
+  pub all-stations : take (length (plansIn t (k .point) (k .seen) stations)) stations ≡ map (λ x. x .station) (plansIn t (k .point) (k .seen) stations)
+  all-stations =
+      let n : length plans ≡ length stations = sym (length-map plans (λ (x : LanePlan). x .station)) ∙ ap length (plan .stationed) in
+      ap (λ m. take m stations) n ∙ (take-all (length stations) stations (omega arith) ∙ sym (plan .stationed))
+
+  abbrev pub anchoredOf : List ℕ → List Bool
+  anchoredOf cut = over (replicate 512 false) 0 (anchoredBy (t .coordinates) (t .stop-lines) (t .crosswalks) cut (t .rules))
+
+  abbrev pub pastOf : List ℕ → List Bool
+  pastOf cut = pastBy (tol .join) (t .coordinates) (t .lanes) (t .boundaries) (k .point) cut stations (t .stop-lines) (t .crosswalks) (t .rules) (replicate 32768 false)
+
+  -- a rule differs where its row does
+  rules-differ : (i : ℕ) → i < word 0 (t .rules)
+      → ruleDiffers (ruleOf (rowAt 330 (t .rules) i)) (ruleAfter tol (nextId counter) t (plansIn t (k .point) (k .seen) stations) (piecesIn counter t (k .point) (k .seen) (k .cut)) (ruleOf (rowAt 330 (t .rules) i)))
+      ≡ rowDiffers (getD anchored i false) (marksOf past i) (k .cut) (rowAt 330 (t .rules) i)
+  unfolding view
+  rules-differ i l =
+      let first = nextId counter + piecesIds parts in
+      let m = R.cutMap (view t) plans parts (halves first plans) first in
+      let r = ruleOf (rowAt 330 (t .rules) i) in
+      let b = cuts-below (view t) plans (k .cut) (lanesIn t (k .seen)) (k .point) (nextId counter) (F.accepted (h .number)) in
+      ap (λ hs. ruleDiffers r (R.cutRule (tol .join) m first plans hs r)) (halves-numbered first plans)
+      ∙ (told-differs (tol .join) m first plans b (getD (anchoredOf (cutIds plans)) i false) (marksOf (pastOf (cutIds plans)) i) (rowAt 330 (t .rules) i)
+      (rule-told (view t) plans (k .cut) (lanesIn t (k .seen)) (k .point) (nextId counter) (F.accepted (h .number)) (t .coordinates) (t .lanes) (t .boundaries) refl refl stations all-stations (tol .join) (t .stop-lines) (t .crosswalks) refl refl
+      (t .rules) (replicate 512 false) (replicate 32768 false) marked-from i l)
+      ∙ (ap (λ cut. rowDiffers (getD (anchoredOf cut) i false) (marksOf (pastOf cut) i) cut (rowAt 330 (t .rules) i)) (plan .ids)
+      ∙ (ap (λ z. rowDiffers (getD z i false) (marksOf (pastOf (k .cut)) i) (k .cut) (rowAt 330 (t .rules) i)) (sym (a .anchors))
+      ∙ ap (λ z. rowDiffers (getD anchored i false) (marksOf z i) (k .cut) (rowAt 330 (t .rules) i)) (sym (a .sides)))))
