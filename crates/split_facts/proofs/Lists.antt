@@ -8,15 +8,15 @@ use mathlib.Core.Option.{Option, none, some}
 use lib.Ieee.{Float}
 use lib.Dec.{leb}
 use lib.ListN.{length, getD, take, drop, replicate, length-map, length-append, length-take, length-replicate}
-use lib.Seq.{take-all}
+use lib.Seq.{take-all, length-take-le}
 use borrow.Author.Tests.{le-leb, leb-true}
 use Rattle.lists.specs.Every.{all}
 use Rattle.lists.proofs.Every.{all-head, all-tail}
-use Rattle.lists.specs.Rows.{over, rowWith}
+use Rattle.lists.specs.Rows.{keys, over, rowWith}
 use Rattle.lists.specs.Select.{any, has, keep, each, numbered, secondOf, ascending}
 use Rattle.lists.specs.declared.Found.{Found}
 use Rattle.lists.specs.declared.Found.the-variants.{At, Nothing}
-use Rattle.lists.proofs.Rows.{length-over, length-keys, found-within, found-has, there}
+use Rattle.lists.proofs.Rows.{mapped-reads, length-over, length-keys, found-within, found-has, there}
 use Rattle.entities.specs.declared.Tolerance.{Tolerance}
 use Rattle.entities.specs.Records.{Lane, Boundary, Issue}
 use Rattle.rules.specs.Names.{Point2}
@@ -38,16 +38,19 @@ use Rattle.row_tests.specs.Good.{allRows}
 use Rattle.row_tests.proofs.Formed.{lane-before, rule-lanes}
 use Rattle.soundness.proofs.Rows.{all-rows}
 use Rattle.split_rules.specs.Past.{anchorOf, isThere, marksBy, anchoredBy, pastFrom, pastBy}
-use Rattle.follows.specs.Following.{Marking, marksOf, rowDiffers}
+use Rattle.follows.specs.Following.{Marking, marksOf, ruleMarks, rowDiffers}
 use Rattle.split_rules.specs.Past as P
 use Rattle.split_named.proofs.Words.{cutIds}
 use Rattle.split_anchors.proofs.Accepted.{cuts-below}
 use Rattle.split_anchors.proofs.Told.{rule-told}
 use Rattle.split_anchors.proofs.Followed.{told-differs}
-use Rattle.split_changes.proofs.Modified.{ruleAfter}
+use Rattle.split_changes.proofs.Modified.{Marked, ruleAfter, modified-told}
+use Rattle.split_changes.proofs.Kept.{words-kept}
+use Rattle.lookup.proofs.Laws.{sorted-ascends}
+use Rattle.lists.proofs.Select.{map-twice}
 use Rattle.lookup.proofs.Good.{rows-weaker}
 use Rattle.split_plan.proofs.Marked.{picked-none}
-use Rattle.split_marks.specs.Touched.{marked, Named}
+use Rattle.split_marks.specs.Touched.{marked, laneMarks, rowMarks, aloneFrom, Named}
 use Rattle.soundness.proofs.Whole.{rows-count}
 use Rattle.grow.proofs.Growing.{numberAt, second-numbered}
 use Rattle.split_named.proofs.Grown.{halves-numbered}
@@ -59,6 +62,10 @@ use Rattle.split_facts.specs.Splitting.{lanesIn, plansIn, piecesIn, spli
 use Rattle.split_facts.proofs.Facts as F
 
 -- ---- general
+
+-- what stays behind marks written in front
+abbrev behind : List Bool → List Bool → List Bool
+behind w l = drop (0 + length l) w
 
 -- as many are chosen as are marked
 pub picked-marked : {A : Type 0} (bs : List Bool) (xs : List A) → length (picked bs xs) ≡ marked (take (length xs) bs)
@@ -78,6 +85,10 @@ picked-front (false ∷ bs) (x ∷ xs) = picked-front bs xs
 
 rows-marked : (s : ℕ) (marks : List Bool) (t : List ℕ) → length (picked marks (rows s (λ w. w) t)) ≡ marked (take (word 0 t) marks)
 rows-marked s marks t = picked-marked marks (rows s (λ (w : List ℕ). w) t) ∙ ap (λ n. marked (take n marks)) (rows-count s (λ (w : List ℕ). w) t)
+
+row-keys : (s : ℕ) (t : List ℕ) → map (word 0) (rows s (λ w. w) t) ≡ keys s (word 0 t) (drop 1 t)
+unfolding rows keys
+row-keys s t = mapped-reads s (λ (w : List ℕ). w) (word 0) (word 0 t) (drop 1 t)
 
 -- as many ids are listed as rows are marked
 pub marked-many : (s : ℕ) (marks : List Bool) (t : List ℕ) → length (markedIds s marks t) ≡ marked (take (word 0 t) marks)
@@ -378,3 +389,33 @@ module _ {tol : Tolerance} {counter : ℕ} {t : Tables} {own : ℕ} {stations : 
       ∙ (ap (λ cut. rowDiffers (getD (anchoredOf cut) i false) (marksOf (pastOf cut) i) cut (rowAt 330 (t .rules) i)) (plan .ids)
       ∙ (ap (λ z. rowDiffers (getD z i false) (marksOf (pastOf (k .cut)) i) (k .cut) (rowAt 330 (t .rules) i)) (sym (a .anchors))
       ∙ ap (λ z. rowDiffers (getD anchored i false) (marksOf z i) (k .cut) (rowAt 330 (t .rules) i)) (sym (a .sides)))))
+
+  marked-all : AllWords (k .pieces) (k .lines) 0 (k .reach) (piecesIn counter t (k .point) (k .seen) (k .cut))
+      → map (boundaryOf (t .coordinates)) (picked (k .marks) (rows 5 (λ w. w) (t .boundaries))) ≡ map (λ x. x .of) (piecesIn counter t (k .point) (k .seen) (k .cut))
+      → Marked tol (nextId counter) t (k .cut) (plansIn t (k .point) (k .seen) stations) (piecesIn counter t (k .point) (k .seen) (k .cut)) (k .pieces) (take (word 0 (t .boundaries)) (k .marks)) anchored past
+  unfolding boundaryOf
+  marked-all words pieces-of =
+      let ws = rows 5 (λ (w : List ℕ). w) (t .boundaries) in
+      let n : length ws ≡ word 0 (t .boundaries) = rows-count 5 (λ (w : List ℕ). w) (t .boundaries) in
+      let front : picked (take (word 0 (t .boundaries)) (k .marks)) ws ≡ picked (k .marks) ws = ap (λ z. picked (take z (k .marks)) ws) (sym n) ∙ picked-front (k .marks) ws in
+      record {
+        up = F.lane-ids-up plan;
+        links = F.known plan .clauses .links;
+        boundaries-up = ap ascending (row-keys 5 (t .boundaries)) ∙ sorted-ascends 4096 5 (t .boundaries) (F.known plan .boundaries);
+        many = length-take-le (word 0 (t .boundaries)) (k .marks) (omega (arith, marks-long h, counts-few h .boundaries)) ∙ sym n;
+        whose = ap (map (word 0)) front
+            ∙ (sym (map-twice (boundaryOf (t .coordinates)) (λ (b : Boundary). b .id) (picked (k .marks) ws)) ∙ (ap (map (λ (b : Boundary). b .id)) pieces-of ∙ map-twice (λ (x : Piece). x .of) (λ (b : Boundary). b .id) parts));
+        kept = words-kept (k .pieces) (k .lines) 0 (k .reach) parts words;
+        differ = rules-differ;
+      }
+
+  pub modified-is : AllWords (k .pieces) (k .lines) 0 (k .reach) (piecesIn counter t (k .point) (k .seen) (k .cut))
+      → map (boundaryOf (t .coordinates)) (picked (k .marks) (rows 5 (λ w. w) (t .boundaries))) ≡ map (λ x. x .of) (piecesIn counter t (k .point) (k .seen) (k .cut))
+      → (w1 w2 w3 w4 w5 : List Bool) → splitOf tol counter t own (k .point) (k .seen) (k .cut) stations .changes .modified
+      ≡ modifiedBy (over w1 0 (laneMarks (k .cut) (t .lanes))) (t .lanes) (over w2 0 (aloneFrom (k .pieces) 0 (take (word 0 (t .boundaries)) (k .marks)))) (t .boundaries)
+      (over w3 0 (rowMarks (k .cut) 68 3 (t .roads))) (t .roads) (over w4 0 (rowMarks (k .cut) 69 4 (t .junctions))) (t .junctions) (over w5 0 (ruleMarks anchored past (k .cut) (t .rules))) (t .rules)
+  unfolding splitOf over
+  modified-is words pieces-of w1 w2 w3 w4 w5 =
+      sym (modified-told tol (nextId counter) own t (k .cut) plans parts (k .pieces) (take (word 0 (t .boundaries)) (k .marks)) anchored past (marked-all words pieces-of)
+      (behind w1 (laneMarks (k .cut) (t .lanes))) (behind w2 (aloneFrom (k .pieces) 0 (take (word 0 (t .boundaries)) (k .marks)))) (behind w3 (rowMarks (k .cut) 68 3 (t .roads)))
+      (behind w4 (rowMarks (k .cut) 69 4 (t .junctions))) (behind w5 (ruleMarks anchored past (k .cut) (t .rules))))
