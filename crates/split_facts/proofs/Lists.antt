@@ -122,7 +122,7 @@ module _ {tol : Tolerance} {counter : ℕ} {t : Tables} {own : ℕ} {stations : 
 
   -- ---- ids
 
-  next-is : nextId counter + piecesIds (piecesIn counter t (k .point) (k .seen) (k .cut)) ≡ k .next
+  pub next-is : nextId counter + piecesIds (piecesIn counter t (k .point) (k .seen) (k .cut)) ≡ k .next
   next-is = ap (λ n. nextId counter + n) (F.pieces-many (h .number)) ∙ sym (h .next)
 
   pub ids-is : splitOf tol counter t own (k .point) (k .seen) (k .cut) stations .ids ≡ ids + length (k .cut)
@@ -130,7 +130,7 @@ module _ {tol : Tolerance} {counter : ℕ} {t : Tables} {own : ℕ} {stations : 
   ids-is = ap (λ n. n + length ps) (F.pieces-many (h .number)) ∙ ap (λ n. ids + n) (F.many-plans p)
 
   -- the second halves, by the cut lanes' places
-  halves-are : halves (nextId counter + piecesIds (piecesIn counter t (k .point) (k .seen) (k .cut))) (plansIn t (k .point) (k .seen) stations) ≡ numbered (k .next) (k .cut)
+  pub halves-are : halves (nextId counter + piecesIds (piecesIn counter t (k .point) (k .seen) (k .cut))) (plansIn t (k .point) (k .seen) stations) ≡ numbered (k .next) (k .cut)
   halves-are =
       halves-numbered (nextId counter + piecesIds xs) ps
       ∙ (ap (λ n. numbered n (map (λ (x : LanePlan). x .of .id) ps)) next-is ∙ ap (numbered (k .next)) (p .ids))
@@ -304,7 +304,7 @@ module _ {tol : Tolerance} {counter : ℕ} {t : Tables} {own : ℕ} {stations : 
   abbrev plan : Planned tol counter t own (k .point) (k .seen) (k .cut) stations
   plan = h .number .plan
 
-  anchored-long : length anchored ≡ 512
+  pub anchored-long : length anchored ≡ 512
   anchored-long =
       let ws = rows 330 (λ (w : List ℕ). w) (t .rules) in
       let f : List ℕ → Bool = λ w. isThere (anchorOf (t .coordinates) (t .stop-lines) (t .crosswalks) (k .cut) w) in
@@ -317,7 +317,7 @@ module _ {tol : Tolerance} {counter : ℕ} {t : Tables} {own : ℕ} {stations : 
       all-rows 330 (λ (w : List ℕ). w) (λ w. leb (word 5 w) 64) (t .rules)
       ∙ rows-weaker 330 ruleFormed (λ v. leb (word 5 v) 64) (λ v g. le-leb (word 5 v) 64 (rule-lanes v g)) (t .rules) (F.known plan .parts .rules)
 
-  sides-long : length past ≡ 32768
+  pub sides-long : length past ≡ 32768
   sides-long =
       let ws = rows 330 (λ (w : List ℕ). w) (t .rules) in
       ap length (a .sides)
