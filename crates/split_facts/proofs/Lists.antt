@@ -1,64 +1,63 @@
 -- The change set of a split whose lanes are planned, from marks, pieces and rows; and what listing it asks. Assumes nothing.
 use mathlib.Core.Path.{_≡_, refl, sym, ap, _∙_}
-use Prim.Native.Nat.{ℕ, suc, _+_, _*_, _^_, _≤_, _<_}
+use Prim.Native.Nat.{ℕ, suc, _+_, _*_, _≤_, _<_}
 use native.Mathlib.Omega.{arith}
-use mathlib.Core.Bool.{Bool, true, false, cond}
+use mathlib.Core.Bool.{Bool, true, false}
 use mathlib.Core.List.{List, [], _∷_, _++_, map}
 use mathlib.Core.Option.{Option, none, some}
-use lib.Ieee.{Float}
 use lib.Dec.{leb}
+use lib.Ieee.{Float}
 use lib.ListN.{length, getD, take, drop, replicate, length-map, length-append, length-take, length-replicate}
 use lib.Seq.{take-all, length-take-le}
 use borrow.Author.Tests.{le-leb, leb-true}
 use Rattle.lists.specs.Every.{all}
-use Rattle.lists.proofs.Every.{all-head, all-tail}
 use Rattle.lists.specs.Rows.{keys, over, rowWith}
 use Rattle.lists.specs.Select.{any, has, keep, each, numbered, secondOf, ascending}
 use Rattle.lists.specs.declared.Found.{Found}
 use Rattle.lists.specs.declared.Found.the-variants.{At, Nothing}
+use Rattle.lists.proofs.Every.{all-head, all-tail}
 use Rattle.lists.proofs.Rows.{mapped-reads, length-over, length-keys, found-within, found-has, there}
+use Rattle.lists.proofs.Select.{map-twice}
 use Rattle.entities.specs.declared.Tolerance.{Tolerance}
-use Rattle.entities.specs.Records.{Lane, Boundary, Issue}
+use Rattle.entities.specs.Records.{Boundary, Issue, Map}
 use Rattle.rules.specs.Names.{Point2}
 use Rattle.rules.specs.Map.{uses}
 use Rattle.rules.specs.Sound.{nextId}
-use Rattle.rules.specs.Edit.{Edited}
-use Rattle.rules.specs.Split.{LanePlan, Piece, piecesIds, pieces, halves, droppedAll, unsharedPiece, ruleDiffers, groupOf}
+use Rattle.rules.specs.Split.{LanePlan, Piece, piecesIds, halves, droppedAll, unsharedPiece, ruleDiffers, groupOf}
 use Rattle.rules.specs.Split as R
 use Rattle.laws.proofs.SplitGroup.{group-has}
 use Rattle.tables.specs.View.{Tables, word, idsAt, rows, laneOf, boundaryOf, ruleOf, view}
-use Rattle.lookup.specs.Lookup.{rowAt}
-use Rattle.split_lists.specs.Changes.{markedIds, modifiedBy, createdBy, warningsBy, rowsDropped, piecesIssues, Beside, AllListed}
-use Rattle.split_plan.specs.Placing.{picked, markedRows, groupMarks}
-use Rattle.split_pieces.specs.Pieces.{boundaryKeys, cutBy, cutMarks}
-use Rattle.group.specs.Walk.{idsOf, laneMap}
-use Rattle.apart.proofs.Marks.{counted-facts, counted-more}
 use Rattle.tables.specs.Formed.{laneFormed, ruleFormed}
 use Rattle.row_tests.specs.Good.{allRows}
 use Rattle.row_tests.proofs.Formed.{lane-before, rule-lanes}
+use Rattle.apart.proofs.Marks.{counted-facts, counted-more}
 use Rattle.soundness.proofs.Rows.{all-rows}
-use Rattle.split_rules.specs.Past.{anchorOf, isThere, marksBy, anchoredBy, pastFrom, pastBy}
+use Rattle.soundness.proofs.Whole.{rows-count}
+use Rattle.lookup.specs.Lookup.{rowAt}
+use Rattle.lookup.proofs.Laws.{sorted-ascends}
+use Rattle.lookup.proofs.Good.{rows-weaker}
+use Rattle.group.specs.Walk.{idsOf, laneMap}
+use Rattle.grow.proofs.Growing.{numberAt, second-numbered}
 use Rattle.follows.specs.Following.{Marking, marksOf, ruleMarks, rowDiffers}
+use Rattle.split_plan.specs.Placing.{picked, markedRows, groupMarks}
+use Rattle.split_plan.proofs.Marked.{picked-none}
+use Rattle.split_pieces.specs.Pieces.{boundaryKeys, cutBy, cutMarks}
+use Rattle.split_marks.specs.Touched.{marked, laneMarks, rowMarks, aloneFrom, Named}
+use Rattle.split_lists.specs.Changes.{markedIds, modifiedBy, createdBy, warningsBy, rowsDropped, piecesIssues, Beside, AllListed}
+use Rattle.split_rules.specs.Past.{anchorOf, isThere, marksBy, anchoredBy, pastFrom, pastBy}
 use Rattle.split_rules.specs.Past as P
-use Rattle.split_named.proofs.Words.{cutIds}
+use Rattle.split_relay.specs.Relaying.{Cutting}
+use Rattle.split_laid.proofs.Boundaries.{AllWords}
+use Rattle.split_named.proofs.Words.{cutIds, below}
+use Rattle.split_named.proofs.Grown.{halves-numbered}
 use Rattle.split_anchors.proofs.Accepted.{cuts-below}
 use Rattle.split_anchors.proofs.Told.{rule-told}
-use Rattle.split_anchors.proofs.Followed.{told-differs}
+use Rattle.split_anchors.proofs.Followed.{Told, told-differs}
 use Rattle.split_changes.proofs.Modified.{Marked, ruleAfter, modified-told}
 use Rattle.split_changes.proofs.Kept.{words-kept}
-use Rattle.lookup.proofs.Laws.{sorted-ascends}
-use Rattle.lists.proofs.Select.{map-twice}
-use Rattle.lookup.proofs.Good.{rows-weaker}
-use Rattle.split_plan.proofs.Marked.{picked-none}
-use Rattle.split_marks.specs.Touched.{marked, laneMarks, rowMarks, aloneFrom, Named}
-use Rattle.soundness.proofs.Whole.{rows-count}
-use Rattle.grow.proofs.Growing.{numberAt, second-numbered}
-use Rattle.split_named.proofs.Grown.{halves-numbered}
-use Rattle.split_laid.proofs.Boundaries.{AllWords}
 use Rattle.split_changes.proofs.Created as C
 use Rattle.split_changes.proofs.Warned.{pieces-warned, dropped-warned}
-use Rattle.split_relay.specs.Relaying.{Cutting}
-use Rattle.split_facts.specs.Splitting.{lanesIn, plansIn, piecesIn, splitOf, Planned, Numbered, Measured, Anchored}
+use Rattle.split_facts.specs.Splitting.{lanesIn, plansIn, piecesIn, splitOf, Planned, Measured, Anchored}
 use Rattle.split_facts.proofs.Facts as F
 
 -- ---- general
@@ -102,6 +101,14 @@ modified-count lm bm rm jm um lanes boundaries roads junctions rules =
     simp (length-append, length-map)
     (omega (arith, rows-marked 52 lm lanes, rows-marked 5 bm boundaries, rows-marked 68 rm roads, rows-marked 69 jm junctions, rows-marked 330 um rules))
 
+-- the first second half's id, and the map after the cut but for roads, junctions and rules
+abbrev pub cutFrom : ℕ → Tables → Cutting → ℕ
+cutFrom counter t k = nextId counter + piecesIds (piecesIn counter t (k .point) (k .seen) (k .cut))
+
+abbrev pub cutAfter : ℕ → Tables → Cutting → List Float → Map
+cutAfter counter t k stations =
+    R.cutMap (view t) (plansIn t (k .point) (k .seen) stations) (piecesIn counter t (k .point) (k .seen) (k .cut)) (halves (cutFrom counter t k) (plansIn t (k .point) (k .seen) stations)) (cutFrom counter t k)
+
 -- the rows of each table are within its marks
 pub record Few (t : Tables) : Type 0 where
   pub lanes : word 0 (t .lanes) ≤ 1024
@@ -122,7 +129,7 @@ module _ {tol : Tolerance} {counter : ℕ} {t : Tables} {own : ℕ} {stations : 
 
   -- ---- ids
 
-  pub next-is : nextId counter + piecesIds (piecesIn counter t (k .point) (k .seen) (k .cut)) ≡ k .next
+  pub next-is : cutFrom counter t k ≡ k .next
   next-is = ap (λ n. nextId counter + n) (F.pieces-many (h .number)) ∙ sym (h .next)
 
   pub ids-is : splitOf tol counter t own (k .point) (k .seen) (k .cut) stations .ids ≡ ids + length (k .cut)
@@ -130,10 +137,14 @@ module _ {tol : Tolerance} {counter : ℕ} {t : Tables} {own : ℕ} {stations : 
   ids-is = ap (λ n. n + length ps) (F.pieces-many (h .number)) ∙ ap (λ n. ids + n) (F.many-plans p)
 
   -- the second halves, by the cut lanes' places
-  pub halves-are : halves (nextId counter + piecesIds (piecesIn counter t (k .point) (k .seen) (k .cut))) (plansIn t (k .point) (k .seen) stations) ≡ numbered (k .next) (k .cut)
+  pub halves-are : halves (cutFrom counter t k) (plansIn t (k .point) (k .seen) stations) ≡ numbered (k .next) (k .cut)
   halves-are =
-      halves-numbered (nextId counter + piecesIds xs) ps
+      halves-numbered (cutFrom counter t k) ps
       ∙ (ap (λ n. numbered n (map (λ (x : LanePlan). x .of .id) ps)) next-is ∙ ap (numbered (k .next)) (p .ids))
+
+  -- the cut lanes are below them
+  pub lanes-below : below (cutFrom counter t k) (cutIds (plansIn t (k .point) (k .seen) stations))
+  lanes-below = cuts-below (view t) ps (k .cut) (lanesIn t (k .seen)) (k .point) (nextId counter) (F.accepted (h .number))
 
   -- ---- created, deleted
 
@@ -170,11 +181,11 @@ module _ {tol : Tolerance} {counter : ℕ} {t : Tables} {own : ℕ} {stations : 
   unfolding splitOf R.cut
   warnings-is words many-is =
       let a : each unsharedPiece xs ≡ piecesIssues (k .pieces) 0 (k .many) = sym (pieces-warned (k .pieces) (k .lines) 0 (k .reach) xs words) ∙ ap (piecesIssues (k .pieces) 0) (sym many-is) in
-      let b : droppedAll (halves (nextId counter + piecesIds xs) ps) (nextId counter + piecesIds xs) ps ≡ rowsDropped (k .cut) (k .next) (k .next) (markedRows (k .seen) (t .lanes)) =
-      ap (λ hs. droppedAll hs (nextId counter + piecesIds xs) ps) halves-are
+      let b : droppedAll (halves (cutFrom counter t k) ps) (cutFrom counter t k) ps ≡ rowsDropped (k .cut) (k .next) (k .next) (markedRows (k .seen) (t .lanes)) =
+      ap (λ hs. droppedAll hs (cutFrom counter t k) ps) halves-are
       ∙ (ap (λ n. droppedAll (numbered (k .next) (k .cut)) n ps) next-is
       ∙ sym (dropped-warned (t .coordinates) (k .cut) (k .next) (k .next) ps (markedRows (k .seen) (t .lanes)) (F.of-lanes p))) in
-      ap (λ (zs : List Issue). zs ++ droppedAll (halves (nextId counter + piecesIds xs) ps) (nextId counter + piecesIds xs) ps) a
+      ap (λ (zs : List Issue). zs ++ droppedAll (halves (cutFrom counter t k) ps) (cutFrom counter t k) ps) a
       ∙ ap (λ (zs : List Issue). piecesIssues (k .pieces) 0 (k .many) ++ zs) b
 
   -- ---- what listing asks
@@ -366,29 +377,32 @@ module _ {tol : Tolerance} {counter : ℕ} {t : Tables} {own : ℕ} {stations : 
       let n : length plans ≡ length stations = sym (length-map plans (λ (x : LanePlan). x .station)) ∙ ap length (plan .stationed) in
       ap (λ m. take m stations) n ∙ (take-all (length stations) stations (omega arith) ∙ sym (plan .stationed))
 
-  abbrev pub anchoredOf : List ℕ → List Bool
+  abbrev anchoredOf : List ℕ → List Bool
   anchoredOf cut = over (replicate 512 false) 0 (anchoredBy (t .coordinates) (t .stop-lines) (t .crosswalks) cut (t .rules))
 
-  abbrev pub pastOf : List ℕ → List Bool
+  abbrev pastOf : List ℕ → List Bool
   pastOf cut = pastBy (tol .join) (t .coordinates) (t .lanes) (t .boundaries) (k .point) cut stations (t .stop-lines) (t .crosswalks) (t .rules) (replicate 32768 false)
+
+  -- the marks say of every rule what document 01 says of it in the map after the cut
+  pub rules-told : (i : ℕ) → i < word 0 (t .rules)
+      → Told (tol .join) (cutAfter counter t k stations) (cutFrom counter t k) (plansIn t (k .point) (k .seen) stations) (lanes-below h) (getD (anchoredOf (cutIds plans)) i false) (marksOf (pastOf (cutIds plans)) i) (rowAt 330 (t .rules) i)
+  unfolding view
+  rules-told i l =
+      rule-told (view t) plans (k .cut) (lanesIn t (k .seen)) (k .point) (nextId counter) (F.accepted (h .number)) (t .coordinates) (t .lanes) (t .boundaries) refl refl stations all-stations (tol .join)
+      (t .stop-lines) (t .crosswalks) refl refl (t .rules) (replicate 512 false) (replicate 32768 false) marked-from i l
 
   -- a rule differs where its row does
   rules-differ : (i : ℕ) → i < word 0 (t .rules)
       → ruleDiffers (ruleOf (rowAt 330 (t .rules) i)) (ruleAfter tol (nextId counter) t (plansIn t (k .point) (k .seen) stations) (piecesIn counter t (k .point) (k .seen) (k .cut)) (ruleOf (rowAt 330 (t .rules) i)))
       ≡ rowDiffers (getD anchored i false) (marksOf past i) (k .cut) (rowAt 330 (t .rules) i)
-  unfolding view
   rules-differ i l =
-      let first = nextId counter + piecesIds parts in
-      let m = R.cutMap (view t) plans parts (halves first plans) first in
-      let r = ruleOf (rowAt 330 (t .rules) i) in
-      let b = cuts-below (view t) plans (k .cut) (lanesIn t (k .seen)) (k .point) (nextId counter) (F.accepted (h .number)) in
-      ap (λ hs. ruleDiffers r (R.cutRule (tol .join) m first plans hs r)) (halves-numbered first plans)
-      ∙ (told-differs (tol .join) m first plans b (getD (anchoredOf (cutIds plans)) i false) (marksOf (pastOf (cutIds plans)) i) (rowAt 330 (t .rules) i)
-      (rule-told (view t) plans (k .cut) (lanesIn t (k .seen)) (k .point) (nextId counter) (F.accepted (h .number)) (t .coordinates) (t .lanes) (t .boundaries) refl refl stations all-stations (tol .join) (t .stop-lines) (t .crosswalks) refl refl
-      (t .rules) (replicate 512 false) (replicate 32768 false) marked-from i l)
-      ∙ (ap (λ cut. rowDiffers (getD (anchoredOf cut) i false) (marksOf (pastOf cut) i) cut (rowAt 330 (t .rules) i)) (plan .ids)
-      ∙ (ap (λ z. rowDiffers (getD z i false) (marksOf (pastOf (k .cut)) i) (k .cut) (rowAt 330 (t .rules) i)) (sym (a .anchors))
-      ∙ ap (λ z. rowDiffers (getD anchored i false) (marksOf z i) (k .cut) (rowAt 330 (t .rules) i)) (sym (a .sides)))))
+      let first = cutFrom counter t k in
+      let m = cutAfter counter t k stations in
+      let w = rowAt 330 (t .rules) i in
+      ap (λ hs. ruleDiffers (ruleOf w) (R.cutRule (tol .join) m first plans hs (ruleOf w))) (halves-numbered first plans)
+      ∙ (told-differs (tol .join) m first plans (lanes-below h) (getD (anchoredOf (cutIds plans)) i false) (marksOf (pastOf (cutIds plans)) i) w (rules-told i l)
+      ∙ (ap (λ cut. rowDiffers (getD (anchoredOf cut) i false) (marksOf (pastOf cut) i) cut w) (plan .ids)
+      ∙ (ap (λ z. rowDiffers (getD z i false) (marksOf (pastOf (k .cut)) i) (k .cut) w) (sym (a .anchors)) ∙ ap (λ z. rowDiffers (getD anchored i false) (marksOf z i) (k .cut) w) (sym (a .sides)))))
 
   marked-all : AllWords (k .pieces) (k .lines) 0 (k .reach) (piecesIn counter t (k .point) (k .seen) (k .cut))
       → map (boundaryOf (t .coordinates)) (picked (k .marks) (rows 5 (λ w. w) (t .boundaries))) ≡ map (λ x. x .of) (piecesIn counter t (k .point) (k .seen) (k .cut))

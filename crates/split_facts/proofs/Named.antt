@@ -1,8 +1,8 @@
 -- Roads, junctions and rules that a split leaves: their rows grow and follow as the result is stored, and have room. Assumes nothing.
 use mathlib.Core.Path.{_≡_, refl, sym, ap, _∙_, subst}
-use Prim.Native.Nat.{ℕ, suc, _+_, _*_, _≤_, _<_}
+use mathlib.Core.Logic.{inl, inr}
+use Prim.Native.Nat.{ℕ, suc, _≤_, _<_}
 use native.Mathlib.Omega.{arith}
-use mathlib.Core.Logic.{_⊎_, inl, inr}
 use mathlib.Core.Bool.{Bool, true, false, not, _&&_, cond}
 use mathlib.Core.List.{List, [], _∷_, map}
 use lib.Dec.{eqb, leb}
@@ -20,7 +20,7 @@ use Rattle.rules.specs.Map.{rule-anchor}
 use Rattle.rules.specs.Sound.{nextId, fitsRoom, withinLimits, pointCount, idLists}
 use Rattle.rules.specs.Lane.{roadLanes, junctionLanes}
 use Rattle.rules.specs.Split as R
-use Rattle.rules.specs.Split.{LanePlan, Piece, piecesIds, halves, swapFirst, follow-all, cutRule, cutMap}
+use Rattle.rules.specs.Split.{LanePlan, halves, swapFirst, follow-all, cutRule}
 use Rattle.tables.specs.View.{Tables, word, rows, idsAt, idsWhere, roadOf, junctionOf, ruleOf, view}
 use Rattle.tables.specs.Formed.{ruleFormed}
 use Rattle.row_tests.specs.Good.{allRows}
@@ -30,21 +30,20 @@ use Rattle.soundness.proofs.Rows.{all-rows, rows-and}
 use Rattle.store.specs.Store.{roomOf, roadOnto, junctionOnto, ruleOnto, storeRows}
 use Rattle.store.specs.Laid.{laid}
 use Rattle.store.specs.Rows.{onRows}
+use Rattle.lookup.specs.Lookup.{rowAt}
+use Rattle.lookup.proofs.Laws.{row-passes}
 use Rattle.sound_facts.proofs.Room.{Limits, limits}
 use Rattle.grows.specs.Growing.{growsAt, listGrows, Grows, Numbered}
 use Rattle.follows.specs.Following.{followedAll, marksOf, rulesFollow, ruleRoom, Follows}
-use Rattle.lookup.specs.Lookup.{rowAt}
-use Rattle.lookup.proofs.Laws.{row-passes}
 use Rattle.split_rules.specs.Past.{anchoredBy, pastBy}
-use Rattle.split_anchors.proofs.Accepted.{cuts-below, rules-after}
-use Rattle.split_anchors.proofs.Told.{rule-told}
-use Rattle.split_named.proofs.Words.{cutIds, below, follow-words}
-use Rattle.split_anchors.proofs.Followed.{Told}
-use Rattle.split_named.proofs.Grown.{halves-numbered, roads-grown, junctions-grown}
 use Rattle.split_relay.specs.Relaying.{Cutting}
-use Rattle.split_facts.specs.Splitting.{lanesIn, plansIn, piecesIn, splitOf, Planned, Measured, Anchored}
+use Rattle.split_named.proofs.Words.{cutIds, below, follow-words}
+use Rattle.split_named.proofs.Grown.{halves-numbered, roads-grown, junctions-grown}
+use Rattle.split_anchors.proofs.Accepted.{rules-after}
+use Rattle.split_anchors.proofs.Followed.{Told}
+use Rattle.split_facts.specs.Splitting.{lanesIn, plansIn, splitOf, Planned, Measured, Anchored}
 use Rattle.split_facts.proofs.Facts as F
-use Rattle.split_facts.proofs.Lists.{next-is, halves-are, rules-asks, marked-from, all-stations}
+use Rattle.split_facts.proofs.Lists.{cutFrom, cutAfter, next-is, halves-are, lanes-below, rules-asks, marked-from, all-stations, rules-told}
 
 -- the limits of a map that has room
 pub room-limits : (t : Tables) (m : Map) → fitsRoom (roomOf t) m ≡ true → Limits m
@@ -191,29 +190,17 @@ module _ {tol : Tolerance} {counter : ℕ} {t : Tables} {own : ℕ} {stations : 
   abbrev ps : List LanePlan
   ps = plansIn t (k .point) (k .seen) stations
 
-  abbrev xs : List Piece
-  xs = piecesIn counter t (k .point) (k .seen) (k .cut)
-
   abbrev first : ℕ
-  first = nextId counter + piecesIds xs
+  first = cutFrom counter t k
 
   abbrev after : Map
-  after = cutMap (view t) ps xs (halves first ps) first
+  after = cutAfter counter t k stations
 
   abbrev anchoredOf : List ℕ → List Bool
   anchoredOf cut = over (replicate 512 false) 0 (anchoredBy (t .coordinates) (t .stop-lines) (t .crosswalks) cut (t .rules))
 
   abbrev pastOf : List ℕ → List Bool
   pastOf cut = pastBy (tol .join) (t .coordinates) (t .lanes) (t .boundaries) (k .point) cut stations (t .stop-lines) (t .crosswalks) (t .rules) (replicate 32768 false)
-
-  new-below : below (nextId counter + piecesIds (piecesIn counter t (k .point) (k .seen) (k .cut))) (cutIds (plansIn t (k .point) (k .seen) stations))
-  new-below = cuts-below (view t) ps (k .cut) (lanesIn t (k .seen)) (k .point) (nextId counter) (F.accepted (h .number))
-
-  told : (i : ℕ) → i < word 0 (t .rules) → Told (tol .join) after first ps new-below (getD (anchoredOf (cutIds ps)) i false) (marksOf (pastOf (cutIds ps)) i) (rowAt 330 (t .rules) i)
-  unfolding view
-  told i l =
-      rule-told (view t) ps (k .cut) (lanesIn t (k .seen)) (k .point) (nextId counter) (F.accepted (h .number)) (t .coordinates) (t .lanes) (t .boundaries) refl refl stations (all-stations h a) (tol .join)
-      (t .stop-lines) (t .crosswalks) refl refl (t .rules) (replicate 512 false) (replicate 32768 false) (marked-from h a) i l
 
   done-rules : splitOf tol counter t own (k .point) (k .seen) (k .cut) stations .result .rules ≡ map (cutRule (tol .join) after first ps (halves first ps)) (rows 330 ruleOf (t .rules))
   unfolding splitOf R.cut view
@@ -243,7 +230,7 @@ module _ {tol : Tolerance} {counter : ℕ} {t : Tables} {own : ℕ} {stations : 
             ∙ (ap (λ z. ruleRoom (getD (anchoredOf (k .cut)) i false) (marksOf z i) (k .next) (k .cut) w) (a .sides)
             ∙ (ap (λ n. ruleRoom (getD (anchoredOf (k .cut)) i false) (marksOf (pastOf (k .cut)) i) n (k .cut) w) (sym (next-is h))
             ∙ (ap (λ cut. ruleRoom (getD (anchoredOf cut) i false) (marksOf (pastOf cut) i) first cut w) (sym (plan .ids))
-            ∙ told-room (tol .join) after first ps new-below (getD (anchoredOf (cutIds ps)) i false) (marksOf (pastOf (cutIds ps)) i) w (row-passes 330 ruleFormed (t .rules) (f .formed) i l) (told i l) (short i l))));
+            ∙ told-room (tol .join) after first ps (lanes-below h) (getD (anchoredOf (cutIds ps)) i false) (marksOf (pastOf (cutIds ps)) i) w (row-passes 330 ruleFormed (t .rules) (f .formed) i l) (rules-told h a i l) (short i l))));
       }
 
   follows-first : Follows (anchoredOf (cutIds ps)) (pastOf (cutIds ps)) first (cutIds ps) (t .rules)
