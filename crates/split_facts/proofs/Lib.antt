@@ -2,3 +2,5 @@ pub mod Facts
 pub mod Asks
 pub mod Words
 pub mod Room
+pub mod Lists
+pub mod Named
