@@ -7,14 +7,16 @@ use mathlib.Core.List.{List, [], _∷_, _++_, map}
 use mathlib.Core.Option.{Option, none, some}
 use lib.Dec.{eqb, leb, ltb}
 use lib.Ieee.{Float}
-use lib.ListN.{length, length-append}
-use borrow.Author.Tests.{eqb-true, eqb-false}
+use lib.ListN.{length, getD, take, drop, length-append, length-drop}
+use lib.Seq.{length-take-le, drop-drop}
+use borrow.Author.Tests.{eqb-true, eqb-false, eq-eqb}
 use Rattle.lists.specs.Every.{all}
-use Rattle.lists.specs.Rows.{keys, rowWith, later}
+use Rattle.lists.specs.Rows.{reads, keys, rowWith, later}
 use Rattle.lists.specs.Select.{find, each}
 use Rattle.lists.specs.declared.Found.{Found}
 use Rattle.lists.specs.declared.Found.the-variants.{At, Nothing}
-use Rattle.lists.proofs.Booleans.{and-fst, and-snd}
+use Rattle.lists.proofs.Booleans.{and-both, and-fst, and-snd}
+use Rattle.lists.proofs.Rows.{length-keys, getD-reads, row-at}
 use Rattle.lists.proofs.Every.{all-head, all-tail}
 use Rattle.entities.specs.Records.{Line, Lane, Map}
 use Rattle.entities.specs.declared.Refusal.{Refusal}
@@ -26,11 +28,13 @@ use Rattle.rules.specs.Edit.{Res, refuse, yield, _>>=_, check, require}
 use Rattle.rules.specs.Split.{Piece, LanePlan, centerPiece, cuttable, lane-plan, lane-plans, pieceFor, planFor, firstRef, secondRef, piecesIds}
 use Rattle.laws.proofs.Lawful.{yields, no-yield}
 use Rattle.laws.proofs.SplitPlans.{bound}
-use Rattle.tables.specs.View.{word, mark, refAt, lineAt, laneOf}
-use Rattle.tables.specs.Formed.{laneFormed}
+use Rattle.tables.specs.View.{word, mark, refAt, lineAt, rows, laneOf}
+use Rattle.tables.specs.Formed.{counted, laneFormed}
 use Rattle.store.specs.Store.{present}
 use Rattle.store.proofs.Marks.{lane-marks}
-use Rattle.lookup.specs.Lookup.{pointsOr}
+use Rattle.lookup.specs.Lookup.{sortedTable, placeOf, rowAt, pointsOr}
+use Rattle.lookup.proofs.Laws.{sorted-ascends}
+use Rattle.split_named.proofs.Grown.{rows-room}
 use Rattle.split_rows.specs.Halves.{halfRef, pieceFound, pieceWord, firstSize, secondSize}
 use Rattle.split_plan.specs.Placing.{picked}
 use Rattle.split_room.specs.Fitting.{boundaryPoints, lanePoints}
@@ -41,6 +45,30 @@ use Rattle.split_laid.proofs.Boundaries.{PieceWords, AllWords, pieceSize}
 use Rattle.split_laid.proofs.Rows.{CenterIs, HalfWords}
 use Rattle.split_laid.proofs.Lanes.{PlanRow, PlanRows, PlanFound}
 use Rattle.split_laid.proofs.Lies.{pieceLines, centerLines}
+
+-- ---- general
+
+-- rows have all their words
+reads-long : (s n : ℕ) (w : List ℕ) → n * s ≤ length w → all (λ b. b) (reads s (λ v. eqb (length v) s) n w) ≡ true
+unfolding reads all
+reads-long s zero w h = refl
+reads-long s (suc n) w h =
+    let i : s ≤ length w = omega arith in
+    let k : n * s ≤ length (drop s w) = rw length-drop (omega arith) in
+    and-both (eqb (length (take s w)) s) (all (λ b. b) (reads s (λ v. eqb (length v) s) n (drop s w))) (eq-eqb (length (take s w)) s (length-take-le s w i)) (reads-long s n (drop s w) k)
+
+pub rows-long : (limit s : ℕ) (t : List ℕ) → counted limit s t ≡ true → all (λ b. b) (rows s (λ v. eqb (length v) s) t) ≡ true
+unfolding rows
+rows-long limit s t h = reads-long s (word 0 t) (drop 1 t) (rows-room limit s t h)
+
+-- row i is where its own id is found
+pub own-place : (limit s : ℕ) (t : List ℕ) → sortedTable limit s t ≡ true → (i : ℕ) → i < word 0 t → placeOf s t (word 0 (rowAt s t i)) ≡ At i
+unfolding placeOf keys
+own-place limit s t h i l =
+    let k : i < length (keys s (word 0 t) (drop 1 t)) = rw (length-keys s (word 0 t) (drop 1 t)) l in
+    let e : getD (keys s (word 0 t) (drop 1 t)) i 0 ≡ word 0 (rowAt s t i) =
+    getD-reads s (λ (r : List ℕ). getD r 0 0) (word 0 t) i (drop 1 t) 0 l ∙ rw drop-drop in
+    row-at (word 0 (rowAt s t i)) i (keys s (word 0 t) (drop 1 t)) (sorted-ascends limit s t h) k e
 
 -- ---- centrelines of halves
 

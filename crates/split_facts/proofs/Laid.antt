@@ -1,0 +1,167 @@
+-- The tables with lines that a split leaves are those of the map that document 01 makes, laid out anew; and what the code that leaves them asks. Assumes nothing.
+use mathlib.Core.Path.{_≡_, refl, sym, ap, _∙_, subst}
+use Prim.Native.Nat.{ℕ, zero, suc, _+_, _-_, _*_, _/_, _^_, _≤_, _<_, min}
+use native.Mathlib.Omega.{arith}
+use mathlib.Core.Bool.{Bool, true, false, not, _&&_, _||_, cond, true≢false}
+use mathlib.Core.List.{List, [], _∷_, _++_, map}
+use mathlib.Core.Option.{Option, none, some}
+use lib.Dec.{eqb, leb, ltb}
+use lib.Ieee.{Float, binary64, ofBits}
+use lib.Seq.{length-take-le}
+use lib.ListN.{length, take, drop, length-map, length-append, length-drop, length-replicate}
+use borrow.Author.Tests.{leb-true, le-leb, ltb-true, ltb-false, eq-eqb, ne-eqb}
+use Rattle.lists.specs.Every.{all}
+use Rattle.lists.specs.Rows.{reads, keys, over, rowWith}
+use Rattle.lists.specs.Select.{each, keep, has, ascending, numbered}
+use Rattle.lists.proofs.Booleans.{and-both, and-fst, and-snd}
+use Rattle.entities.specs.Records.{Line, Lane, Boundary, StopLine, Crosswalk, Map}
+use Rattle.rules.specs.Names.{Tolerance}
+use Rattle.rules.specs.Map.{lane}
+use Rattle.rules.specs.Sound.{fitsRoom, nextId}
+use Rattle.rules.specs.Split.{LanePlan, Piece, piecesIds, planFor, groupOf, halves, cameFrom}
+use Rattle.laws.proofs.Find.{mapped, no-some, some-is}
+use Rattle.laws.proofs.SplitLanes.{Numbered, byFirst, plan-is, first-lane}
+use Rattle.tables.specs.View.{Tables, word, idsAt, rows, view, laneOf, boundaryOf}
+use Rattle.tables.specs.Formed.{spans, centerSpan, stored, laneFormed}
+use Rattle.row_tests.specs.Good.{allRows}
+use Rattle.row_tests.proofs.Tables.{table-room}
+use Rattle.store.specs.Store.{roomOf}
+use Rattle.store.proofs.Marks.{lane-marks}
+use Rattle.store.specs.Laid.{laid}
+use Rattle.layout.specs.Layout.{lineTables, gathered, countedLines, Gatherable}
+use Rattle.layout.proofs.Standing.{Rowwise, spans-rowwise, both-pass, tested-rows}
+use Rattle.lookup.specs.Lookup.{rowAt}
+use Rattle.lookup.proofs.Laws.{find-at, row-passes}
+use Rattle.split_plan.specs.Placing.{picked, markedRows}
+use Rattle.split_laws.proofs.Chosen.{all-picked}
+use Rattle.split_named.proofs.Grown.{halves-numbered, rows-room}
+use Rattle.split_lines.specs.Cut.{Chosen, drawnPieces}
+use Rattle.split_limits.proofs.Lengths.{came-same}
+use Rattle.split_limits.proofs.Centers.{AllPlans}
+use Rattle.split_laid.proofs.Boundaries.{AllWords}
+use Rattle.split_laid.proofs.Rows.{ids-few, Cuttable}
+use Rattle.split_laid.proofs.Lanes.{PlanRows, RowPlan}
+use Rattle.split_laid.proofs.Lies as L
+use Rattle.split_laid.proofs.Lies.{pieceLines, StartsAt}
+use Rattle.split_relay.specs.Relaying.{Cutting, boundaryLines, centerLines, drawnPoints, relaid, workFloats, blank, Relayable}
+use Rattle.split_facts.specs.Splitting.{lanesIn, plansIn, piecesIn, splitOf, Planned, Measured}
+use Rattle.split_facts.proofs.Facts as F
+use Rattle.split_facts.proofs.LaidRows.{rows-long, own-place, AllLined, plans-lined, plans-rows, plan-found, pieces-told, piece-points, rows-many, center-points}
+
+-- what the arrays of pieces and measures are known to tell
+pub record Read {tol : Tolerance} {counter : ℕ} {t : Tables} {own : ℕ} {stations : List Float} {ids : ℕ} {k : Cutting} (h : Measured tol counter t own stations ids k) : Type 0 where
+  pub pieces-of : map (boundaryOf (t .coordinates)) (picked (k .marks) (rows 5 (λ w. w) (t .boundaries))) ≡ map (λ x. x .of) (piecesIn counter t (k .point) (k .seen) (k .cut))
+  pub many-is : k .many ≡ length (piecesIn counter t (k .point) (k .seen) (k .cut))
+  pub piece-words : AllWords (k .pieces) (k .lines) 0 (k .reach) (piecesIn counter t (k .point) (k .seen) (k .cut))
+  pub piece-keys : keys 3 (k .many) (k .pieces) ≡ map (λ x. x .of .id) (piecesIn counter t (k .point) (k .seen) (k .cut))
+  pub keys-up : ascending (keys 3 (k .many) (k .pieces)) ≡ true
+  pub piece-lines : each (λ l. l) (pieceLines (piecesIn counter t (k .point) (k .seen) (k .cut))) ≡ drawnPieces (k .point) (boundaryLines k t)
+  pub plans-told : AllPlans (k .centers) 0 (plansIn t (k .point) (k .seen) stations)
+  pub starts-at : StartsAt (k .centers) 0 (k .reach + length (drawnPieces (k .point) (boundaryLines k t))) (plansIn t (k .point) (k .seen) stations)
+  pub center-lines : each (λ l. l) (L.centerLines (plansIn t (k .point) (k .seen) stations)) ≡ drawnPieces (k .point) (centerLines k t)
+  pub lines-near : all (λ i. leb i 4194304) (k .lines) ≡ true
+  pub centers-near : all (λ i. leb i 4194304) (k .centers) ≡ true
+  pub pieces-room : k .many * 3 ≤ length (k .pieces)
+  pub lines-room : k .many * 3 ≤ length (k .lines)
+  pub centers-room : length (k .cut) * 3 ≤ length (k .centers)
+  pub boundaries-chosen : Chosen (t .coordinates) 5 2 false (k .marks) (t .boundaries)
+  pub lanes-chosen : Chosen (t .coordinates) 52 7 true (k .seen) (t .lanes)
+  pub reach-near : k .reach ≤ 65536
+  pub reach-stored : k .reach * 3 ≤ length (t .coordinates)
+
+-- ---- tables with lines alone
+
+-- the tables with lines of others
+abbrev pub linesOf : Tables → Tables
+linesOf t = lineTables (t .lanes) (t .boundaries) (t .stop-lines) (t .crosswalks) (t .coordinates)
+
+-- a layout looks at no other
+lines-gathered : (work : List Float) (t : Tables) → gathered work (linesOf t) ≡ linesOf (gathered work t)
+unfolding gathered spans
+lines-gathered work t = refl
+
+lines-gatherable : (work : List Float) (t : Tables) → Gatherable work t → Gatherable work (linesOf t)
+unfolding countedLines spans
+lines-gatherable work t g = record { counts = g .counts; fits = g .fits; room = g .room }
+
+fields : {l l₁ b b₁ s s₁ x x₁ : List ℕ} (c : List Float) → l ≡ l₁ → b ≡ b₁ → s ≡ s₁ → x ≡ x₁ → lineTables l b s x c ≡ lineTables l₁ b₁ s₁ x₁ c
+fields c p q r u = cc
+
+-- ---- a split
+
+module _ {tol : Tolerance} {counter : ℕ} {t : Tables} {own : ℕ} {stations : List Float} {ids : ℕ} {k : Cutting} (h : Measured tol counter t own stations ids k) (r : Read h)
+    (room : fitsRoom (roomOf t) (splitOf tol counter t own (k .point) (k .seen) (k .cut) stations .result) ≡ true) where
+  abbrev c : List Float
+  c = t .coordinates
+
+  abbrev ps : List LanePlan
+  ps = plansIn t (k .point) (k .seen) stations
+
+  abbrev xs : List Piece
+  xs = piecesIn counter t (k .point) (k .seen) (k .cut)
+
+  abbrev plan : Planned tol counter t own (k .point) (k .seen) (k .cut) stations
+  plan = h .number .plan
+
+  -- ---- rows and plans
+
+  lined : AllLined ps
+  lined = plans-lined tol (view t) own (plan .at) (k .point) (keep (λ x. has (x .id) (groupOf (view t) own (plan .neighbors))) (view t .lanes)) ps (plan .planned)
+
+  stored-rows : Rowwise (stored c) t
+  stored-rows = spans-rowwise (stored c) t (F.known plan .parts .store)
+
+  formed-rows : all (λ b. b) (rows 52 laneFormed (t .lanes)) ≡ true
+  formed-rows = unfold allRows in F.known plan .parts .lanes
+
+  good-rows : all (λ w. eqb (length w) 52 && laneFormed w) (rows 52 (λ w. w) (t .lanes)) ≡ true
+  good-rows =
+      tested-rows 52 (λ w. w) (λ w. eqb (length w) 52 && laneFormed w) (t .lanes)
+      ∙ both-pass 52 (λ w. eqb (length w) 52) laneFormed (t .lanes) (rows-long 1024 52 (t .lanes) (F.counts plan .lanes)) formed-rows
+
+  -- the plans are of the marked rows, and the words of pieces and measures tell of their halves
+  pub plan-rows : PlanRows (k .pieces) (k .many) (k .centers) (k .next) ps xs c 0 ps (markedRows (k .seen) (t .lanes))
+  plan-rows =
+      plans-rows (k .pieces) (k .lines) (k .many) (k .reach) xs (r .piece-words) (r .piece-keys) c (k .centers) (k .next) ps 0 ps (markedRows (k .seen) (t .lanes)) (F.of-lanes plan) (r .plans-told) lined
+      (all-picked (λ w. eqb (length w) 52 && laneFormed w) (k .seen) (rows 52 (λ w. w) (t .lanes)) good-rows)
+
+  -- a plan that is found is of the lane with that id
+  planned-lane : (i : ℕ) (x : LanePlan) → planFor ps i ≡ some x → lane (view t) i ≡ some (x .of)
+  planned-lane i x e = go (byFirst ps (nextId counter + piecesIds xs) i) refl
+    where
+      go : (o : Option Numbered) → byFirst ps (nextId counter + piecesIds xs) i ≡ o → lane (view t) i ≡ some (x .of)
+      go none f = absurd (no-some x (sym (plan-is (view t) ps (nextId counter + piecesIds xs) i ∙ ap (mapped (λ z. z .1)) f) ∙ e))
+      go (some z) f =
+          let q : z .1 ≡ x = some-is (sym (plan-is (view t) ps (nextId counter + piecesIds xs) i ∙ ap (mapped (λ z. z .1)) f) ∙ e) in
+          first-lane (view t) ps (nextId counter + piecesIds xs) (F.accepted (h .number) .lanes .choice) i z f ∙ ap (λ (y : LanePlan). some (y .of)) q
+
+  -- ---- every row of the lanes
+
+  cuts-up : ascending (map (λ x. x .of .id) ps) ≡ true
+  cuts-up = ap ascending (plan .ids) ∙ F.cut-up plan
+
+  came-few : (w : List ℕ) → laneFormed w ≡ true → ascending (idsAt 18 w) ≡ true → length (cameFrom (numbered (k .next) (map (λ x. x .of .id) ps)) (idsAt 18 w)) ≤ 16
+  came-few w f u =
+      let e : length (cameFrom (numbered (k .next) (map (λ x. x .of .id) ps)) (idsAt 18 w)) ≡ length (idsAt 18 w) =
+      ap (λ hs. length (cameFrom hs (idsAt 18 w))) (sym (halves-numbered (k .next) ps)) ∙ came-same (k .next) ps (idsAt 18 w) u cuts-up in
+      omega (arith, e, ids-few 18 w (lane-marks w f .before))
+
+  row-formed : (j : ℕ) → j < word 0 (t .lanes) → laneFormed (rowAt 52 (t .lanes) j) ≡ true
+  row-formed j l = row-passes 52 laneFormed (t .lanes) formed-rows j l
+
+  row-up : (j : ℕ) → j < word 0 (t .lanes) → ascending (idsAt 18 (rowAt 52 (t .lanes) j)) ≡ true
+  row-up j l = F.known plan .links-ascend j l .0
+
+  -- the lane of a row, by its id
+  row-lane : (j : ℕ) → j < word 0 (t .lanes) → lane (view t) (word 0 (rowAt 52 (t .lanes) j)) ≡ some (laneOf c (rowAt 52 (t .lanes) j))
+  unfolding lane view laneOf
+  row-lane j l = find-at 52 (laneOf c) (λ x. x .id) (λ w. refl) (t .lanes) (word 0 (rowAt 52 (t .lanes) j)) j (own-place 1024 52 (t .lanes) (F.known plan .drawable .lanes-sorted) j l)
+
+  pub row-plans : (j : ℕ) → j < word 0 (t .lanes) → RowPlan (k .pieces) (k .many) (k .centers) (k .next) ps xs c (rowAt 52 (t .lanes) j)
+  row-plans j l =
+      let w = rowAt 52 (t .lanes) j in
+      record {
+        cuttable = record { formed = row-formed j l; center = row-passes 52 (λ w. all (stored c) (centerSpan w)) (t .lanes) (stored-rows .centerlines) j l; few = came-few w (row-formed j l) (row-up j l) };
+        plan = plan-found (k .pieces) (k .lines) (k .many) (k .reach) xs (r .piece-words) (r .piece-keys) c (k .centers) (k .next) ps (r .plans-told) lined w (row-formed j l)
+            (λ x e. some-is (sym (planned-lane (word 0 w) x e) ∙ row-lane j l));
+      }
