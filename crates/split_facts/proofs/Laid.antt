@@ -12,19 +12,25 @@ use lib.ListN.{length, take, drop, length-map, length-append, length-drop, lengt
 use borrow.Author.Tests.{leb-true, le-leb, ltb-true, ltb-false, eq-eqb, ne-eqb}
 use Rattle.lists.specs.Every.{all}
 use Rattle.lists.specs.Rows.{reads, keys, over, rowWith}
-use Rattle.lists.specs.Select.{each, keep, has, ascending, numbered}
+use Rattle.lists.proofs.Select.{all-map, all-weaken, map-twice}
+use Rattle.lists.specs.Select.{any, each, keep, has, ascending, numbered}
 use Rattle.lists.proofs.Booleans.{and-both, and-fst, and-snd}
 use Rattle.entities.specs.Records.{Line, Lane, Boundary, StopLine, Crosswalk, Map}
 use Rattle.rules.specs.Names.{Tolerance}
-use Rattle.rules.specs.Map.{lane}
-use Rattle.rules.specs.Sound.{fitsRoom, nextId}
-use Rattle.rules.specs.Split.{LanePlan, Piece, piecesIds, planFor, groupOf, halves, cameFrom}
+use Rattle.rules.specs.Map.{lane, uses}
+use Rattle.rules.specs.Edit.{upFrom}
+use Rattle.rules.specs.Sound.{fitsRoom, nextId, linksAscend}
+use Rattle.rules.specs.Split.{LanePlan, Piece, piecesIds, planFor, groupOf, halves, cameFrom, newPieces, secondHalves}
+use Rattle.laws.proofs.Connect.{found-all}
+use Rattle.laws.proofs.SplitPieces.{piece-ids, up-from}
 use Rattle.laws.proofs.Find.{mapped, no-some, some-is}
 use Rattle.laws.proofs.SplitLanes.{Numbered, byFirst, plan-is, first-lane}
 use Rattle.tables.specs.View.{Tables, word, idsAt, rows, view, laneOf, boundaryOf}
 use Rattle.tables.specs.Formed.{spans, centerSpan, stored, laneFormed}
 use Rattle.row_tests.specs.Good.{allRows}
 use Rattle.row_tests.proofs.Tables.{table-room}
+use Rattle.soundness.proofs.Rows.{all-rows}
+use Rattle.soundness.proofs.Whole.{ids-keys}
 use Rattle.store.specs.Store.{roomOf}
 use Rattle.store.proofs.Marks.{lane-marks}
 use Rattle.store.specs.Laid.{laid}
@@ -32,6 +38,8 @@ use Rattle.layout.specs.Layout.{lineTables, gathered, countedLines, Gatherable}
 use Rattle.layout.proofs.Standing.{Rowwise, spans-rowwise, both-pass, tested-rows}
 use Rattle.lookup.specs.Lookup.{rowAt}
 use Rattle.lookup.proofs.Laws.{find-at, row-passes}
+use Rattle.lookup.proofs.Good.{rows-weaker}
+use Rattle.sound_facts.proofs.Room.{Limits, limits}
 use Rattle.split_plan.specs.Placing.{picked, markedRows}
 use Rattle.split_laws.proofs.Chosen.{all-picked}
 use Rattle.split_named.proofs.Grown.{halves-numbered, rows-room}
@@ -40,13 +48,13 @@ use Rattle.split_limits.proofs.Lengths.{came-same}
 use Rattle.split_limits.proofs.Centers.{AllPlans}
 use Rattle.split_laid.proofs.Boundaries.{AllWords}
 use Rattle.split_laid.proofs.Rows.{ids-few, Cuttable}
-use Rattle.split_laid.proofs.Lanes.{PlanRows, RowPlan}
+use Rattle.split_laid.proofs.Lanes.{PlanRows, RowPlan, PlansFew}
 use Rattle.split_laid.proofs.Lies as L
 use Rattle.split_laid.proofs.Lies.{pieceLines, StartsAt}
 use Rattle.split_relay.specs.Relaying.{Cutting, boundaryLines, centerLines, drawnPoints, relaid, workFloats, blank, Relayable}
 use Rattle.split_facts.specs.Splitting.{lanesIn, plansIn, piecesIn, splitOf, Planned, Measured}
 use Rattle.split_facts.proofs.Facts as F
-use Rattle.split_facts.proofs.LaidRows.{rows-long, own-place, AllLined, plans-lined, plans-rows, plan-found, pieces-told, piece-points, rows-many, center-points}
+use Rattle.split_facts.proofs.LaidRows.{lacks-above, halves-from, rows-long, own-place, AllLined, plans-lined, plans-rows, plan-found, pieces-told, piece-points, rows-many, center-points}
 
 -- what the arrays of pieces and measures are known to tell
 pub record Read {tol : Tolerance} {counter : ℕ} {t : Tables} {own : ℕ} {stations : List Float} {ids : ℕ} {k : Cutting} (h : Measured tol counter t own stations ids k) : Type 0 where
@@ -165,3 +173,63 @@ module _ {tol : Tolerance} {counter : ℕ} {t : Tables} {own : ℕ} {stations : 
         plan = plan-found (k .pieces) (k .lines) (k .many) (k .reach) xs (r .piece-words) (r .piece-keys) c (k .centers) (k .next) ps (r .plans-told) lined w (row-formed j l)
             (λ x e. some-is (sym (planned-lane (word 0 w) x e) ∙ row-lane j l));
       }
+
+  -- ---- new ids
+
+  next-is : k .next ≡ nextId counter + piecesIds xs
+  next-is = h .next ∙ ap (λ n. nextId counter + n) (sym (F.pieces-many (h .number)))
+
+  boundaries-low : all (λ i. ltb i (nextId counter)) (keys 5 (word 0 (t .boundaries)) (drop 1 (t .boundaries))) ≡ true
+  unfolding view boundaryOf
+  boundaries-low = ap (all (λ i. ltb i (nextId counter))) (sym (ids-keys 5 (boundaryOf c) (λ x. x .id) (t .boundaries) (λ w. refl))) ∙ F.accepted (h .number) .lines .fresh
+
+  lanes-low : all (λ i. ltb i (k .next)) (keys 52 (word 0 (t .lanes)) (drop 1 (t .lanes))) ≡ true
+  unfolding view laneOf
+  lanes-low =
+      ap (λ n. all (λ i. ltb i n) (keys 52 (word 0 (t .lanes)) (drop 1 (t .lanes)))) next-is
+      ∙ (ap (all (λ i. ltb i (nextId counter + piecesIds xs))) (sym (ids-keys 52 (laneOf c) (λ x. x .id) (t .lanes) (λ w. refl))) ∙ F.accepted (h .number) .lanes .fresh)
+
+  fresh-boundaries : all (λ b. not (has (b .id) (keys 5 (word 0 (t .boundaries)) (drop 1 (t .boundaries))))) (each newPieces xs) ≡ true
+  fresh-boundaries =
+      let ks = keys 5 (word 0 (t .boundaries)) (drop 1 (t .boundaries)) in
+      let start = nextId counter in
+      sym (all-map (λ i. not (has i ks)) (λ (b : Boundary). b .id) (each newPieces xs))
+      ∙ (ap (all (λ i. not (has i ks))) (piece-ids (k .cut) (view t .lanes) (k .point) start (keep (λ b. any (uses (b .id)) (lanesIn t (k .seen))) (view t .boundaries)))
+      ∙ all-weaken (leb start) (λ i. not (has i ks)) (upFrom start (piecesIds xs)) (λ i e. lacks-above start i ks boundaries-low (leb-true start i e)) (up-from start (piecesIds xs) start (omega arith)))
+
+  abbrev hs : List (ℕ × ℕ)
+  hs = numbered (k .next) (map (λ x. x .of .id) ps)
+
+  fresh-lanes : all (λ l. not (has (l .id) (keys 52 (word 0 (t .lanes)) (drop 1 (t .lanes))))) (secondHalves xs hs (k .next) ps) ≡ true
+  fresh-lanes =
+      let ks = keys 52 (word 0 (t .lanes)) (drop 1 (t .lanes)) in
+      all-weaken (λ (l : Lane). leb (k .next) (l .id)) (λ (l : Lane). not (has (l .id) ks)) (secondHalves xs hs (k .next) ps) (λ l e. lacks-above (k .next) (l .id) ks lanes-low (leb-true (k .next) (l .id) e))
+      (halves-from xs hs (k .next) (k .next) ps (omega arith))
+
+  -- ---- links
+
+  links-up : all (λ b. b) (rows 52 (λ w. ascending (idsAt 18 w)) (t .lanes)) ≡ true
+  unfolding linksAscend view laneOf
+  links-up =
+      rows-weaker 52 (λ w. ascending (idsAt 18 w) && ascending (idsAt 35 w)) (λ w. ascending (idsAt 18 w)) (λ w h. and-fst (ascending (idsAt 18 w)) (ascending (idsAt 35 w)) h) (t .lanes)
+      (sym (all-rows 52 (laneOf c) (λ l. ascending (l .predecessors) && ascending (l .successors)) (t .lanes)) ∙ F.known plan .clauses .links-ascend)
+
+  rows-few : all (λ b. b) (rows 52 (λ w. laneFormed w && leb (length (cameFrom hs (idsAt 18 w))) 16) (t .lanes)) ≡ true
+  rows-few =
+      rows-weaker 52 (λ w. laneFormed w && ascending (idsAt 18 w)) (λ w. laneFormed w && leb (length (cameFrom hs (idsAt 18 w))) 16)
+      (λ w e. let f = and-fst (laneFormed w) (ascending (idsAt 18 w)) e in
+          and-both (laneFormed w) (leb (length (cameFrom hs (idsAt 18 w))) 16) f (le-leb (length (cameFrom hs (idsAt 18 w))) 16 (came-few w f (and-snd (laneFormed w) (ascending (idsAt 18 w)) e)))) (t .lanes)
+      (unfold allRows in both-pass 52 laneFormed (λ w. ascending (idsAt 18 w)) (t .lanes) formed-rows links-up)
+
+  plans-few : PlansFew (k .pieces) (k .many) (k .centers) (k .next) ps xs c
+  unfolding PlansFew lane linksAscend
+  plans-few i x e =
+      let q : Lane → Bool = λ l. leb (length (l .predecessors)) 16 && leb (length (l .successors)) 16 in
+      let v : Lane → Bool = λ l. ascending (l .predecessors) && ascending (l .successors) in
+      let f = planned-lane i x e in
+      let a = found-all (λ l. eqb (l .id) i) q (view t .lanes) (x .of) f (limits (view t) (F.known plan .clauses .limits) .links) in
+      let b = found-all (λ l. eqb (l .id) i) v (view t .lanes) (x .of) f (F.known plan .clauses .links-ascend) in
+      let n = leb-true (length (x .of .predecessors)) 16 (and-fst (leb (length (x .of .predecessors)) 16) (leb (length (x .of .successors)) 16) a) in
+      let z : length (cameFrom hs (x .of .predecessors)) ≡ length (x .of .predecessors) =
+      ap (λ hs. length (cameFrom hs (x .of .predecessors))) (sym (halves-numbered (k .next) ps)) ∙ came-same (k .next) ps (x .of .predecessors) (and-fst (ascending (x .of .predecessors)) (ascending (x .of .successors)) b) cuts-up in
+      omega (arith, z, n)

@@ -9,10 +9,11 @@ use lib.Dec.{eqb, leb, ltb}
 use lib.Ieee.{Float}
 use lib.ListN.{length, getD, take, drop, length-append, length-drop}
 use lib.Seq.{length-take-le, drop-drop}
-use borrow.Author.Tests.{eqb-true, eqb-false, eq-eqb}
+use borrow.Author.Tests.{eqb-true, eqb-false, eq-eqb, ltb-true, le-leb}
 use Rattle.lists.specs.Every.{all}
 use Rattle.lists.specs.Rows.{reads, keys, rowWith, later}
-use Rattle.lists.specs.Select.{find, each}
+use Rattle.lists.specs.Select.{find, each, has}
+use Rattle.lists.proofs.Select.{all-has}
 use Rattle.lists.specs.declared.Found.{Found}
 use Rattle.lists.specs.declared.Found.the-variants.{At, Nothing}
 use Rattle.lists.proofs.Booleans.{and-both, and-fst, and-snd}
@@ -25,7 +26,7 @@ use Rattle.polyline.specs.Polyline.{firstPiece, secondPiece}
 use Rattle.rules.specs.Names.{Tolerance, BoundaryRef, Point2, Left, Right}
 use Rattle.rules.specs.Map.{station, centerline, explicitOr, derived, oriented-boundary}
 use Rattle.rules.specs.Edit.{Res, refuse, yield, _>>=_, check, require}
-use Rattle.rules.specs.Split.{Piece, LanePlan, centerPiece, cuttable, lane-plan, lane-plans, pieceFor, planFor, firstRef, secondRef, piecesIds}
+use Rattle.rules.specs.Split.{Piece, LanePlan, centerPiece, cuttable, lane-plan, lane-plans, pieceFor, planFor, firstRef, secondRef, piecesIds, secondHalves}
 use Rattle.laws.proofs.Lawful.{yields, no-yield}
 use Rattle.laws.proofs.SplitPlans.{bound}
 use Rattle.tables.specs.View.{word, mark, refAt, lineAt, rows, laneOf}
@@ -69,6 +70,20 @@ own-place limit s t h i l =
     let e : getD (keys s (word 0 t) (drop 1 t)) i 0 ≡ word 0 (rowAt s t i) =
     getD-reads s (λ (r : List ℕ). getD r 0 0) (word 0 t) i (drop 1 t) 0 l ∙ rw drop-drop in
     row-at (word 0 (rowAt s t i)) i (keys s (word 0 t) (drop 1 t)) (sorted-ascends limit s t h) k e
+
+-- numbers below n lack one that is not
+pub lacks-above : (n i : ℕ) (ks : List ℕ) → all (λ j. ltb j n) ks ≡ true → n ≤ i → not (has i ks) ≡ true
+lacks-above n i ks h l = go (has i ks) refl
+  where
+    go : (b : Bool) → has i ks ≡ b → not b ≡ true
+    go true e = absurd (omega (arith, ltb-true i n (all-has (λ j. ltb j n) i ks h e)))
+    go false e = refl
+
+-- ids of second halves count up from the first
+pub halves-from : (xs : List Piece) (hs : List (ℕ × ℕ)) (m n : ℕ) (ps : List LanePlan) → m ≤ n → all (λ l. leb m (l .id)) (secondHalves xs hs n ps) ≡ true
+unfolding secondHalves all
+halves-from xs hs m n [] l = refl
+halves-from xs hs m n (x ∷ ps) l = and-both (leb m n) (all (λ l. leb m (l .id)) (secondHalves xs hs (suc n) ps)) (le-leb m n l) (halves-from xs hs m (suc n) ps (omega arith))
 
 -- ---- centrelines of halves
 
