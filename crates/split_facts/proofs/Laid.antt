@@ -3,7 +3,7 @@ use mathlib.Core.Path.{_≡_, refl, sym, ap, _∙_, subst}
 use Prim.Native.Nat.{ℕ, zero, suc, _+_, _-_, _*_, _/_, _^_, _≤_, _<_, min}
 use native.Mathlib.Omega.{arith}
 use mathlib.Core.Bool.{Bool, true, false, not, _&&_, _||_, cond, true≢false}
-use mathlib.Core.List.{List, [], _∷_, _++_, map}
+use mathlib.Core.List.{List, [], _∷_, _++_, map, map-append}
 use mathlib.Core.Option.{Option, none, some}
 use lib.Dec.{eqb, leb, ltb}
 use lib.Ieee.{Float, binary64, ofBits}
@@ -12,7 +12,7 @@ use lib.ListN.{length, take, drop, length-map, length-append, length-drop, lengt
 use borrow.Author.Tests.{leb-true, le-leb, ltb-true, ltb-false, eq-eqb, ne-eqb}
 use Rattle.lists.specs.Every.{all}
 use Rattle.lists.specs.Rows.{reads, keys, over, rowWith}
-use Rattle.lists.proofs.Select.{all-map, all-weaken, map-twice}
+use Rattle.lists.proofs.Select.{all-map, all-weaken, map-twice, map-same}
 use Rattle.lists.specs.Select.{any, each, keep, has, ascending, numbered}
 use Rattle.lists.proofs.Booleans.{and-both, and-fst, and-snd}
 use Rattle.entities.specs.Records.{Line, Lane, Boundary, StopLine, Crosswalk, Map}
@@ -20,22 +20,24 @@ use Rattle.rules.specs.Names.{Tolerance}
 use Rattle.rules.specs.Map.{lane, uses}
 use Rattle.rules.specs.Edit.{upFrom}
 use Rattle.rules.specs.Sound.{fitsRoom, nextId, linksAscend}
-use Rattle.rules.specs.Split.{LanePlan, Piece, piecesIds, planFor, groupOf, halves, cameFrom, newPieces, secondHalves}
+use Rattle.rules.specs.Split.{LanePlan, Piece, piecesIds, planFor, groupOf, halves, cameFrom, newPieces, secondHalves, cutLane, cutBoundary, cut, cutMap}
 use Rattle.laws.proofs.Connect.{found-all}
 use Rattle.laws.proofs.SplitPieces.{piece-ids, up-from}
 use Rattle.laws.proofs.Find.{mapped, no-some, some-is}
 use Rattle.laws.proofs.SplitLanes.{Numbered, byFirst, plan-is, first-lane}
-use Rattle.tables.specs.View.{Tables, word, idsAt, rows, view, laneOf, boundaryOf}
+use Rattle.tables.specs.View.{Tables, word, idsAt, rows, view, laneOf, boundaryOf, stopLineOf, crosswalkOf}
 use Rattle.tables.specs.Formed.{spans, centerSpan, stored, laneFormed}
 use Rattle.row_tests.specs.Good.{allRows}
 use Rattle.row_tests.proofs.Tables.{table-room}
 use Rattle.soundness.proofs.Rows.{all-rows}
 use Rattle.soundness.proofs.Whole.{ids-keys}
-use Rattle.store.specs.Store.{roomOf}
+use Rattle.apart.proofs.Marks.{counted-facts}
+use Rattle.store.specs.Store.{roomOf, storeRows}
 use Rattle.store.proofs.Marks.{lane-marks}
-use Rattle.store.specs.Laid.{laid}
+use Rattle.store.specs.Laid.{laid, laneLaid, boundaryLaid}
 use Rattle.layout.specs.Layout.{lineTables, gathered, countedLines, Gatherable}
-use Rattle.layout.proofs.Standing.{Rowwise, spans-rowwise, both-pass, tested-rows}
+use Rattle.layout.specs.Pointed.{Starts, pointed}
+use Rattle.layout.proofs.Standing.{Rowwise, spans-rowwise, both-pass, tested-rows, mapped-rows, stops-stand, crosswalks-stand}
 use Rattle.lookup.specs.Lookup.{rowAt}
 use Rattle.lookup.proofs.Laws.{find-at, row-passes}
 use Rattle.lookup.proofs.Good.{rows-weaker}
@@ -44,14 +46,15 @@ use Rattle.split_plan.specs.Placing.{picked, markedRows}
 use Rattle.split_laws.proofs.Chosen.{all-picked}
 use Rattle.split_named.proofs.Grown.{halves-numbered, rows-room}
 use Rattle.split_lines.specs.Cut.{Chosen, drawnPieces}
+use Rattle.split_tables.specs.Cut.{boundariesCut, lanesCut}
 use Rattle.split_limits.proofs.Lengths.{came-same}
 use Rattle.split_limits.proofs.Centers.{AllPlans}
-use Rattle.split_laid.proofs.Boundaries.{AllWords}
+use Rattle.split_laid.proofs.Boundaries.{AllWords, boundaryAfter, newStarts, after-cut, starts-new, boundaries-cut}
 use Rattle.split_laid.proofs.Rows.{ids-few, Cuttable}
-use Rattle.split_laid.proofs.Lanes.{PlanRows, RowPlan, PlansFew}
+use Rattle.split_laid.proofs.Lanes.{PlanRows, RowPlan, PlansFew, laneAfter, secondStarts, starts-second, lanes-cut}
 use Rattle.split_laid.proofs.Lies as L
 use Rattle.split_laid.proofs.Lies.{pieceLines, StartsAt}
-use Rattle.split_relay.specs.Relaying.{Cutting, boundaryLines, centerLines, drawnPoints, relaid, workFloats, blank, Relayable}
+use Rattle.split_relay.specs.Relaying.{Cutting, boundaryLines, centerLines, drawnPoints, drawnLines, cutTables, relaid, workFloats, blank, Relayable}
 use Rattle.split_facts.specs.Splitting.{lanesIn, plansIn, piecesIn, splitOf, Planned, Measured}
 use Rattle.split_facts.proofs.Facts as F
 use Rattle.split_facts.proofs.LaidRows.{lacks-above, halves-from, rows-long, own-place, AllLined, plans-lined, plans-rows, plan-found, pieces-told, piece-points, rows-many, center-points}
@@ -233,3 +236,95 @@ module _ {tol : Tolerance} {counter : ℕ} {t : Tables} {own : ℕ} {stations : 
       let z : length (cameFrom hs (x .of .predecessors)) ≡ length (x .of .predecessors) =
       ap (λ hs. length (cameFrom hs (x .of .predecessors))) (sym (halves-numbered (k .next) ps)) ∙ came-same (k .next) ps (x .of .predecessors) (and-fst (ascending (x .of .predecessors)) (ascending (x .of .successors)) b) cuts-up in
       omega (arith, z, n)
+
+  -- ---- tables
+
+  lane-space : 1 + (word 0 (t .lanes) + length (k .cut)) * 52 ≤ length (t .lanes)
+  lane-space =
+      let n = word 0 (t .lanes) + length (k .cut) in
+      let e = leb-true n ((length (t .lanes) - 1) / 52) (and-snd (leb n 1024) (leb n ((length (t .lanes) - 1) / 52)) (h .number .lanes-fit)) in
+      omega (arith, e, counted-facts 1024 52 (t .lanes) (F.counts plan .lanes) .0)
+
+  boundary-space : 1 + (word 0 (t .boundaries) + piecesIds xs) * 5 ≤ length (t .boundaries)
+  boundary-space =
+      let n = word 0 (t .boundaries) + ids in
+      let e = leb-true n ((length (t .boundaries) - 1) / 5) (and-snd (leb n 4096) (leb n ((length (t .boundaries) - 1) / 5)) (h .number .boundaries-fit)) in
+      omega (arith, e, F.pieces-many (h .number), counted-facts 4096 5 (t .boundaries) (F.counts plan .boundaries) .0)
+
+  -- the records of the cut map, with where their lines start in the work
+  abbrev pub starts : Starts
+  starts =
+      record {
+        lanes = map (laneAfter (k .pieces) (k .many) (k .centers) (k .next) ps xs c) (rows 52 (λ w. (word 7 w, laneOf c w)) (t .lanes)) ++ secondStarts (k .pieces) (k .many) (k .centers) (k .next) ps xs c 0 ps;
+        boundaries = map (boundaryAfter (k .pieces) (k .lines) c (k .reach) xs) (rows 5 (λ w. (word 2 w, boundaryOf c w)) (t .boundaries)) ++ newStarts (k .pieces) (k .lines) (k .reach) xs;
+        stop-lines = rows 4 (λ w. (word 1 w, stopLineOf c w)) (t .stop-lines);
+        crosswalks = rows 7 (λ w. (word 3 w, (word 1 w, crosswalkOf c w))) (t .crosswalks);
+      }
+
+  lanes-table : storeRows 52 laneLaid (λ r. r .1 .id) (t .lanes) (starts .lanes) ≡ lanesCut (k .pieces) (k .many) (k .cut) (k .next) (k .centers) (k .seen) (t .lanes)
+  lanes-table =
+      lanes-cut (k .pieces) (k .many) (k .centers) (k .next) ps xs c (t .lanes) (k .seen) plan-rows row-plans plans-few (omega (arith, lane-space, F.many-plans plan)) rows-few fresh-lanes
+      ∙ ap (λ z. lanesCut (k .pieces) (k .many) z (k .next) (k .centers) (k .seen) (t .lanes)) (plan .ids)
+
+  boundaries-table : storeRows 5 boundaryLaid (λ r. r .1 .id) (t .boundaries) (starts .boundaries) ≡ boundariesCut (k .pieces) (k .many) (k .lines) (k .marks) (t .boundaries)
+  boundaries-table =
+      boundaries-cut (k .pieces) (k .lines) c (k .reach) xs (r .piece-words) (k .many) (r .piece-keys) (t .boundaries) (k .marks) (omega (arith, boundary-space)) (stored-rows .boundaries) (r .pieces-of) fresh-boundaries
+
+  -- the cut map, as document 01 has it
+  abbrev pub done : Map
+  done = splitOf tol counter t own (k .point) (k .seen) (k .cut) stations .result
+
+  -- its rows, pointing into the work
+  abbrev points-to : Tables
+  points-to = pointed t starts (done .roads) (done .junctions) (done .rules)
+
+  cut-points : cutTables k (linesOf t) ≡ linesOf points-to
+  unfolding cutTables pointed
+  cut-points =
+      fields c (sym lanes-table) (sym boundaries-table) (sym (stops-stand c 512 (t .stop-lines) (F.counts plan .stop-lines) (stored-rows .stop-lines)))
+      (sym (crosswalks-stand c 128 (t .crosswalks) (F.counts plan .crosswalks) (stored-rows .left-edges) (stored-rows .right-edges)))
+
+  -- ---- the records are those of the cut map
+
+  view-lanes : rows 52 (laneOf c) (t .lanes) ≡ view t .lanes
+  unfolding view
+  view-lanes = refl
+
+  view-boundaries : rows 5 (boundaryOf c) (t .boundaries) ≡ view t .boundaries
+  unfolding view
+  view-boundaries = refl
+
+  lanes-done : map (cutLane ps xs hs) (view t .lanes) ++ secondHalves xs hs (k .next) ps ≡ done .lanes
+  unfolding splitOf cut cutMap
+  lanes-done =
+      ap (λ hs. map (cutLane ps xs hs) (view t .lanes) ++ secondHalves xs hs (k .next) ps) (sym (halves-numbered (k .next) ps))
+      ∙ ap (λ n. map (cutLane ps xs (halves n ps)) (view t .lanes) ++ secondHalves xs (halves n ps) n ps) next-is
+
+  lanes-read : map (λ r. r .1) (starts .lanes) ≡ done .lanes
+  lanes-read =
+      let f = laneAfter (k .pieces) (k .many) (k .centers) (k .next) ps xs c in
+      let rs : List (ℕ × Lane) = rows 52 (λ w. (word 7 w, laneOf c w)) (t .lanes) in
+      let n : k .next + 0 ≡ k .next = omega arith in
+      let a : map (λ (r : ℕ × Lane). r .1) (map f rs) ≡ map (cutLane ps xs hs) (view t .lanes) =
+      map-twice f (λ (r : ℕ × Lane). r .1) rs
+      ∙ (sym (map-twice (λ (r : ℕ × Lane). r .1) (cutLane ps xs hs) rs) ∙ ap (map (cutLane ps xs hs)) (mapped-rows 52 (λ w. (word 7 w, laneOf c w)) (λ (r : ℕ × Lane). r .1) (t .lanes) ∙ view-lanes)) in
+      let b : map (λ (r : ℕ × Lane). r .1) (secondStarts (k .pieces) (k .many) (k .centers) (k .next) ps xs c 0 ps) ≡ secondHalves xs hs (k .next) ps =
+      starts-second (k .pieces) (k .many) (k .centers) (k .next) ps xs c 0 ps ∙ ap (λ n. secondHalves xs hs n ps) n in
+      map-append (λ (r : ℕ × Lane). r .1) (map f rs) (secondStarts (k .pieces) (k .many) (k .centers) (k .next) ps xs c 0 ps) ∙ (both a b ∙ lanes-done)
+    where
+      both : {a b u v : List Lane} → a ≡ b → u ≡ v → a ++ u ≡ b ++ v
+      both e f = rw (e, f)
+
+  boundaries-read : map (λ r. r .1) (starts .boundaries) ≡ done .boundaries
+  unfolding splitOf cut cutMap
+  boundaries-read =
+      let f = boundaryAfter (k .pieces) (k .lines) c (k .reach) xs in
+      let rs : List (ℕ × Boundary) = rows 5 (λ w. (word 2 w, boundaryOf c w)) (t .boundaries) in
+      let a : map (λ (r : ℕ × Boundary). r .1) (map f rs) ≡ map (cutBoundary xs) (view t .boundaries) =
+      map-twice f (λ (r : ℕ × Boundary). r .1) rs
+      ∙ (map-same (λ (r : ℕ × Boundary). f r .1) (λ (r : ℕ × Boundary). cutBoundary xs (r .1)) rs (after-cut (k .pieces) (k .lines) c (k .reach) xs)
+      ∙ (sym (map-twice (λ (r : ℕ × Boundary). r .1) (cutBoundary xs) rs) ∙ ap (map (cutBoundary xs)) (mapped-rows 5 (λ w. (word 2 w, boundaryOf c w)) (λ (r : ℕ × Boundary). r .1) (t .boundaries) ∙ view-boundaries))) in
+      map-append (λ (r : ℕ × Boundary). r .1) (map f rs) (newStarts (k .pieces) (k .lines) (k .reach) xs) ∙ both a (starts-new (k .pieces) (k .lines) (k .reach) xs)
+    where
+      both : {a b u v : List Boundary} → a ≡ b → u ≡ v → a ++ u ≡ b ++ v
+      both e f = rw (e, f)
