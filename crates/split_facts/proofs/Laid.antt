@@ -19,7 +19,7 @@ use Rattle.entities.specs.Records.{Line, Lane, Boundary, StopLine, Crosswalk, M
 use Rattle.rules.specs.Names.{Tolerance}
 use Rattle.rules.specs.Map.{lane, uses}
 use Rattle.rules.specs.Edit.{upFrom}
-use Rattle.rules.specs.Sound.{fitsRoom, nextId, linksAscend}
+use Rattle.rules.specs.Sound.{fitsRoom, withinLimits, optionalLine, pointCount, nextId, linksAscend}
 use Rattle.rules.specs.Split.{LanePlan, Piece, piecesIds, planFor, groupOf, halves, cameFrom, newPieces, secondHalves, cutLane, cutBoundary, cut, cutMap}
 use Rattle.laws.proofs.Connect.{found-all}
 use Rattle.laws.proofs.SplitPieces.{piece-ids, up-from}
@@ -34,12 +34,12 @@ use Rattle.soundness.proofs.Whole.{ids-keys}
 use Rattle.apart.proofs.Marks.{counted-facts}
 use Rattle.store.specs.Store.{roomOf, storeRows}
 use Rattle.store.proofs.Marks.{lane-marks}
-use Rattle.store.specs.Laid.{laid, laneLaid, boundaryLaid}
+use Rattle.store.specs.Laid.{laid, pointsOf, laneLaid, boundaryLaid}
 use Rattle.layout.specs.Layout.{lineTables, gathered, countedLines, Gatherable}
 use Rattle.layout.specs.Pointed.{Starts, pointed}
 use Rattle.layout.proofs.Standing.{Rowwise, spans-rowwise, both-pass, tested-rows, mapped-rows, stops-stand, crosswalks-stand}
 use Rattle.lookup.specs.Lookup.{rowAt}
-use Rattle.lookup.proofs.Laws.{find-at, row-passes}
+use Rattle.lookup.proofs.Laws.{sorted-ascends, find-at, row-passes}
 use Rattle.lookup.proofs.Good.{rows-weaker}
 use Rattle.sound_facts.proofs.Room.{Limits, limits}
 use Rattle.split_plan.specs.Placing.{picked, markedRows}
@@ -48,7 +48,11 @@ use Rattle.split_named.proofs.Grown.{halves-numbered, rows-room}
 use Rattle.split_lines.specs.Cut.{Chosen, drawnPieces}
 use Rattle.split_tables.specs.Cut.{boundariesCut, lanesCut}
 use Rattle.split_limits.proofs.Lengths.{came-same}
-use Rattle.split_limits.proofs.Centers.{AllPlans}
+use Rattle.room.specs.Room.{columnPoints}
+use Rattle.split_room.specs.Fitting.{boundaryPoints, lanePoints}
+use Rattle.split_limits.proofs.Boundaries.{points-cut}
+use Rattle.split_limits.proofs.Centers.{AllPlans, centers-cut}
+use Rattle.split_limits.proofs.Points.{points-all}
 use Rattle.split_laid.proofs.Boundaries.{AllWords, boundaryAfter, newStarts, after-cut, starts-new, boundaries-cut}
 use Rattle.split_laid.proofs.Rows.{ids-few, Cuttable}
 use Rattle.split_laid.proofs.Lanes.{PlanRows, RowPlan, PlansFew, laneAfter, secondStarts, starts-second, lanes-cut}
@@ -328,3 +332,54 @@ module _ {tol : Tolerance} {counter : ℕ} {t : Tables} {own : ℕ} {stations : 
     where
       both : {a b u v : List Boundary} → a ≡ b → u ≡ v → a ++ u ≡ b ++ v
       both e f = rw (e, f)
+
+  -- ---- room
+
+  lim : Limits done
+  unfolding fitsRoom
+  lim =
+      let x = withinLimits done in
+      let y = leb (length (done .lanes)) (roomOf t .lanes) in
+      let z = leb (length (done .boundaries)) (roomOf t .boundaries) in
+      let u = leb (pointCount done) (roomOf t .points) in
+      limits done (and-fst x y (and-fst (x && y) z (and-fst (x && y && z) u room)))
+
+  boundary-points : pointsOf (map (λ b. b .geometry) (done .boundaries)) ≡ boundaryPoints (k .pieces) (k .lines) 0 (k .marks) (rows 5 (λ w. w) (t .boundaries))
+  unfolding splitOf cut
+  boundary-points =
+      points-cut c (k .pieces) (k .lines) (view t) ps xs (halves (nextId counter + piecesIds xs) ps) (nextId counter + piecesIds xs) (t .boundaries) (k .marks) (sym view-boundaries)
+      (sorted-ascends 4096 5 (t .boundaries) (F.known plan .boundaries)) (r .boundaries-chosen .marks) (r .pieces-of) (pieces-told (k .pieces) (k .lines) 0 (k .reach) xs (r .piece-words)) (stored-rows .boundaries)
+
+  lane-points : pointsOf (each (λ l. optionalLine (l .centerline)) (done .lanes)) ≡ lanePoints (k .centers) 0 (k .seen) (rows 52 (λ w. w) (t .lanes))
+  unfolding splitOf cut
+  lane-points =
+      centers-cut c (k .centers) (view t) ps xs (nextId counter + piecesIds xs) (t .lanes) (k .seen) (sym view-lanes) (sorted-ascends 1024 52 (t .lanes) (F.known plan .drawable .lanes-sorted)) (r .lanes-chosen .marks)
+      (sym (F.of-lanes plan)) (r .plans-told) (F.known plan .drawable .centers-stored)
+
+  all-points : pointCount done
+      ≡ boundaryPoints (k .pieces) (k .lines) 0 (k .marks) (rows 5 (λ w. w) (t .boundaries)) + lanePoints (k .centers) 0 (k .seen) (rows 52 (λ w. w) (t .lanes)) + columnPoints 4 2 (t .stop-lines)
+      + (columnPoints 7 2 (t .crosswalks) + columnPoints 7 4 (t .crosswalks))
+  unfolding splitOf cut view
+  all-points = points-all done c (t .stop-lines) (t .crosswalks) _ _ boundary-points lane-points refl refl (stored-rows .stop-lines) (stored-rows .left-edges) (stored-rows .right-edges)
+
+  -- the pieces have at most as many points as the map may have
+  pub points-few : drawnPoints k (linesOf t) ≤ 65536
+  points-few =
+      let bs : List (List ℕ) = picked (k .marks) (rows 5 (λ w. w) (t .boundaries)) in
+      let e : length bs ≡ length xs = sym (length-map bs (boundaryOf c)) ∙ (ap length (r .pieces-of) ∙ length-map xs (λ (x : Piece). x .of)) in
+      let f : length (markedRows (k .seen) (t .lanes)) ≡ length ps = plan .many ∙ sym (F.many-plans plan) in
+      let a = piece-points (k .pieces) (k .lines) 0 (k .marks) (rows 5 (λ w. w) (t .boundaries)) xs (pieces-told (k .pieces) (k .lines) 0 (k .reach) xs (r .piece-words)) e in
+      let b = center-points (k .centers) 0 (k .seen) (rows 52 (λ w. w) (t .lanes)) ps (r .plans-told) f in
+      let u : length (each (λ l. l) (pieceLines xs)) ≡ length (drawnPieces (k .point) (boundaryLines k t)) = ap length (r .piece-lines) in
+      let v : length (each (λ l. l) (L.centerLines ps)) ≡ length (drawnPieces (k .point) (centerLines k t)) = ap length (r .center-lines) in
+      let n = leb-true (pointCount done) 65536 (lim .total) in
+      omega (arith, a, b, u, v, n, all-points)
+
+  -- and have room in the array of work that is taken
+  pub drawn-room : drawnPoints k (linesOf t) * 3 ≤ length (blank (workFloats (length (k .cut)) (drawnPoints k (linesOf t))))
+  drawn-room = rw (length-replicate (workFloats (length (k .cut)) (drawnPoints k (linesOf t))) (ofBits binary64 0)) (go (drawnPoints k (linesOf t)) points-few (ltb 64 (length (k .cut))) (ltb 2048 (drawnPoints k (linesOf t))) refl)
+    where
+      go : (n : ℕ) → n ≤ 65536 → (a b : Bool) → ltb 2048 n ≡ b → n * 3 ≤ cond a 196608 (cond b 196608 6144)
+      go n l true b e = omega arith
+      go n l false true e = omega arith
+      go n l false false e = omega (arith, ltb-false 2048 n e)
