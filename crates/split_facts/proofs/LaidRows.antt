@@ -3,35 +3,39 @@ use mathlib.Core.Path.{_≡_, refl, sym, ap, _∙_, subst}
 use Prim.Native.Nat.{ℕ, zero, suc, _+_, _*_, _≤_, _<_}
 use native.Mathlib.Omega.{arith}
 use mathlib.Core.Bool.{Bool, true, false, not, _&&_, _||_, cond}
-use mathlib.Core.List.{List, [], _∷_, _++_, map}
+use mathlib.Core.List.{List, [], _∷_, _++_, map, append-assoc}
 use mathlib.Core.Option.{Option, none, some}
 use lib.Dec.{eqb, leb, ltb}
 use lib.Ieee.{Float}
 use lib.ListN.{length, getD, take, drop, length-append, length-drop}
-use lib.Seq.{length-take-le, drop-drop}
+use lib.Seq.{length-take-le, drop-drop, take-at, drop-at}
 use borrow.Author.Tests.{eqb-true, eqb-false, eq-eqb, ltb-true, le-leb}
 use Rattle.lists.specs.Every.{all}
-use Rattle.lists.specs.Rows.{reads, keys, rowWith, later}
+use Rattle.lists.specs.Rows.{reads, over, keys, rowWith, later}
 use Rattle.lists.specs.Select.{find, each, has}
 use Rattle.lists.proofs.Select.{all-has}
 use Rattle.lists.specs.declared.Found.{Found}
 use Rattle.lists.specs.declared.Found.the-variants.{At, Nothing}
 use Rattle.lists.proofs.Booleans.{and-both, and-fst, and-snd}
-use Rattle.lists.proofs.Rows.{length-keys, getD-reads, row-at}
+use Rattle.lists.proofs.Rows.{length-keys, getD-reads, row-at, over-over}
 use Rattle.lists.proofs.Every.{all-head, all-tail}
 use Rattle.entities.specs.Records.{Line, Lane, Map}
 use Rattle.entities.specs.declared.Refusal.{Refusal}
 use Rattle.entities.specs.declared.Refusal.the-variants as R
-use Rattle.polyline.specs.Polyline.{firstPiece, secondPiece}
+use Rattle.polyline.specs.Polyline.{flat, firstPiece, secondPiece}
+use Rattle.polyline.proofs.Points.{length-flat}
 use Rattle.rules.specs.Names.{Tolerance, BoundaryRef, Point2, Left, Right}
 use Rattle.rules.specs.Map.{station, centerline, explicitOr, derived, oriented-boundary}
+use Rattle.rules.specs.Sound.{total}
 use Rattle.rules.specs.Edit.{Res, refuse, yield, _>>=_, check, require}
 use Rattle.rules.specs.Split.{Piece, LanePlan, centerPiece, cuttable, lane-plan, lane-plans, pieceFor, planFor, firstRef, secondRef, piecesIds, secondHalves}
 use Rattle.laws.proofs.Lawful.{yields, no-yield}
 use Rattle.laws.proofs.SplitPlans.{bound}
-use Rattle.tables.specs.View.{word, mark, refAt, lineAt, rows, laneOf}
+use Rattle.tables.specs.View.{word, mark, part, refAt, lineAt, rows, laneOf}
 use Rattle.tables.specs.Formed.{counted, laneFormed}
 use Rattle.store.specs.Store.{present}
+use Rattle.store.specs.Laid.{pointsOf}
+use Rattle.layout.specs.Layout.{sourced}
 use Rattle.store.proofs.Marks.{lane-marks}
 use Rattle.lookup.specs.Lookup.{sortedTable, placeOf, rowAt, pointsOr}
 use Rattle.lookup.proofs.Laws.{sorted-ascends}
@@ -45,7 +49,7 @@ use Rattle.split_limits.proofs.Centers.{PlanTold, AllPlans}
 use Rattle.split_laid.proofs.Boundaries.{PieceWords, AllWords, pieceSize}
 use Rattle.split_laid.proofs.Rows.{CenterIs, HalfWords}
 use Rattle.split_laid.proofs.Lanes.{PlanRow, PlanRows, PlanFound}
-use Rattle.split_laid.proofs.Lies.{pieceLines, centerLines}
+use Rattle.split_laid.proofs.Lies.{pieceLines, centerLines, Runs, runs-held}
 
 -- ---- general
 
@@ -321,3 +325,51 @@ center-points centers r (true ∷ bs) (w ∷ ws) (x ∷ ps) h e =
     let q : length (picked bs ws) ≡ length ps = omega (arith, e) in
     let i = center-points centers (suc r) bs ws ps (h .1) q in
     omega (arith, i, h .0 .first-size, h .0 .second-size, length-append (pointsOr (x .first-center)) (pointsOr (x .second-center) ++ each (λ l. l) (centerLines ps)), length-append (pointsOr (x .second-center)) (each (λ l. l) (centerLines ps)))
+
+-- ---- the drawn lines
+
+points-each : (ls : List Line) → pointsOf ls ≡ length (each (λ l. l) ls)
+unfolding total each
+points-each [] = refl
+points-each (l ∷ ls) = let i = points-each ls in omega (arith, i, length-append l (each (λ l. l) ls))
+
+-- two lists of lines drawn one behind the other, behind a copy of the coordinates
+module _ (reach : ℕ) (c work : List Float) (a b : Line) (copied : reach * 3 ≤ length c) (space : (length a + length b) * 3 ≤ length work) where
+  abbrev pub drawn : List Float
+  drawn = sourced reach c (over (over work 0 (flat a)) (length a * 3) (flat b))
+
+  abbrev rest : List Float
+  rest = drop (0 + length (flat a ++ flat b)) work
+
+  drawn-is : drawn ≡ take (reach * 3) c ++ (flat a ++ (flat b ++ rest))
+  unfolding over
+  drawn-is = ap (λ z. take (reach * 3) c ++ z) (over-over work 0 (length a * 3) (flat a) (flat b) (omega (arith, length-flat a)) (omega arith) ∙ append-assoc (flat a) (flat b) rest)
+
+  front : length (take (reach * 3) c) ≡ reach * 3
+  front = length-take-le (reach * 3) c copied
+
+  pub drawn-begins : take (reach * 3) drawn ≡ take (reach * 3) c
+  drawn-begins = ap (take (reach * 3)) drawn-is ∙ take-at (take (reach * 3) c) (flat a ++ (flat b ++ rest)) (reach * 3) front
+
+  behind : drop (reach * 3) drawn ≡ flat a ++ (flat b ++ rest)
+  behind = ap (drop (reach * 3)) drawn-is ∙ drop-at (take (reach * 3) c) (flat a ++ (flat b ++ rest)) (reach * 3) front
+
+  first-part : part drawn reach (length a) ≡ flat a
+  unfolding part
+  first-part = ap (take (length a * 3)) behind ∙ take-at (flat a) (flat b ++ rest) (length a * 3) (length-flat a)
+
+  second-part : part drawn (reach + length a) (length b) ≡ flat b
+  unfolding part
+  second-part =
+      let e : (reach + length a) * 3 ≡ reach * 3 + length a * 3 = omega arith in
+      ap (λ n. take (length b * 3) (drop n drawn)) e
+      ∙ (ap (take (length b * 3)) (sym (drop-drop (length a * 3) (reach * 3) drawn) ∙ (ap (drop (length a * 3)) behind ∙ drop-at (flat a) (flat b ++ rest) (length a * 3) (length-flat a)))
+      ∙ take-at (flat b) rest (length b * 3) (length-flat b))
+
+  pub first-runs : (ls : List Line) → each (λ l. l) ls ≡ a → Runs drawn reach ls
+  first-runs ls e =
+      runs-held drawn reach ls (ap (part drawn reach) (points-each ls ∙ ap length e) ∙ (first-part ∙ ap flat (sym e)))
+
+  pub second-runs : (ls : List Line) → each (λ l. l) ls ≡ b → Runs drawn (reach + length a) ls
+  second-runs ls e =
+      runs-held drawn (reach + length a) ls (ap (part drawn (reach + length a)) (points-each ls ∙ ap length e) ∙ (second-part ∙ ap flat (sym e)))
