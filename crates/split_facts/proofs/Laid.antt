@@ -30,18 +30,22 @@ use Rattle.tables.specs.Formed.{spans, centerSpan, stored, laneFormed}
 use Rattle.row_tests.specs.Good.{allRows}
 use Rattle.row_tests.proofs.Tables.{table-room}
 use Rattle.soundness.proofs.Rows.{all-rows}
-use Rattle.soundness.proofs.Whole.{ids-keys}
+use Rattle.soundness.proofs.Whole.{ids-keys, rows-count}
+use Rattle.apart.specs.Marks.{within}
 use Rattle.apart.proofs.Marks.{counted-facts}
 use Rattle.store.specs.Store.{roomOf, storeRows}
 use Rattle.store.proofs.Marks.{lane-marks}
 use Rattle.store.specs.Laid.{laid, pointsOf, laneLaid, boundaryLaid}
-use Rattle.layout.specs.Layout.{lineTables, gathered, countedLines, Gatherable}
-use Rattle.layout.specs.Pointed.{Starts, pointed}
-use Rattle.layout.proofs.Standing.{Rowwise, spans-rowwise, both-pass, tested-rows, mapped-rows, stops-stand, crosswalks-stand}
+use Rattle.layout.specs.Layout.{lineTables, sourced, gathered, countedLines, Gatherable}
+use Rattle.layout.specs.Pointed.{Starts, pointed, Lies, HasRoom}
+use Rattle.layout.proofs.Gathers.{gathered-laid, gatherable-pointed}
+use Rattle.layout.proofs.Reach.{within-reach}
+use Rattle.layout.proofs.Standing.{Rowwise, spans-rowwise, both-pass, tested-rows, mapped-rows, stops-stand, crosswalks-stand, stops-lie, left-edges-lie, right-edges-lie}
 use Rattle.lookup.specs.Lookup.{rowAt}
 use Rattle.lookup.proofs.Laws.{sorted-ascends, find-at, row-passes}
 use Rattle.lookup.proofs.Good.{rows-weaker}
 use Rattle.sound_facts.proofs.Room.{Limits, limits}
+use Rattle.sound_facts.proofs.LaidPlaces.{roomy}
 use Rattle.split_plan.specs.Placing.{picked, markedRows}
 use Rattle.split_laws.proofs.Chosen.{all-picked}
 use Rattle.split_named.proofs.Grown.{halves-numbered, rows-room}
@@ -57,11 +61,11 @@ use Rattle.split_laid.proofs.Boundaries.{AllWords, boundaryAfter, newStarts, af
 use Rattle.split_laid.proofs.Rows.{ids-few, Cuttable}
 use Rattle.split_laid.proofs.Lanes.{PlanRows, RowPlan, PlansFew, laneAfter, secondStarts, starts-second, lanes-cut}
 use Rattle.split_laid.proofs.Lies as L
-use Rattle.split_laid.proofs.Lies.{pieceLines, StartsAt}
+use Rattle.split_laid.proofs.Lies.{pieceLines, StartsAt, Runs}
 use Rattle.split_relay.specs.Relaying.{Cutting, boundaryLines, centerLines, drawnPoints, drawnLines, cutTables, relaid, workFloats, blank, Relayable}
 use Rattle.split_facts.specs.Splitting.{lanesIn, plansIn, piecesIn, splitOf, Planned, Measured}
 use Rattle.split_facts.proofs.Facts as F
-use Rattle.split_facts.proofs.LaidRows.{lacks-above, halves-from, rows-long, own-place, AllLined, plans-lined, plans-rows, plan-found, pieces-told, piece-points, rows-many, center-points}
+use Rattle.split_facts.proofs.LaidRows.{lacks-above, halves-from, rows-long, own-place, AllLined, plans-lined, plans-rows, plan-found, pieces-told, piece-points, rows-many, center-points, drawn, drawn-begins, first-runs, second-runs}
 
 -- what the arrays of pieces and measures are known to tell
 pub record Read {tol : Tolerance} {counter : ℕ} {t : Tables} {own : ℕ} {stations : List Float} {ids : ℕ} {k : Cutting} (h : Measured tol counter t own stations ids k) : Type 0 where
@@ -383,3 +387,95 @@ module _ {tol : Tolerance} {counter : ℕ} {t : Tables} {own : ℕ} {stations : 
       go n l true b e = omega arith
       go n l false true e = omega arith
       go n l false false e = omega (arith, ltb-false 2048 n e)
+
+  lines-counted : countedLines t ≡ true
+  unfolding countedLines
+  lines-counted = rw (F.counts plan .lanes, F.counts plan .boundaries, F.counts plan .stop-lines, F.counts plan .crosswalks)
+
+  stop-count : length (done .stop-lines) ≡ word 0 (t .stop-lines)
+  unfolding splitOf cut view
+  stop-count = rows-count 4 (stopLineOf c) (t .stop-lines)
+
+  walk-count : length (done .crosswalks) ≡ word 0 (t .crosswalks)
+  unfolding splitOf cut view
+  walk-count = rows-count 7 (crosswalkOf c) (t .crosswalks)
+
+  has-room : HasRoom t done
+  has-room =
+      record {
+        counts = lines-counted;
+        lanes = leb-true (length (done .lanes)) 1024 (lim .lanes);
+        boundaries = leb-true (length (done .boundaries)) 4096 (lim .boundaries);
+        stop-lines = leb-true (length (done .stop-lines)) 512 (lim .stop-lines);
+        crosswalks = leb-true (length (done .crosswalks)) 128 (lim .crosswalks);
+        lane-rows = omega (arith, roomy t done room .lanes, length-drop 1 (t .lanes), counted-facts 1024 52 (t .lanes) (F.counts plan .lanes) .0);
+        boundary-rows = omega (arith, roomy t done room .boundaries, length-drop 1 (t .boundaries), counted-facts 4096 5 (t .boundaries) (F.counts plan .boundaries) .0);
+        stop-rows = omega (arith, stop-count, counted-facts 512 4 (t .stop-lines) (F.counts plan .stop-lines) .1 .1);
+        crosswalk-rows = omega (arith, walk-count, counted-facts 128 7 (t .crosswalks) (F.counts plan .crosswalks) .1 .1);
+        links = lim .links;
+        points = omega (arith, roomy t done room .points);
+      }
+
+  -- ---- where the lines lie
+
+  reached : all (within (k .reach)) (spans t) ≡ true
+  unfolding spans
+  reached = subst (λ n. all (within n) (spans t) ≡ true) (sym (h .reach)) (within-reach (spans t))
+
+  reached-rows : Rowwise (within (k .reach)) t
+  reached-rows = spans-rowwise (within (k .reach)) t reached
+
+  few : k .reach ≤ length c / 3
+  few = omega (arith, r .reach-stored)
+
+  module _ (work : List Float) (space : drawnPoints k (linesOf t) * 3 ≤ length work) where
+    -- the coordinates, and the pieces behind them
+    abbrev pub source : List Float
+    source = drawn (k .reach) c work (drawnPieces (k .point) (boundaryLines k t)) (drawnPieces (k .point) (centerLines k t)) (r .reach-stored) space
+
+    source-is : sourced (k .reach) (t .coordinates) (drawnLines k (linesOf t) work) ≡ source
+    unfolding drawnLines
+    source-is = refl
+
+    begins : take (k .reach * 3) source ≡ take (k .reach * 3) c
+    begins = drawn-begins (k .reach) c work (drawnPieces (k .point) (boundaryLines k t)) (drawnPieces (k .point) (centerLines k t)) (r .reach-stored) space
+
+    piece-runs : Runs source (k .reach) (pieceLines xs)
+    piece-runs = first-runs (k .reach) c work (drawnPieces (k .point) (boundaryLines k t)) (drawnPieces (k .point) (centerLines k t)) (r .reach-stored) space (pieceLines xs) (r .piece-lines)
+
+    center-runs : Runs source (k .reach + length (drawnPieces (k .point) (boundaryLines k t))) (L.centerLines ps)
+    center-runs = second-runs (k .reach) c work (drawnPieces (k .point) (boundaryLines k t)) (drawnPieces (k .point) (centerLines k t)) (r .reach-stored) space (L.centerLines ps) (r .center-lines)
+
+    lies : Lies source starts done
+    lies =
+        record {
+          lanes = lanes-read;
+          boundaries = boundaries-read;
+          stop-lines = unfold splitOf cut view in mapped-rows 4 (λ w. (word 1 w, stopLineOf c w)) (λ (r : ℕ × StopLine). r .1) (t .stop-lines);
+          crosswalks = unfold splitOf cut view in mapped-rows 7 (λ w. (word 3 w, (word 1 w, crosswalkOf c w))) (λ (r : ℕ × (ℕ × Crosswalk)). r .1 .1) (t .crosswalks);
+          boundary-lines = L.boundaries-lie source c (k .reach) few begins (k .pieces) (k .lines) (k .reach) xs piece-runs (t .boundaries) (reached-rows .boundaries);
+          centerlines = L.lanes-lie source (k .centers) (k .pieces) (k .many) (k .next) ps xs c (k .reach) few begins (k .reach + length (drawnPieces (k .point) (boundaryLines k t))) center-runs (r .starts-at) (t .lanes) row-plans
+              (λ j l. row-passes 52 (λ w. all (within (k .reach)) (centerSpan w)) (t .lanes) (reached-rows .centerlines) j l);
+          stops = stops-lie c source (k .reach) few begins (t .stop-lines) (reached-rows .stop-lines);
+          left-edges = left-edges-lie c source (k .reach) few begins (t .crosswalks) (reached-rows .left-edges);
+          right-edges = right-edges-lie c source (k .reach) few begins (t .crosswalks) (reached-rows .right-edges);
+        }
+
+    gatherable : Gatherable (sourced (k .reach) (t .coordinates) (drawnLines k (linesOf t) work)) (cutTables k (linesOf t))
+    gatherable =
+        subst (λ z. Gatherable z (cutTables k (linesOf t))) (sym source-is)
+        (subst (Gatherable source) (sym cut-points) (lines-gatherable source points-to (gatherable-pointed source t starts done lies has-room)))
+
+    all-laid : relaid k work (linesOf t) ≡ linesOf (laid t done)
+    unfolding relaid
+    all-laid =
+        ap (λ z. gathered z (cutTables k (linesOf t))) source-is
+        ∙ (ap (gathered source) cut-points ∙ (lines-gathered source points-to ∙ ap linesOf (gathered-laid source t starts done lies has-room)))
+
+  -- THE LAW: the tables with lines that a split leaves are those of the cut map
+  pub relaid-laid : (work : List Float) → drawnPoints k (linesOf t) * 3 ≤ length work → length work ≤ 196608 → relaid k work (linesOf t) ≡ linesOf (laid t (splitOf tol counter t own (k .point) (k .seen) (k .cut) stations .result))
+  relaid-laid work space near = all-laid work space
+
+  -- the same in the array of work that is taken
+  pub relay-laid : relaid k (blank (workFloats (length (k .cut)) (drawnPoints k (linesOf t)))) (linesOf t) ≡ linesOf (laid t (splitOf tol counter t own (k .point) (k .seen) (k .cut) stations .result))
+  relay-laid = all-laid (blank (workFloats (length (k .cut)) (drawnPoints k (linesOf t)))) drawn-room
