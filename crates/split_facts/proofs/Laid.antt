@@ -22,6 +22,7 @@ use Rattle.rules.specs.Edit.{upFrom}
 use Rattle.rules.specs.Sound.{fitsRoom, withinLimits, optionalLine, pointCount, nextId, linksAscend}
 use Rattle.rules.specs.Split.{LanePlan, Piece, piecesIds, planFor, groupOf, halves, cameFrom, newPieces, secondHalves, cutLane, cutBoundary, cut, cutMap}
 use Rattle.laws.proofs.Connect.{found-all}
+use Rattle.laws.proofs.SoundParts.{names-before}
 use Rattle.laws.proofs.SplitPieces.{piece-ids, up-from}
 use Rattle.laws.proofs.Find.{mapped, no-some, some-is}
 use Rattle.laws.proofs.SplitLanes.{Numbered, byFirst, plan-is, first-lane}
@@ -46,11 +47,12 @@ use Rattle.lookup.proofs.Laws.{sorted-ascends, find-at, row-passes}
 use Rattle.lookup.proofs.Good.{rows-weaker}
 use Rattle.sound_facts.proofs.Room.{Limits, limits}
 use Rattle.sound_facts.proofs.LaidPlaces.{roomy}
+use Rattle.merge_draw.proofs.Boundaries.{row-long}
 use Rattle.split_plan.specs.Placing.{picked, markedRows}
 use Rattle.split_laws.proofs.Chosen.{all-picked}
 use Rattle.split_named.proofs.Grown.{halves-numbered, rows-room}
 use Rattle.split_lines.specs.Cut.{Chosen, drawnPieces}
-use Rattle.split_tables.specs.Cut.{boundariesCut, lanesCut}
+use Rattle.split_tables.specs.Cut.{boundariesCut, lanesCut, BoundariesCut, LanesCut}
 use Rattle.split_limits.proofs.Lengths.{came-same}
 use Rattle.room.specs.Room.{columnPoints}
 use Rattle.split_room.specs.Fitting.{boundaryPoints, lanePoints}
@@ -479,3 +481,71 @@ module _ {tol : Tolerance} {counter : ℕ} {t : Tables} {own : ℕ} {stations : 
   -- the same in the array of work that is taken
   pub relay-laid : relaid k (blank (workFloats (length (k .cut)) (drawnPoints k (linesOf t)))) (linesOf t) ≡ linesOf (laid t (splitOf tol counter t own (k .point) (k .seen) (k .cut) stations .result))
   relay-laid = all-laid (blank (workFloats (length (k .cut)) (drawnPoints k (linesOf t)))) drawn-room
+
+  -- ---- what the code asks
+
+  boundaries-asked : BoundariesCut (k .pieces) (k .many) (k .lines) (k .marks) (t .boundaries)
+  boundaries-asked =
+      let bs : List (List ℕ) = picked (k .marks) (rows 5 (λ w. w) (t .boundaries)) in
+      let e : length bs ≡ length xs = sym (length-map bs (boundaryOf c)) ∙ (ap length (r .pieces-of) ∙ length-map xs (λ (x : Piece). x .of)) in
+      let n = rows-many (k .pieces) (k .lines) 0 bs xs (pieces-told (k .pieces) (k .lines) 0 (k .reach) xs (r .piece-words)) e in
+      record {
+        counts = F.counts plan .boundaries;
+        marked = r .boundaries-chosen .marks;
+        many = e ∙ sym (r .many-is);
+        pieces-room = r .pieces-room;
+        pieces-ascend = r .keys-up;
+        lines-room = r .lines-room;
+        lines-near = r .lines-near;
+        room = rw n boundary-space;
+      }
+
+  -- every predecessor of a lane is below the first second half
+  before-low : all (λ b. b) (rows 52 (λ w. all (λ i. leb (1 + i) (k .next)) (idsAt 18 w)) (t .lanes)) ≡ true
+  unfolding view laneOf
+  before-low =
+      rows-weaker 52 (λ w. all (λ i. ltb i (nextId counter)) (idsAt 18 w)) (λ w. all (λ i. leb (1 + i) (k .next)) (idsAt 18 w))
+      (λ w. all-weaken (λ i. ltb i (nextId counter)) (λ i. leb (1 + i) (k .next)) (idsAt 18 w) (λ i e. le-leb (1 + i) (k .next) (omega (arith, ltb-true i (nextId counter) e, next-is)))) (t .lanes)
+      (sym (all-rows 52 (laneOf c) (λ l. all (λ i. ltb i (nextId counter)) (l .predecessors)) (t .lanes)) ∙ names-before (λ i. ltb i (nextId counter)) (view t) (F.low (h .number)))
+
+  lanes-asked : LanesCut (k .pieces) (k .many) (k .cut) (k .next) (k .centers) (k .seen) (t .lanes)
+  lanes-asked =
+      record {
+        halved =
+            record {
+              cuts =
+                  record {
+                    ascend = F.cut-up plan;
+                    below = all-weaken (λ i. ltb i (nextId counter + ids)) (λ i. leb (1 + i) (k .next)) (k .cut) (λ i e. le-leb (1 + i) (k .next) (omega (arith, ltb-true i (nextId counter + ids) e, h .next))) (F.new-below (h .number));
+                    ids = omega (arith, F.ids-small (h .number), h .next);
+                  };
+              pieces-room = r .pieces-room;
+              pieces-ascend = r .keys-up;
+              centers-room = r .centers-room;
+              centers-near = r .centers-near;
+            };
+        counts = F.counts plan .lanes;
+        marked = r .lanes-chosen .marks;
+        many = plan .many;
+        rows = λ j l. record {
+              words = row-long 52 (t .lanes) j (counted-facts 1024 52 (t .lanes) (F.counts plan .lanes) .1 .1) l;
+              formed = row-formed j l;
+              ascend = row-up j l;
+              below = row-passes 52 (λ w. all (λ i. leb (1 + i) (k .next)) (idsAt 18 w)) (t .lanes) before-low j l;
+            };
+        room = lane-space;
+      }
+
+  -- the code that leaves them may be called
+  pub relayable : Relayable k (linesOf t)
+  relayable =
+      record {
+        near = r .reach-near;
+        stored = r .reach-stored;
+        points = points-few;
+        boundary-lines = r .boundaries-chosen;
+        lane-lines = r .lanes-chosen;
+        boundaries-cut = boundaries-asked;
+        lanes-cut = lanes-asked;
+        gatherable = λ work m. gatherable work (m .room);
+      }
