@@ -1,21 +1,20 @@
 -- The tables with lines that a split leaves are those of the map that document 01 makes, laid out anew; and what the code that leaves them asks. Assumes nothing.
 use mathlib.Core.Path.{_≡_, refl, sym, ap, _∙_, subst}
-use Prim.Native.Nat.{ℕ, zero, suc, _+_, _-_, _*_, _/_, _^_, _≤_, _<_, min}
+use Prim.Native.Nat.{ℕ, _+_, _-_, _*_, _/_, _≤_, _<_}
 use native.Mathlib.Omega.{arith}
-use mathlib.Core.Bool.{Bool, true, false, not, _&&_, _||_, cond, true≢false}
-use mathlib.Core.List.{List, [], _∷_, _++_, map, map-append}
+use mathlib.Core.Bool.{Bool, true, false, not, _&&_, cond}
+use mathlib.Core.List.{List, _++_, map, map-append}
 use mathlib.Core.Option.{Option, none, some}
 use lib.Dec.{eqb, leb, ltb}
 use lib.Ieee.{Float, binary64, ofBits}
-use lib.Seq.{length-take-le}
-use lib.ListN.{length, take, drop, length-map, length-append, length-drop, length-replicate}
-use borrow.Author.Tests.{leb-true, le-leb, ltb-true, ltb-false, eq-eqb, ne-eqb}
+use lib.ListN.{length, take, drop, length-map, length-drop, length-replicate}
+use borrow.Author.Tests.{leb-true, le-leb, ltb-true, ltb-false}
 use Rattle.lists.specs.Every.{all}
-use Rattle.lists.specs.Rows.{reads, keys, over, rowWith}
-use Rattle.lists.proofs.Select.{all-map, all-weaken, map-twice, map-same}
+use Rattle.lists.specs.Rows.{keys}
 use Rattle.lists.specs.Select.{any, each, keep, has, ascending, numbered}
 use Rattle.lists.proofs.Booleans.{and-both, and-fst, and-snd}
-use Rattle.entities.specs.Records.{Line, Lane, Boundary, StopLine, Crosswalk, Map}
+use Rattle.lists.proofs.Select.{all-map, all-weaken, map-twice, map-same}
+use Rattle.entities.specs.Records.{Lane, Boundary, StopLine, Crosswalk, Map}
 use Rattle.rules.specs.Names.{Tolerance}
 use Rattle.rules.specs.Map.{lane, uses}
 use Rattle.rules.specs.Edit.{upFrom}
@@ -29,14 +28,13 @@ use Rattle.laws.proofs.SplitLanes.{Numbered, byFirst, plan-is, first-lane}
 use Rattle.tables.specs.View.{Tables, word, idsAt, rows, view, laneOf, boundaryOf, stopLineOf, crosswalkOf}
 use Rattle.tables.specs.Formed.{spans, centerSpan, stored, laneFormed}
 use Rattle.row_tests.specs.Good.{allRows}
-use Rattle.row_tests.proofs.Tables.{table-room}
 use Rattle.soundness.proofs.Rows.{all-rows}
 use Rattle.soundness.proofs.Whole.{ids-keys, rows-count}
 use Rattle.apart.specs.Marks.{within}
 use Rattle.apart.proofs.Marks.{counted-facts}
 use Rattle.store.specs.Store.{roomOf, storeRows}
-use Rattle.store.proofs.Marks.{lane-marks}
 use Rattle.store.specs.Laid.{laid, pointsOf, laneLaid, boundaryLaid}
+use Rattle.store.proofs.Marks.{lane-marks}
 use Rattle.layout.specs.Layout.{lineTables, sourced, gathered, countedLines, Gatherable}
 use Rattle.layout.specs.Pointed.{Starts, pointed, Lies, HasRoom}
 use Rattle.layout.proofs.Gathers.{gathered-laid, gatherable-pointed}
@@ -47,20 +45,20 @@ use Rattle.lookup.proofs.Laws.{sorted-ascends, find-at, row-passes}
 use Rattle.lookup.proofs.Good.{rows-weaker}
 use Rattle.sound_facts.proofs.Room.{Limits, limits}
 use Rattle.sound_facts.proofs.LaidPlaces.{roomy}
+use Rattle.room.specs.Room.{columnPoints}
 use Rattle.merge_draw.proofs.Boundaries.{row-long}
 use Rattle.split_plan.specs.Placing.{picked, markedRows}
 use Rattle.split_laws.proofs.Chosen.{all-picked}
-use Rattle.split_named.proofs.Grown.{halves-numbered, rows-room}
+use Rattle.split_named.proofs.Grown.{halves-numbered}
 use Rattle.split_lines.specs.Cut.{Chosen, drawnPieces}
 use Rattle.split_tables.specs.Cut.{boundariesCut, lanesCut, BoundariesCut, LanesCut}
-use Rattle.split_limits.proofs.Lengths.{came-same}
-use Rattle.room.specs.Room.{columnPoints}
 use Rattle.split_room.specs.Fitting.{boundaryPoints, lanePoints}
+use Rattle.split_limits.proofs.Lengths.{came-same}
 use Rattle.split_limits.proofs.Boundaries.{points-cut}
 use Rattle.split_limits.proofs.Centers.{AllPlans, centers-cut}
 use Rattle.split_limits.proofs.Points.{points-all}
 use Rattle.split_laid.proofs.Boundaries.{AllWords, boundaryAfter, newStarts, after-cut, starts-new, boundaries-cut}
-use Rattle.split_laid.proofs.Rows.{ids-few, Cuttable}
+use Rattle.split_laid.proofs.Rows.{ids-few}
 use Rattle.split_laid.proofs.Lanes.{PlanRows, RowPlan, PlansFew, laneAfter, secondStarts, starts-second, lanes-cut}
 use Rattle.split_laid.proofs.Lies as L
 use Rattle.split_laid.proofs.Lies.{pieceLines, StartsAt, Runs}
@@ -178,6 +176,7 @@ module _ {tol : Tolerance} {counter : ℕ} {t : Tables} {own : ℕ} {stations : 
   unfolding lane view laneOf
   row-lane j l = find-at 52 (laneOf c) (λ x. x .id) (λ w. refl) (t .lanes) (word 0 (rowAt 52 (t .lanes) j)) j (own-place 1024 52 (t .lanes) (F.known plan .drawable .lanes-sorted) j l)
 
+  -- what is known of the plan of every row
   pub row-plans : (j : ℕ) → j < word 0 (t .lanes) → RowPlan (k .pieces) (k .many) (k .centers) (k .next) ps xs c (rowAt 52 (t .lanes) j)
   row-plans j l =
       let w = rowAt 52 (t .lanes) j in
@@ -231,7 +230,7 @@ module _ {tol : Tolerance} {counter : ℕ} {t : Tables} {own : ℕ} {stations : 
   rows-few =
       rows-weaker 52 (λ w. laneFormed w && ascending (idsAt 18 w)) (λ w. laneFormed w && leb (length (cameFrom hs (idsAt 18 w))) 16)
       (λ w e. let f = and-fst (laneFormed w) (ascending (idsAt 18 w)) e in
-          and-both (laneFormed w) (leb (length (cameFrom hs (idsAt 18 w))) 16) f (le-leb (length (cameFrom hs (idsAt 18 w))) 16 (came-few w f (and-snd (laneFormed w) (ascending (idsAt 18 w)) e)))) (t .lanes)
+      and-both (laneFormed w) (leb (length (cameFrom hs (idsAt 18 w))) 16) f (le-leb (length (cameFrom hs (idsAt 18 w))) 16 (came-few w f (and-snd (laneFormed w) (ascending (idsAt 18 w)) e)))) (t .lanes)
       (unfold allRows in both-pass 52 laneFormed (λ w. ascending (idsAt 18 w)) (t .lanes) formed-rows links-up)
 
   plans-few : PlansFew (k .pieces) (k .many) (k .centers) (k .next) ps xs c
@@ -448,6 +447,7 @@ module _ {tol : Tolerance} {counter : ℕ} {t : Tables} {own : ℕ} {stations : 
     center-runs : Runs source (k .reach + length (drawnPieces (k .point) (boundaryLines k t))) (L.centerLines ps)
     center-runs = second-runs (k .reach) c work (drawnPieces (k .point) (boundaryLines k t)) (drawnPieces (k .point) (centerLines k t)) (r .reach-stored) space (L.centerLines ps) (r .center-lines)
 
+    -- the lines of the cut map lie where its rows point
     lies : Lies source starts done
     lies =
         record {
@@ -528,11 +528,11 @@ module _ {tol : Tolerance} {counter : ℕ} {t : Tables} {own : ℕ} {stations : 
         marked = r .lanes-chosen .marks;
         many = plan .many;
         rows = λ j l. record {
-              words = row-long 52 (t .lanes) j (counted-facts 1024 52 (t .lanes) (F.counts plan .lanes) .1 .1) l;
-              formed = row-formed j l;
-              ascend = row-up j l;
-              below = row-passes 52 (λ w. all (λ i. leb (1 + i) (k .next)) (idsAt 18 w)) (t .lanes) before-low j l;
-            };
+          words = row-long 52 (t .lanes) j (counted-facts 1024 52 (t .lanes) (F.counts plan .lanes) .1 .1) l;
+          formed = row-formed j l;
+          ascend = row-up j l;
+          below = row-passes 52 (λ w. all (λ i. leb (1 + i) (k .next)) (idsAt 18 w)) (t .lanes) before-low j l;
+        };
         room = lane-space;
       }
 

@@ -1,8 +1,8 @@
--- What the words of pieces and measures say of the halves of cut lanes, and how many points the pieces have. Assumes nothing.
+-- What the words of pieces and measures say of the halves of cut lanes, how many points the pieces have, and where the drawn lines lie. Assumes nothing.
 use mathlib.Core.Path.{_≡_, refl, sym, ap, _∙_, subst}
 use Prim.Native.Nat.{ℕ, zero, suc, _+_, _*_, _≤_, _<_}
 use native.Mathlib.Omega.{arith}
-use mathlib.Core.Bool.{Bool, true, false, not, _&&_, _||_, cond}
+use mathlib.Core.Bool.{Bool, true, false, not, _&&_, cond}
 use mathlib.Core.List.{List, [], _∷_, _++_, map, append-assoc}
 use mathlib.Core.Option.{Option, none, some}
 use lib.Dec.{eqb, leb, ltb}
@@ -13,21 +13,20 @@ use borrow.Author.Tests.{eqb-true, eqb-false, eq-eqb, ltb-true, le-leb}
 use Rattle.lists.specs.Every.{all}
 use Rattle.lists.specs.Rows.{reads, over, keys, rowWith, later}
 use Rattle.lists.specs.Select.{find, each, has}
-use Rattle.lists.proofs.Select.{all-has}
 use Rattle.lists.specs.declared.Found.{Found}
 use Rattle.lists.specs.declared.Found.the-variants.{At, Nothing}
 use Rattle.lists.proofs.Booleans.{and-both, and-fst, and-snd}
-use Rattle.lists.proofs.Rows.{length-keys, getD-reads, row-at, over-over}
 use Rattle.lists.proofs.Every.{all-head, all-tail}
+use Rattle.lists.proofs.Rows.{length-keys, getD-reads, row-at, over-over}
+use Rattle.lists.proofs.Select.{all-has}
 use Rattle.entities.specs.Records.{Line, Lane, Map}
-use Rattle.entities.specs.declared.Refusal.{Refusal}
 use Rattle.entities.specs.declared.Refusal.the-variants as R
 use Rattle.polyline.specs.Polyline.{flat, firstPiece, secondPiece}
 use Rattle.polyline.proofs.Points.{length-flat}
 use Rattle.rules.specs.Names.{Tolerance, BoundaryRef, Point2, Left, Right}
 use Rattle.rules.specs.Map.{station, centerline, explicitOr, derived, oriented-boundary}
 use Rattle.rules.specs.Sound.{total}
-use Rattle.rules.specs.Edit.{Res, refuse, yield, _>>=_, check, require}
+use Rattle.rules.specs.Edit.{Res, yield, _>>=_, check, require}
 use Rattle.rules.specs.Split.{Piece, LanePlan, centerPiece, cuttable, lane-plan, lane-plans, pieceFor, planFor, firstRef, secondRef, piecesIds, secondHalves}
 use Rattle.laws.proofs.Lawful.{yields, no-yield}
 use Rattle.laws.proofs.SplitPlans.{bound}
@@ -35,8 +34,8 @@ use Rattle.tables.specs.View.{word, mark, part, refAt, lineAt, rows, laneOf}
 use Rattle.tables.specs.Formed.{counted, laneFormed}
 use Rattle.store.specs.Store.{present}
 use Rattle.store.specs.Laid.{pointsOf}
-use Rattle.layout.specs.Layout.{sourced}
 use Rattle.store.proofs.Marks.{lane-marks}
+use Rattle.layout.specs.Layout.{sourced}
 use Rattle.lookup.specs.Lookup.{sortedTable, placeOf, rowAt, pointsOr}
 use Rattle.lookup.proofs.Laws.{sorted-ascends}
 use Rattle.split_named.proofs.Grown.{rows-room}
@@ -44,11 +43,11 @@ use Rattle.split_rows.specs.Halves.{halfRef, pieceFound, pieceWord, firstSize, 
 use Rattle.split_plan.specs.Placing.{picked}
 use Rattle.split_room.specs.Fitting.{boundaryPoints, lanePoints}
 use Rattle.split_tables.specs.Cut.{newRows, firstPieceRow, secondPieceRow}
-use Rattle.split_limits.proofs.Boundaries.{PieceTold, AllTold}
+use Rattle.split_limits.proofs.Boundaries.{AllTold}
 use Rattle.split_limits.proofs.Centers.{PlanTold, AllPlans}
-use Rattle.split_laid.proofs.Boundaries.{PieceWords, AllWords, pieceSize}
+use Rattle.split_laid.proofs.Boundaries.{AllWords, pieceSize}
 use Rattle.split_laid.proofs.Rows.{CenterIs, HalfWords}
-use Rattle.split_laid.proofs.Lanes.{PlanRow, PlanRows, PlanFound}
+use Rattle.split_laid.proofs.Lanes.{PlanRows, PlanFound}
 use Rattle.split_laid.proofs.Lies.{pieceLines, centerLines, Runs, runs-held}
 
 -- ---- general
