@@ -4,3 +4,5 @@ pub mod Words
 pub mod Room
 pub mod Lists
 pub mod Named
+pub mod LaidRows
+pub mod Laid

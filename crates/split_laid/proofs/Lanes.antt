@@ -188,7 +188,7 @@ module _ (pieces : List ℕ) (m : ℕ) (centers : List ℕ) (next : ℕ) (ps : L
   -- ---- the table
 
   -- the links of a lane after the cut fit
-  pub PlansFew : Type 0
+  unfoldable pub PlansFew : Type 0
   PlansFew = (k : ℕ) (x : LanePlan) → planFor ps k ≡ some x → length (cameFrom hs (x .of .predecessors)) ≤ 16
 
   abbrev rowFew : List ℕ → Bool
