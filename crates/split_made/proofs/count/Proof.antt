@@ -1,0 +1,26 @@
+use borrow.Author.Needs.{needs}
+use Rattle.split_made.proofs.count.Statement.{statement}
+use Rattle.split_made.proofs.count.Tie as tie
+use Rattle.split_made.proofs.count.Reads as reads
+use Rattle.split_made.proofs.count.Lts as lts
+use Rattle.split_lists.proofs.count_warnings.Reads as count-warnings-reads
+use Rattle.split_touched.proofs.count_modified.Reads as count-modified-reads
+
+-- src/lib.rt:149:18
+add-t14 : tie.Need-add-t14
+add-t14 c = search needs
+
+-- src/lib.rt:150:19
+count-modified-requires : tie.Need-count-modified-requires
+count-modified-requires c κs = search needs
+
+-- src/lib.rt:163:19
+count-warnings-requires : tie.Need-count-warnings-requires
+count-warnings-requires c κs = search needs
+
+-- src/lib.rt:131:1
+returns : tie.Need-returns
+returns c = ?
+
+pub count-spec : {M : Type 1} → statement M
+count-spec = tie.close (tie.spec add-t14 count-modified-requires count-warnings-requires returns)

@@ -1,0 +1,81 @@
+use borrow.Author.Needs.{needs}
+use Rattle.split_made.proofs.fits.Statement.{statement}
+use Rattle.split_made.proofs.fits.Tie as tie
+use Rattle.split_made.proofs.fits.Reads as reads
+use Rattle.split_made.proofs.fits.Lts as lts
+use Rattle.lists.proofs.both.Reads as both-reads
+use Rattle.room.proofs.points_fit.Reads as points-fit-reads
+use Rattle.split_room.proofs.lists_fit.Reads as lists-fit-reads
+use Rattle.split_room.proofs.pieces_fit.Reads as pieces-fit-reads
+use Rattle.split_room.proofs.points_after.Reads as points-after-reads
+use Rattle.split_room.proofs.rules_fit.Reads as rules-fit-reads
+
+-- src/lib.rt:106:9
+points-after-requires : tie.Need-points-after-requires
+points-after-requires c κs = search needs
+
+-- src/lib.rt:118:9
+pieces-fit-requires : tie.Need-pieces-fit-requires
+pieces-fit-requires c κs = search needs
+
+-- src/lib.rt:119:9
+pieces-fit-requires-2 : tie.Need-pieces-fit-requires-2
+pieces-fit-requires-2 c κs = search needs
+
+-- src/lib.rt:117:9
+both-requires : tie.Need-both-requires
+both-requires c κs = search needs
+
+-- src/lib.rt:121:38
+points-fit-requires : tie.Need-points-fit-requires
+points-fit-requires c κs = search needs
+
+-- src/lib.rt:121:9
+both-requires-2 : tie.Need-both-requires-2
+both-requires-2 c κs = search needs
+
+-- src/lib.rt:122:9
+lists-fit-requires : tie.Need-lists-fit-requires
+lists-fit-requires c κs = search needs
+
+-- src/lib.rt:123:9
+lists-fit-requires-2 : tie.Need-lists-fit-requires-2
+lists-fit-requires-2 c κs = search needs
+
+-- src/lib.rt:124:9
+rules-fit-requires : tie.Need-rules-fit-requires
+rules-fit-requires c κs = search needs
+
+-- src/lib.rt:125:26
+both-requires-3 : tie.Need-both-requires-3
+both-requires-3 c κs = search needs
+
+-- src/lib.rt:125:21
+both-requires-4 : tie.Need-both-requires-4
+both-requires-4 c κs = search needs
+
+-- src/lib.rt:125:5
+both-requires-5 : tie.Need-both-requires-5
+both-requires-5 c κs = search needs
+
+-- src/lib.rt:85:1
+returns : tie.Need-returns
+returns c = ?
+
+pub fits-spec : {M : Type 1} → statement M
+fits-spec =
+    tie.close
+    (tie.spec
+    points-after-requires
+    pieces-fit-requires
+    pieces-fit-requires-2
+    both-requires
+    points-fit-requires
+    both-requires-2
+    lists-fit-requires
+    lists-fit-requires-2
+    rules-fit-requires
+    both-requires-3
+    both-requires-4
+    both-requires-5
+    returns)

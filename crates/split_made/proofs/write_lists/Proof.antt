@@ -1,0 +1,48 @@
+use borrow.Author.Needs.{needs}
+use Rattle.split_made.proofs.write_lists.Statement.{statement}
+use Rattle.split_made.proofs.write_lists.Tie as tie
+use Rattle.split_made.proofs.write_lists.Reads as reads
+use Rattle.split_made.proofs.write_lists.Lts as lts
+use Rattle.split_lists.proofs.list_created.Reads as list-created-reads
+use Rattle.split_lists.proofs.warn.Reads as warn-reads
+use Rattle.split_touched.proofs.list_modified.Reads as list-modified-reads
+
+-- src/lib.rt:188:5
+list-created-requires : tie.Need-list-created-requires
+list-created-requires c κs = search needs
+
+-- src/lib.rt:189:5
+list-modified-requires : tie.Need-list-modified-requires
+list-modified-requires c κs = search needs
+
+-- src/lib.rt:202:5
+warn-requires : tie.Need-warn-requires
+warn-requires c κs = search needs
+
+-- src/lib.rt:168:1
+same-length : tie.Need-same-length
+same-length c = search needs
+
+-- src/lib.rt:168:1
+same-length-2 : tie.Need-same-length-2
+same-length-2 c = search needs
+
+-- src/lib.rt:168:1
+same-length-3 : tie.Need-same-length-3
+same-length-3 c = search needs
+
+-- src/lib.rt:168:1
+returns : tie.Need-returns
+returns c = ?
+
+pub write-lists-spec : {M : Type 1} → statement M
+write-lists-spec =
+    tie.close
+    (tie.spec
+    list-created-requires
+    list-modified-requires
+    warn-requires
+    same-length
+    same-length-2
+    same-length-3
+    returns)
