@@ -6,6 +6,9 @@ use Rattle.split_made.proofs.write.Lts as lts
 use Rattle.follows.proofs.follow_rules.Reads as follow-rules-reads
 use Rattle.grows.proofs.grow_rows.Reads as grow-rows-reads
 use Rattle.split_relay.proofs.relay.Reads as relay-reads
+use Rattle.split_made.proofs.Parts.{all-written}
+use Rattle.split_made.specs.Made.{cuttingOf}
+use Rattle.tables.specs.View.{tablesOf}
 
 -- src/lib.rt:230:5
 grow-rows-requires : tie.Need-grow-rows-requires
@@ -57,7 +60,7 @@ same-length-8 c = search needs
 
 -- src/lib.rt:208:1
 returns : tie.Need-returns
-returns c = ?
+returns c = let s = c .before .before .before .before .before .before .before .before .before .before .before .before .before .before .before .before .before .before .before .before .before .before .before .before .before .before .before .before .before .before .before .before .before .before .before .before .before .before .before .before .before .before .before .before in all-written (cuttingOf (s .args .drawn) (s .args .seen .now) (s .args .cut .now) (s .args .marks .now) (s .args .pieces .now) (s .args .lines .now) (s .args .centers .now)) (s .args .drawn .points) (s .args .anchored .now) (s .args .past .now) (tablesOf (s .args .lanes .now) (s .args .boundaries .now) (s .args .roads .now) (s .args .junctions .now) (s .args .rules .now) (s .args .stop-lines .now) (s .args .crosswalks .now) (s .args .coordinates .now)) (c .before .before .before .before .before .before .before .before .before .before .before .before .before .before .before .before .before .before .before .before .before .before .before .before .before .before .grow-rows .last .0) (c .before .before .before .before .before .before .before .before .before .before .before .before .before .before .before .before .before .before .before .before .before .before .grow-rows2 .last .0) (c .before .before .before .before .before .before .before .before .before .before .before .before .before .before .before .before .before .before .follow-rules .last .0) (c .before .before .before .before .before .before .before .before .before .before .relay .last .0) (c .before .before .before .before .before .before .before .before .before .before .relay .last .1 .0) (c .before .before .before .before .before .before .before .before .before .before .relay .last .1 .1 .0) (c .before .before .before .before .before .before .before .before .before .before .relay .last .1 .1 .1 .0) (c .before .before .before .before .before .before .before .before .before .before .relay .last .1 .1 .1 .1 .0) (c .before .before .before .before .before .before .before .before .before .before .before .before .before .before .before .before .before .before .before .before .before .before .before .before .before .before .grow-rows .ensures) (c .before .before .before .before .before .before .before .before .before .before .before .before .before .before .before .before .before .before .before .before .before .before .grow-rows2 .ensures) (c .before .before .before .before .before .before .before .before .before .before .before .before .before .before .before .before .before .before .follow-rules .ensures) (c .before .before .before .before .before .before .before .before .before .before .relay .ensures)
 
 pub write-spec : {M : Type 1} → statement M
 write-spec =

@@ -6,6 +6,7 @@ use Rattle.split_made.proofs.write_lists.Lts as lts
 use Rattle.split_lists.proofs.list_created.Reads as list-created-reads
 use Rattle.split_lists.proofs.warn.Reads as warn-reads
 use Rattle.split_touched.proofs.list_modified.Reads as list-modified-reads
+use Rattle.split_made.proofs.Parts.{three-lists}
 
 -- src/lib.rt:188:5
 list-created-requires : tie.Need-list-created-requires
@@ -33,7 +34,7 @@ same-length-3 c = search needs
 
 -- src/lib.rt:168:1
 returns : tie.Need-returns
-returns c = ?
+returns c = three-lists (c .before .before .before .before .before .before .before .before .before .before .list-created .ensures) (c .before .before .before .before .before .before .list-modified .ensures) (c .before .before .warn .ensures)
 
 pub write-lists-spec : {M : Type 1} → statement M
 write-lists-spec =
