@@ -15,11 +15,11 @@ add-t14 c = search needs
 
 -- src/lib.rt:150:19
 count-modified-requires : tie.Need-count-modified-requires
-count-modified-requires c κs = search needs
+count-modified-requires c κs = c .before .before .before .before .before .before .before .before .before .before .before .before .pre .modifiable
 
 -- src/lib.rt:163:19
 count-warnings-requires : tie.Need-count-warnings-requires
-count-warnings-requires c κs = search needs
+count-warnings-requires c κs = let h = c .before .before .before .before .before .before .before .before .before .before .before .before .before .pre in (h .pieces, (h .few, h .beside))
 
 -- src/lib.rt:131:1
 returns : tie.Need-returns

@@ -13,15 +13,15 @@ use Rattle.split_made.proofs.Parts.{all-fit}
 
 -- src/lib.rt:106:9
 points-after-requires : tie.Need-points-after-requires
-points-after-requires c κs = search needs
+points-after-requires c κs = c .before .before .before .before .before .before .before .before .before .before .before .before .before .before .before .pre .counting
 
 -- src/lib.rt:118:9
 pieces-fit-requires : tie.Need-pieces-fit-requires
-pieces-fit-requires c κs = search needs
+pieces-fit-requires c κs = c .before .before .before .before .before .before .before .before .before .before .before .before .before .before .before .before .pre .lines
 
 -- src/lib.rt:119:9
 pieces-fit-requires-2 : tie.Need-pieces-fit-requires-2
-pieces-fit-requires-2 c κs = search needs
+pieces-fit-requires-2 c κs = c .before .before .before .before .before .before .before .before .before .before .before .before .before .before .before .before .before .pre .centers
 
 -- src/lib.rt:117:9
 both-requires : tie.Need-both-requires
@@ -37,15 +37,15 @@ both-requires-2 c κs = search needs
 
 -- src/lib.rt:122:9
 lists-fit-requires : tie.Need-lists-fit-requires
-lists-fit-requires c κs = search needs
+lists-fit-requires c κs = c .before .before .before .before .before .before .before .before .before .before .before .before .before .before .before .before .before .before .before .before .before .pre .roads
 
 -- src/lib.rt:123:9
 lists-fit-requires-2 : tie.Need-lists-fit-requires-2
-lists-fit-requires-2 c κs = search needs
+lists-fit-requires-2 c κs = c .before .before .before .before .before .before .before .before .before .before .before .before .before .before .before .before .before .before .before .before .before .before .pre .junctions
 
 -- src/lib.rt:124:9
 rules-fit-requires : tie.Need-rules-fit-requires
-rules-fit-requires c κs = search needs
+rules-fit-requires c κs = c .before .before .before .before .before .before .before .before .before .before .before .before .before .before .before .before .before .before .before .before .before .before .before .pre .rules
 
 -- src/lib.rt:125:26
 both-requires-3 : tie.Need-both-requires-3

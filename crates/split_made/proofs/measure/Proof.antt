@@ -11,7 +11,7 @@ use mathlib.Core.Bool.{true, false}
 
 -- src/lib.rt:58:9
 measure-requires : tie.Need-measure-requires
-measure-requires c κs = search needs
+measure-requires c κs = c .before .before .before .before .before .before .before .before .pre .0
 
 -- src/lib.rt:69:5
 measure-requires-2 : tie.Need-measure-requires-2
@@ -19,11 +19,11 @@ measure-requires-2 c κs = search needs
 
 -- src/lib.rt:44:1
 same-length : tie.Need-same-length
-same-length c = search needs
+same-length c = c .before .before .before .before .before .before .measure .kept .1 .1 .1 .1 .1 .1 .1 .1 .0
 
 -- src/lib.rt:44:1
 same-length-2 : tie.Need-same-length-2
-same-length-2 c = search needs
+same-length-2 c = c .before .before .measure2 .kept .1 .1 .1 .1 .1 .1 .1 .1 .0
 
 -- src/lib.rt:44:1
 returns : tie.Need-returns
