@@ -15,8 +15,9 @@ use Rattle.lists.proofs.Rows.{keys-one, one-found, found-within}
 use Rattle.lists.proofs.Booleans.{and-fst, and-snd}
 use Rattle.entities.specs.Records.{Line}
 use Rattle.rules.specs.Names.{Point2, NoRoom}
-use Rattle.tables.specs.View.{Tables, tablesOf}
-use Rattle.tables.specs.Columns.{junctionLanesAt, junctionWords, roadLanesAt, roadWords}
+use Rattle.tables.specs.View.{Tables, rows, tablesOf}
+use Rattle.tables.specs.Columns.{junctionLanesAt, junctionWords, roadLanesAt, roadWords, ruleWords}
+use Rattle.row_tests.specs.Good.{allRows}
 use Rattle.store.specs.Rows.{onRows}
 use Rattle.layout.specs.Layout.{lineTables}
 use Rattle.report.specs.declared.Counts.{Counts}
@@ -27,9 +28,10 @@ use Rattle.room.specs.Room.{pointsFit, listsFit}
 use Rattle.grows.specs.Growing.{growsAt}
 use Rattle.follows.specs.Following.{rulesFollow}
 use Rattle.split_lines.specs.Cut.{drawnPieces, measured}
+use Rattle.split_room.specs.Fitting.{listFits, piecesFit, pointsAfter, rulesFit}
 use Rattle.split_relay.specs.Relaying.{Cutting, blank, cutting, relaid, workFloats}
 use Rattle.split_made.specs.declared.Drawn.{Drawn}
-use Rattle.split_made.specs.Made.{Listable, Notable, Noted, answerOf, countsOf, left, lined, listsWritten, noted, splitMade, tablesCut}
+use Rattle.split_made.specs.Made.{Listable, Notable, Noted, answerOf, countsOf, fitsAfter, left, lined, listsWritten, modifiedIn, noted, splitMade, tablesCut, warningsIn}
 
 -- ---- the answer
 
@@ -53,17 +55,35 @@ measured-both point ls cs reach b r w w' v v' e f g h = (g ∙ ap (λ z. z + len
 
 -- ---- room
 
-pub all-fit : (p p' : ℕ) (c : List Float) (a b d f g h i j k l m a' b' f' g' h' : Bool) → p ≡ p' → a ≡ a' → b ≡ b' → d ≡ (a && b) → i ≡ pointsFit p c → j ≡ (d && i) → f ≡ f' → g ≡ g' → h ≡ h' → k ≡ (f && g) → l ≡ (k && h)
-    → m ≡ (j && l) → m ≡ (((a' && b') && pointsFit p' c) && ((f' && g') && h'))
-all-fit p p' c a b d f g h i j k l m a' b' f' g' h' pe ae be de ie je fe ge he ke le me =
-    let x : j ≡ ((a' && b') && pointsFit p' c) = je ∙ (ap (λ z. z && i) (de ∙ (ap (λ z. z && b) ae ∙ ap (λ z. a' && z) be)) ∙ ap (λ z. (a' && b') && z) (ie ∙ ap (λ z. pointsFit z c) pe)) in
-    let y : l ≡ ((f' && g') && h') = le ∙ (ap (λ z. z && h) (ke ∙ (ap (λ z. z && g) fe ∙ ap (λ z. f' && z) ge)) ∙ ap (λ z. (f' && g') && z) he) in
-    me ∙ (ap (λ z. z && l) x ∙ ap (λ z. ((a' && b') && pointsFit p' c) && z) y)
+module _ (k : Cutting) (anchored : List Bool) (t : Tables) where
+  abbrev lists-fit : Bool
+  lists-fit = (allRows roadWords (listFits (k .cut) roadLanesAt) (t .roads) && allRows junctionWords (listFits (k .cut) junctionLanesAt) (t .junctions)) && rulesFit anchored (k .cut) 0 (rows ruleWords (λ w. w) (t .rules))
+
+  abbrev pieces-fit : Bool
+  pieces-fit = piecesFit (k .lines) 0 (k .many) && piecesFit (k .centers) 0 (length (k .cut))
+
+  abbrev points : ℕ
+  points = pointsAfter (k .pieces) (k .lines) (k .centers) (k .marks) (k .seen) (t .lanes) (t .boundaries) (t .stop-lines) (t .crosswalks)
+
+  abbrev lines-fit : Bool
+  lines-fit = pieces-fit && pointsFit points (t .coordinates)
+
+  pub all-fit : (p : ℕ) (a b c q ls f g h d l m : Bool) → p ≡ points → a ≡ piecesFit (k .lines) 0 (k .many) → b ≡ piecesFit (k .centers) 0 (length (k .cut)) → c ≡ (a && b) → q ≡ pointsFit p (t .coordinates) → ls ≡ (c && q)
+      → f ≡ allRows roadWords (listFits (k .cut) roadLanesAt) (t .roads) → g ≡ allRows junctionWords (listFits (k .cut) junctionLanesAt) (t .junctions) → h ≡ rulesFit anchored (k .cut) 0 (rows ruleWords (λ w. w) (t .rules)) → d ≡ (f && g)
+      → l ≡ (d && h) → m ≡ (ls && l) → m ≡ fitsAfter k anchored t
+  all-fit p a b c q ls f g h d l m pe ae be ce qe se fe ge he de le me =
+      let x : ls ≡ lines-fit = se ∙ both (ce ∙ both ae be) (qe ∙ ap (λ z. pointsFit z (t .coordinates)) pe) in
+      let y : l ≡ lists-fit = le ∙ both (de ∙ both fe ge) he in
+      me ∙ both x y
+    where
+      both : {a b c d : Bool} → a ≡ b → c ≡ d → (a && c) ≡ (b && d)
+      both e f = rw (e, f)
 
 -- ---- parts side by side
 
-pub counted : (n m w m' w' : ℕ) → m ≡ m' → w ≡ w' → _≡_ {A = Counts} (record { created = n; modified = m; deleted = 0; warnings = w }) (record { created = n; modified = m'; deleted = 0; warnings = w' })
-counted n m w m' w' e f = rw (e, f)
+pub counted : (ids : ℕ) (k : Cutting) (anchored past : List Bool) (t : Tables) (m w : ℕ) → m ≡ length (modifiedIn k anchored past t) → w ≡ length (warningsIn k t)
+    → _≡_ {A = Counts} (record { created = ids + length (k .cut); modified = m; deleted = 0; warnings = w }) (countsOf ids k anchored past t)
+counted ids k anchored past t m w e f = rw (e, f)
 
 pub three-lists : {a b c a' b' c' : List ℕ} → a ≡ a' → b ≡ b' → c ≡ c' → noted a b c ≡ noted a' b' c'
 three-lists e f g = rw (e, f, g)

@@ -10,6 +10,8 @@ use Rattle.split_room.proofs.pieces_fit.Reads as pieces-fit-reads
 use Rattle.split_room.proofs.points_after.Reads as points-after-reads
 use Rattle.split_room.proofs.rules_fit.Reads as rules-fit-reads
 use Rattle.split_made.proofs.Parts.{all-fit}
+use Rattle.split_made.specs.Made.{cuttingOf}
+use Rattle.tables.specs.View.{tablesOf}
 
 -- src/lib.rt:106:9
 points-after-requires : tie.Need-points-after-requires
@@ -61,7 +63,7 @@ both-requires-5 c κs = search needs
 
 -- src/lib.rt:85:1
 returns : tie.Need-returns
-returns c = let s = c .before .before .before .before .before .before .before .before .before .before .before .before .before .before .before .before .before .before .before .before .before .before .before .before .before .before .before in all-fit (c .before .before .before .before .before .before .before .before .before .before .before .points-after .result) _ (s .args .coordinates .now) (c .before .before .before .before .before .before .before .before .before .before .pieces-fit .result) (c .before .before .before .before .before .before .before .before .before .pieces-fit2 .result) (c .before .before .before .before .before .before .before .before .both .result) (c .before .before .before .before .before .lists-fit .result) (c .before .before .before .before .lists-fit2 .result) (c .before .before .before .rules-fit .result) (c .before .before .before .before .before .before .before .points-fit .result) (c .before .before .before .before .before .before .both2 .result) (c .before .before .both3 .result) (c .before .both4 .result) (c .both5 .result) _ _ _ _ _ (c .before .before .before .before .before .before .before .before .before .before .before .points-after .ensures) (c .before .before .before .before .before .before .before .before .before .before .pieces-fit .ensures) (c .before .before .before .before .before .before .before .before .before .pieces-fit2 .ensures) (c .before .before .before .before .before .before .before .before .both .ensures) (c .before .before .before .before .before .before .before .points-fit .ensures) (c .before .before .before .before .before .before .both2 .ensures) (c .before .before .before .before .before .lists-fit .ensures) (c .before .before .before .before .lists-fit2 .ensures) (c .before .before .before .rules-fit .ensures) (c .before .before .both3 .ensures) (c .before .both4 .ensures) (c .both5 .ensures)
+returns c = let s = c .before .before .before .before .before .before .before .before .before .before .before .before .before .before .before .before .before .before .before .before .before .before .before .before .before .before .before in all-fit (cuttingOf (s .args .drawn) (s .args .seen .now) (s .args .cut .now) (s .args .marks .now) (s .args .pieces .now) (s .args .lines .now) (s .args .centers .now)) (s .args .anchored .now) (tablesOf (s .args .lanes .now) (s .args .boundaries .now) (s .args .roads .now) (s .args .junctions .now) (s .args .rules .now) (s .args .stop-lines .now) (s .args .crosswalks .now) (s .args .coordinates .now)) (c .before .before .before .before .before .before .before .before .before .before .before .points-after .result) (c .before .before .before .before .before .before .before .before .before .before .pieces-fit .result) (c .before .before .before .before .before .before .before .before .before .pieces-fit2 .result) (c .before .before .before .before .before .before .before .before .both .result) (c .before .before .before .before .before .before .before .points-fit .result) (c .before .before .before .before .before .before .both2 .result) (c .before .before .before .before .before .lists-fit .result) (c .before .before .before .before .lists-fit2 .result) (c .before .before .before .rules-fit .result) (c .before .before .both3 .result) (c .before .both4 .result) (c .both5 .result) (c .before .before .before .before .before .before .before .before .before .before .before .points-after .ensures) (c .before .before .before .before .before .before .before .before .before .before .pieces-fit .ensures) (c .before .before .before .before .before .before .before .before .before .pieces-fit2 .ensures) (c .before .before .before .before .before .before .before .before .both .ensures) (c .before .before .before .before .before .before .before .points-fit .ensures) (c .before .before .before .before .before .before .both2 .ensures) (c .before .before .before .before .before .lists-fit .ensures) (c .before .before .before .before .lists-fit2 .ensures) (c .before .before .before .rules-fit .ensures) (c .before .before .both3 .ensures) (c .before .both4 .ensures) (c .both5 .ensures)
 
 pub fits-spec : {M : Type 1} → statement M
 fits-spec =
