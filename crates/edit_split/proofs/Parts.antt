@@ -151,7 +151,7 @@ module _ {tol : Tolerance} {counter : ℕ} {t : Tables} {own : ℕ} {p : Point2}
 module _ {tol : Tolerance} {counter : ℕ} {t : Tables} {own : ℕ} {p : Point2} {seen : List Bool} {cut : List ℕ} {stations : List Float} {ids : ℕ} {marks : List Bool}
     (n : Numbered tol counter t own p seen cut stations ids marks) (first : ℕ) (ef : first ≡ nextId counter) where
   pub pieces-ask : Q.Countable (t .lanes) seen (t .boundaries) marks
-      × ((first + Q.idsOf seen (t .lanes) (Q.cutKeys marks (t .boundaries)) < 2 ^ 64) × (length (Q.cutKeys marks (t .boundaries)) * 3 ≤ length (replicate 3072 0)))
+      × ((first + Q.idsOf seen (t .lanes) (Q.cutKeys marks (t .boundaries)) < 2 ^ 64) × (length (Q.cutKeys marks (t .boundaries)) * 3 ≤ length {A = ℕ} (replicate 3072 0)))
   pieces-ask = (A.countable n, (omega (arith, A.ids-fit n), omega (arith, A.keys-few n, length-replicate {A = ℕ} 3072 0)))
 
   pub pieced : (pieces : List ℕ) (many reach : ℕ)
