@@ -8,9 +8,8 @@ use Rattle.report.specs.Report.{counterBehind}
 use Rattle.report.specs.declared.Answer.{Answer}
 use Rattle.words.specs.Words.{told}
 use Rattle.words.specs.declared.Told.{Told}
-use Rattle.step.specs.Step.{Lent, Ended, ended}
+use Rattle.step.specs.Step.{Lent, Ended, ended, step}
 use Rattle.step.proofs.Counter.{withCounter}
-use Rattle.ops.specs.Applying.{applying}
 use Rattle.exports.specs.Edits.{Called, called, calling}
 
 -- what an end is told as
@@ -18,7 +17,7 @@ abbrev telling : Lent → Ended → Called
 telling l e = called (e .lent) (told (l .counter) (e .answer))
 
 pub all-called : (c d : O.Command) (tol : Tolerance) (l after : Lent) (a : Answer) (t : Told) → d ≡ c → tol ≡ preset → after .counter ≡ counterBehind (l .counter) a
-    → ended after a ≡ applying tol d l → t ≡ told (l .counter) a → called (withCounter (t .counter) after) t ≡ calling c l
+    → ended after a ≡ step tol d l → t ≡ told (l .counter) a → called (withCounter (t .counter) after) t ≡ calling c l
 unfolding calling
 all-called c d tol l after a t p q k s e =
     let f = ap (λ (n : ℕ). withCounter n after) (ap (λ (t : Told). t .counter) e ∙ sym k) in

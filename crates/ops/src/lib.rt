@@ -4,7 +4,7 @@ ghost use mathlib.Core.Bool.{true};
 ghost use Rattle.tables.specs.Formed.{soundTables};
 ghost use Rattle.report.specs.Report.{counterBehind};
 ghost use Rattle.step.specs.Step as S;
-ghost use Rattle.ops.specs.Applying.{applying};
+ghost use Rattle.ops.specs.Calls.{Applied};
 use entities::Command;
 use entities::Refusal;
 use entities::Tolerance;
@@ -29,14 +29,32 @@ fn dispatch(
     warnings: &mut [u64],
 ) -> Answer
     requires { ⌜ soundTables counter (S.tablesOf (now lanes) (now boundaries) (now roads) (now junctions) (now rules) (now «stop_lines») (now crosswalks) (now coordinates)) ≡ true ⌝ }
-    ensures { λ r. ⌜ S.ended (S.lentOf (counterBehind counter r) (now (lanes .exit)) (now (boundaries .exit)) (now (roads .exit)) (now (junctions .exit)) (now (rules .exit)) (now («stop_lines» .exit)) (now (crosswalks .exit)) (now (coordinates .exit)) (now (created .exit)) (now (modified .exit)) (now (deleted .exit)) (now (warnings .exit))) r ≡ applying tolerance command (S.lentOf counter (now (lanes .entry)) (now (boundaries .entry)) (now (roads .entry)) (now (junctions .entry)) (now (rules .entry)) (now («stop_lines» .entry)) (now (crosswalks .entry)) (now (coordinates .entry)) (now (created .entry)) (now (modified .entry)) (now (deleted .entry)) (now (warnings .entry))) ⌝ }
+    ensures { λ r. ⌜ Applied tolerance command (S.lentOf counter (now (lanes .entry)) (now (boundaries .entry)) (now (roads .entry)) (now (junctions .entry)) (now (rules .entry)) (now («stop_lines» .entry)) (now (crosswalks .entry)) (now (coordinates .entry)) (now (created .entry)) (now (modified .entry)) (now (deleted .entry)) (now (warnings .entry))) (S.ended (S.lentOf (counterBehind counter r) (now (lanes .exit)) (now (boundaries .exit)) (now (roads .exit)) (now (junctions .exit)) (now (rules .exit)) (now («stop_lines» .exit)) (now (crosswalks .exit)) (now (coordinates .exit)) (now (created .exit)) (now (modified .exit)) (now (deleted .exit)) (now (warnings .exit))) r) ⌝ }
 {
     match command {
         Command::SplitLane {
-            lane: _,
-            at: _,
-            include_neighbors: _,
-        } => Answer::Refused(Refusal::NoRoom),
+            lane,
+            at,
+            include_neighbors,
+        } => edit_split::split_lane(
+            counter,
+            tolerance,
+            lanes,
+            boundaries,
+            roads,
+            junctions,
+            rules,
+            stop_lines,
+            crosswalks,
+            coordinates,
+            lane,
+            at,
+            include_neighbors,
+            created,
+            modified,
+            deleted,
+            warnings,
+        ),
         Command::MergeLanes { first, second } => edit_merge::merge_lanes(
             counter,
             tolerance,
@@ -152,7 +170,7 @@ pub fn apply(
     deleted: &mut [u64],
     warnings: &mut [u64],
 ) -> Answer
-    ensures { λ r. ⌜ S.ended (S.lentOf (counterBehind counter r) (now (lanes .exit)) (now (boundaries .exit)) (now (roads .exit)) (now (junctions .exit)) (now (rules .exit)) (now («stop_lines» .exit)) (now (crosswalks .exit)) (now (coordinates .exit)) (now (created .exit)) (now (modified .exit)) (now (deleted .exit)) (now (warnings .exit))) r ≡ applying tolerance command (S.lentOf counter (now (lanes .entry)) (now (boundaries .entry)) (now (roads .entry)) (now (junctions .entry)) (now (rules .entry)) (now («stop_lines» .entry)) (now (crosswalks .entry)) (now (coordinates .entry)) (now (created .entry)) (now (modified .entry)) (now (deleted .entry)) (now (warnings .entry))) ⌝ }
+    ensures { λ r. ⌜ Applied tolerance command (S.lentOf counter (now (lanes .entry)) (now (boundaries .entry)) (now (roads .entry)) (now (junctions .entry)) (now (rules .entry)) (now («stop_lines» .entry)) (now (crosswalks .entry)) (now (coordinates .entry)) (now (created .entry)) (now (modified .entry)) (now (deleted .entry)) (now (warnings .entry))) (S.ended (S.lentOf (counterBehind counter r) (now (lanes .exit)) (now (boundaries .exit)) (now (roads .exit)) (now (junctions .exit)) (now (rules .exit)) (now («stop_lines» .exit)) (now (crosswalks .exit)) (now (coordinates .exit)) (now (created .exit)) (now (modified .exit)) (now (deleted .exit)) (now (warnings .exit))) r) ⌝ }
 {
     if soundness::sound(
         counter,

@@ -6,7 +6,7 @@ use Rattle.ops.proofs.apply.Lts as lts
 use Rattle.ops.proofs.dispatch.Reads as dispatch-reads
 use Rattle.soundness.proofs.sound.Reads as sound-reads
 use Rattle.step.specs.Step.{Lent, lentOf}
-use Rattle.ops.proofs.Applies.{unsound}
+use Rattle.step.proofs.Steps.{step-unsound}
 use mathlib.Core.Path.{_≡_, refl, sym, ap, _∙_}
 
 -- what is lent
@@ -109,7 +109,7 @@ same-length-20 c = refl
 
 -- src/lib.rt:124:1
 returns-2 : tie.Need-returns-2
-returns-2 c = let s = c .before .before .before .before .before .before .before .before .before .before .before .before .before .before .before .before .before .before .before .before .before .before in unsound (s .args .tolerance) (lent s) (s .args .command) (sym (c .before .sound .ensures) ∙ c .if1 .left)
+returns-2 c = let s = c .before .before .before .before .before .before .before .before .before .before .before .before .before .before .before .before .before .before .before .before .before .before in step-unsound (s .args .tolerance) (s .args .command) (lent s) (sym (c .before .sound .ensures) ∙ c .if1 .left)
 
 pub apply-spec : {M : Type 1} → statement M
 apply-spec =
