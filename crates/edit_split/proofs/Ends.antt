@@ -7,7 +7,7 @@ use mathlib.Core.List.{List, [], map, append-nil}
 use lib.Dec.{leb}
 use lib.Ieee.{Float}
 use lib.ListN.{length, length-map, length-replicate, replicate, drop, take}
-use lib.Seq.{length-take-le, take-all}
+use lib.Seq.{length-take-le}
 use Rattle.lists.specs.Rows.{over}
 use Rattle.lists.specs.Select.{keep, any, has}
 use Rattle.lists.specs.declared.Found.the-variants.{At, Nothing}
@@ -32,6 +32,7 @@ use Rattle.step.proofs.Steps.{step-refused, step-exhausted, step-decided}
 use Rattle.split_plan.specs.declared.Cut.{Cut}
 use Rattle.split_plan.specs.declared.Crossed.{Crossed}
 use Rattle.split_plan.specs.declared.Crossed.the-variants as X
+use Rattle.split_plan.specs.declared.Placed.{Placed}
 use Rattle.split_plan.specs.declared.Placed.the-variants as P
 use Rattle.split_plan.specs.declared.Stations.{Stations}
 use Rattle.split_plan.specs.declared.Stations.the-variants as L
@@ -50,6 +51,9 @@ module _ (tol : Tolerance) (own : ℕ) (p : Point2) (seen : List Bool) (cut : Li
   unfolding stationEnds
   uncrossed r f = sym (ap (crossEnds tol own p seen cut stations l) (sym e ∙ f))
 
+  pub crossed-asks : MayCross tol (l .counter) (l .tables) own p seen cut stations → x ≡ X.All → Planned tol (l .counter) (l .tables) own p seen cut stations
+  crossed-asks m f = m .planned (sym e ∙ f)
+
   pub crossed : x ≡ X.All → (y : Ended) → y ≡ splitEnds tol own p seen cut stations l → y ≡ stationEnds tol own p seen cut stations l
   unfolding stationEnds
   crossed f y ye = ye ∙ sym (ap (crossEnds tol own p seen cut stations l) (sym e ∙ f))
@@ -62,6 +66,17 @@ front w xs v n h e p =
     let z : 0 + length xs ≡ length xs = omega arith in
     let l : 0 + length xs ≤ length w = omega arith in
     (omega (arith, ap length p, length-over w 0 xs l), ap (λ k. take k v) (sym e) ∙ (ap (take (length xs)) p ∙ (rw z at (take-over w 0 xs l))))
+
+-- as many marks as there are rows at most
+seen-long : (i : ℕ) (neighbors : Bool) (t : Tables) → word 0 (t .lanes) ≤ 1024 → length (seenIn i neighbors t) ≡ 1024
+seen-long i neighbors t few =
+    let g = groupMarks (t .lanes) i neighbors in
+    let n : length g ≡ word 0 (t .lanes) =
+    length-map (idsOf (t .lanes)) (λ j. has j (groupOf (laneMap (t .lanes)) (word 0 (rowAt 52 (t .lanes) i)) neighbors)) ∙ length-keys 52 (word 0 (t .lanes)) (drop 1 (t .lanes)) in
+    length-over (replicate 1024 false) 0 g (omega (arith, n, few, length-replicate 1024 false)) ∙ length-replicate 1024 false
+
+pub marks-there : (i : ℕ) (neighbors : Bool) (t : Tables) (seen : List Bool) → seen ≡ seenIn i neighbors t → word 0 (t .lanes) ≤ 1024 → word 0 (t .lanes) ≤ length seen
+marks-there i neighbors t seen e few = omega (arith, ap length e, seen-long i neighbors t few)
 
 -- the group as it is marked, and the stations that were found
 module _ (tol : Tolerance) (own i : ℕ) (k : Cut) (neighbors : Bool) (l : Lent) (seen : List Bool) (es : seen ≡ seenIn i neighbors (l .tables)) (s : Stations) (e : s ≡ planned tol own k seen (l .tables)) where
@@ -127,12 +142,15 @@ module _ (tol : Tolerance) (l : Lent) (h : soundTables (l .counter) (l .tables) 
   pub absent : placeOf 52 (l .tables .lanes) own ≡ Nothing → refusing l (LaneAbsent own) ≡ step tol (O.SplitLane own at neighbors) l
   absent e = refused (LaneAbsent own) (split-absent tol next own at neighbors (l .tables) e)
 
-  module _ (i : ℕ) (ei : placeOf 52 (l .tables .lanes) own ≡ At i) where
-    pub unplaced : (r : Refusal) → placed (tol .piece) (l .tables .coordinates) (l .tables .lanes) (l .tables .boundaries) i at ≡ P.Refused r → refusing l r ≡ step tol (O.SplitLane own at neighbors) l
-    unplaced r e = refused r (split-unplaced tol next own at neighbors (l .tables) i ei r e)
+  module _ (i : ℕ) (ei : placeOf 52 (l .tables .lanes) own ≡ At i) (x : Placed) (xe : x ≡ placed (tol .piece) (l .tables .coordinates) (l .tables .lanes) (l .tables .boundaries) i at) where
+    pub unplaced : (r : Refusal) → x ≡ P.Refused r → refusing l r ≡ step tol (O.SplitLane own at neighbors) l
+    unplaced r e = refused r (split-unplaced tol next own at neighbors (l .tables) i ei r (sym xe ∙ e))
 
     -- the cut is placed
-    module _ (small : l .counter < 2 ^ 64) (k : Cut) (ek : placed (tol .piece) (l .tables .coordinates) (l .tables .lanes) (l .tables .boundaries) i at ≡ P.At k) where
+    module _ (small : l .counter < 2 ^ 64) (k : Cut) (told-at : x ≡ P.At k) where
+      ek : placed (tol .piece) (l .tables .coordinates) (l .tables .lanes) (l .tables .boundaries) i at ≡ P.At k
+      ek = sym xe ∙ told-at
+
       abbrev tt : Tables
       tt = l .tables
 
@@ -157,13 +175,6 @@ module _ (tol : Tolerance) (l : Lent) (h : soundTables (l .counter) (l .tables) 
       few : word 0 (l .tables .lanes) ≤ 1024
       few = lanes-few (l .tables .lanes) (known .lanes)
 
-      seen-many : length seen ≡ 1024
-      seen-many =
-          let g = groupMarks (tt .lanes) i neighbors in
-          let n : length g ≡ word 0 (tt .lanes) =
-          length-map (idsOf (tt .lanes)) (λ j. has j (groupOf (laneMap (tt .lanes)) (word 0 (rowAt 52 (tt .lanes) i)) neighbors)) ∙ length-keys 52 (word 0 (tt .lanes)) (drop 1 (tt .lanes)) in
-          length-over (replicate 1024 false) 0 g (omega (arith, n, few, length-replicate 1024 false)) ∙ length-replicate 1024 false
-
       -- all of the group have stations
       module _ (n : ℕ) (en : planned tol own k seen tt ≡ L.Of n) where
         all-stations : (ss : List Float) × (allOf stationOf marked ≡ E.yield ss) × (length ss ≡ n)
@@ -174,17 +185,17 @@ module _ (tol : Tolerance) (l : Lent) (h : soundTables (l .counter) (l .tables) 
             go (E.yield ss) p e = (ss, p, cc)
 
         each : Each stationOf marked (all-stations .0)
-        each = all-each stationOf marked (all-stations .0) (all-stations .1 .0)
+        each = all-each stationOf marked (all-stations .0) (all-stations .1)
 
         good : goodOf stationOf marked ≡ all-stations .0
         unfolding goodOf
         good = sym (ap (goodOf stationOf) (append-nil marked)) ∙ (each-good stationOf each [] ∙ append-nil (all-stations .0))
 
         stations-many : length stations ≡ n
-        stations-many = ap length good ∙ all-stations .1 .1
+        stations-many = ap length good ∙ all-stations .2
 
         marked-many : length marked ≡ n
-        marked-many = sym (each-length stationOf each) ∙ all-stations .1 .1
+        marked-many = sym (each-length stationOf each) ∙ all-stations .2
 
         cut-many : length cut ≡ n
         cut-many = length-map (take (length stations) marked) (word 0) ∙ (length-take-le (length stations) marked (omega (arith, stations-many, marked-many)) ∙ stations-many)
@@ -200,7 +211,7 @@ module _ (tol : Tolerance) (l : Lent) (h : soundTables (l .counter) (l .tables) 
           abbrev ps : List LanePlan
           ps = plansIn (l .tables) (k .point) seen stations
 
-          all-planned : Planned tol (l .counter) tt own (k .point) seen cut stations
+          abbrev all-planned : Planned tol (l .counter) tt own (k .point) seen cut stations
           all-planned =
               let p = plans in
               record {
@@ -221,6 +232,9 @@ module _ (tol : Tolerance) (l : Lent) (h : soundTables (l .counter) (l .tables) 
           abbrev done : E.Edited
           done = splitOf tol (l .counter) (l .tables) own (k .point) seen cut stations
 
+          abbrev fit : Bool
+          fit = fitsRoom (roomOf tt) (done .result) && O.fitsLists (listsOf l) (done .changes)
+
           made : split-lane tol (nextId (l .counter)) own at neighbors (view (l .tables)) ≡ E.yield done
           unfolding splitOf
           made = plans .made ∙ three (group-is all-planned) (plans .by-stations) (sym (pieces-same all-planned))
@@ -235,9 +249,6 @@ module _ (tol : Tolerance) (l : Lent) (h : soundTables (l .counter) (l .tables) 
           unfolding splitEnds
           accepted = go (leb (O.counterAfter (l .counter) (done .ids)) lastCounter) refl
             where
-              abbrev fit : Bool
-              fit = fitsRoom (roomOf tt) (done .result) && O.fitsLists (listsOf l) (done .changes)
-
               go : (x : Bool) → leb (O.counterAfter (l .counter) (done .ids)) lastCounter ≡ x → cond x (cond fit (written l done) (refusing l NoRoom)) (refusing l NoIds) ≡ step tol (O.SplitLane own at neighbors) l
               go false q = step-exhausted tol (O.SplitLane own at neighbors) l h done yields q
               go true q = sym (step-decided tol (O.SplitLane own at neighbors) l h done yields q)
@@ -266,5 +277,5 @@ module _ (tol : Tolerance) (l : Lent) (h : soundTables (l .counter) (l .tables) 
             rows = few;
             drawable = known .drawable;
             stationed = λ n en.
-                (cut-many n en, stations-many n en, n-few n en, record { drawable = known .drawable; marks = omega (arith, few, seen-many); planned = λ ex. all-planned n en ex });
+                (cut-many n en, (stations-many n en, (n-few n en, record { drawable = known .drawable; marks = omega (arith, few, seen-long i neighbors tt few); planned = λ ex. all-planned n en ex })));
           }
