@@ -311,8 +311,15 @@ module _ {tol : Tolerance} {counter : ℕ} {t : Tables} {own : ℕ} {stations : 
     created-many =
         let ls = refs LaneKind (upFrom (nextId counter + ids) (length (k .cut))) in
         let bs = refs BoundaryKind (upFrom (nextId counter) ids) in
-        omega (arith, ap length (L.created-is h), length-append ls bs, as-many LaneKind (upFrom (nextId counter + ids) (length (k .cut))), as-many BoundaryKind (upFrom (nextId counter) ids), length-up (nextId counter + ids) (length (k .cut)),
-          length-up (nextId counter) ids)
+        omega (
+          arith,
+          ap length (L.created-is h),
+          length-append ls bs,
+          as-many LaneKind (upFrom (nextId counter + ids) (length (k .cut))),
+          as-many BoundaryKind (upFrom (nextId counter) ids),
+          length-up (nextId counter + ids) (length (k .cut)),
+          length-up (nextId counter) ids,
+        )
       where
         as-many : (kind : EntityKind) (is : List ℕ) → length (refs kind is) ≡ length is
         as-many kind is = length-map {B = EntityRef} is (λ i. record { kind = kind; id = i })
