@@ -8,336 +8,297 @@ use Rattle.edit.proofs.disconnect.Reads as disconnect-reads
 use Rattle.edit.proofs.set_neighbor.Reads as set-neighbor-reads
 use Rattle.edit_lane.proofs.remove_lane.Reads as remove-lane-reads
 use Rattle.edit_merge.proofs.merge_lanes.Reads as merge-lanes-reads
+use Rattle.edit_split.proofs.split_lane.Reads as split-lane-reads
 use Rattle.step.specs.Step.{lentOf}
-use Rattle.rules.specs.Ops as O
-use Rattle.ops.proofs.Applies.{not-yet, made, made-as}
-use mathlib.Core.Path.{_≡_, refl, sym, ap, _∙_}
-use Rattle.ops.specs.Applying.{InCode}
+use Rattle.ops.proofs.Applies.{made, made-as}
+use mathlib.Core.Path.{refl}
 
--- src/lib.rt:39:30
-enum-told : tie.Need-enum-told
-enum-told c = search needs
-
--- src/lib.rt:40:31
 enum-known-command : tie.Need-enum-known-command
 enum-known-command c = search needs
 
--- src/lib.rt:40:50
-merge-lanes-requires : tie.Need-merge-lanes-requires
-merge-lanes-requires c κs = search needs
+split-lane-requires : tie.Need-split-lane-requires
+split-lane-requires c κs = search needs
 
--- src/lib.rt:58:33
 enum-known-command-2 : tie.Need-enum-known-command-2
 enum-known-command-2 c = search needs
 
--- src/lib.rt:58:47
-connect-requires : tie.Need-connect-requires
-connect-requires c κs = search needs
+merge-lanes-requires : tie.Need-merge-lanes-requires
+merge-lanes-requires c κs = search needs
 
--- src/lib.rt:76:36
 enum-known-command-3 : tie.Need-enum-known-command-3
 enum-known-command-3 c = search needs
 
--- src/lib.rt:76:50
-disconnect-requires : tie.Need-disconnect-requires
-disconnect-requires c κs = search needs
+connect-requires : tie.Need-connect-requires
+connect-requires c κs = search needs
 
--- src/lib.rt:95:13
 enum-known-command-4 : tie.Need-enum-known-command-4
 enum-known-command-4 c = search needs
 
--- src/lib.rt:98:14
-set-neighbor-requires : tie.Need-set-neighbor-requires
-set-neighbor-requires c κs = search needs
+disconnect-requires : tie.Need-disconnect-requires
+disconnect-requires c κs = search needs
 
--- src/lib.rt:117:31
 enum-known-command-5 : tie.Need-enum-known-command-5
 enum-known-command-5 c = search needs
 
--- src/lib.rt:117:41
+set-neighbor-requires : tie.Need-set-neighbor-requires
+set-neighbor-requires c κs = search needs
+
+enum-known-command-6 : tie.Need-enum-known-command-6
+enum-known-command-6 c = search needs
+
 remove-lane-requires : tie.Need-remove-lane-requires
 remove-lane-requires c κs = search needs
 
--- src/lib.rt:14:1
-returns : tie.Need-returns
-returns c = let s = c .before .before .before .before .before .before .before .before .before .before .before .before .before .before in not-yet (s .args .tolerance) (lentOf (s .args .counter) (s .args .lanes .now) (s .args .boundaries .now) (s .args .roads .now) (s .args .junctions .now) (s .args .rules .now) (s .args .stop-lines .now) (s .args .crosswalks .now) (s .args .coordinates .now) (s .args .created .now) (s .args .modified .now) (s .args .deleted .now) (s .args .warnings .now)) (s .args .command) (ap InCode (c .enum-told .given .1)) (s .pre)
-
--- src/lib.rt:14:1
 same-length : tie.Need-same-length
-same-length c = c .before .before .before .before .before .before .before .before .before .before .before .before .before .before .before .before .before .before .before .before .before .before .before .before .merge-lanes .kept .1 .1 .0
+same-length c = c .before .before .before .before .before .before .before .before .before .before .before .before .before .before .before .before .before .before .before .before .before .before .before .before .split-lane .kept .1 .1 .0
 
--- src/lib.rt:14:1
 same-length-2 : tie.Need-same-length-2
-same-length-2 c = c .before .before .before .before .before .before .before .before .before .before .before .before .before .before .before .before .before .before .before .before .before .before .before .before .merge-lanes .kept .1 .1 .1 .0
+same-length-2 c = c .before .before .before .before .before .before .before .before .before .before .before .before .before .before .before .before .before .before .before .before .before .before .before .before .split-lane .kept .1 .1 .1 .0
 
--- src/lib.rt:14:1
 same-length-3 : tie.Need-same-length-3
-same-length-3 c = c .before .before .before .before .before .before .before .before .before .before .before .before .before .before .before .before .before .before .before .before .before .before .before .before .merge-lanes .kept .1 .1 .1 .1 .0
+same-length-3 c = c .before .before .before .before .before .before .before .before .before .before .before .before .before .before .before .before .before .before .before .before .before .before .before .before .split-lane .kept .1 .1 .1 .1 .0
 
--- src/lib.rt:14:1
 same-length-4 : tie.Need-same-length-4
-same-length-4 c = c .before .before .before .before .before .before .before .before .before .before .before .before .before .before .before .before .before .before .before .before .before .before .before .before .merge-lanes .kept .1 .1 .1 .1 .1 .0
+same-length-4 c = c .before .before .before .before .before .before .before .before .before .before .before .before .before .before .before .before .before .before .before .before .before .before .before .before .split-lane .kept .1 .1 .1 .1 .1 .0
 
--- src/lib.rt:14:1
 same-length-5 : tie.Need-same-length-5
-same-length-5 c = c .before .before .before .before .before .before .before .before .before .before .before .before .before .before .before .before .before .before .before .before .before .before .before .before .merge-lanes .kept .1 .1 .1 .1 .1 .1 .0
+same-length-5 c = c .before .before .before .before .before .before .before .before .before .before .before .before .before .before .before .before .before .before .before .before .before .before .before .before .split-lane .kept .1 .1 .1 .1 .1 .1 .0
 
--- src/lib.rt:14:1
 same-length-6 : tie.Need-same-length-6
-same-length-6 c = c .before .before .before .before .before .before .before .before .before .before .before .before .before .before .before .before .before .before .before .before .before .before .before .before .merge-lanes .kept .1 .1 .1 .1 .1 .1 .1 .0
+same-length-6 c = c .before .before .before .before .before .before .before .before .before .before .before .before .before .before .before .before .before .before .before .before .before .before .before .before .split-lane .kept .1 .1 .1 .1 .1 .1 .1 .0
 
--- src/lib.rt:14:1
 same-length-7 : tie.Need-same-length-7
-same-length-7 c = c .before .before .before .before .before .before .before .before .before .before .before .before .before .before .before .before .before .before .before .before .before .before .before .before .merge-lanes .kept .1 .1 .1 .1 .1 .1 .1 .1 .0
+same-length-7 c = c .before .before .before .before .before .before .before .before .before .before .before .before .before .before .before .before .before .before .before .before .before .before .before .before .split-lane .kept .1 .1 .1 .1 .1 .1 .1 .1 .0
 
--- src/lib.rt:14:1
 same-length-8 : tie.Need-same-length-8
-same-length-8 c = c .before .before .before .before .before .before .before .before .before .before .before .before .before .before .before .before .before .before .before .before .before .before .before .before .merge-lanes .kept .1 .1 .1 .1 .1 .1 .1 .1 .1 .0
+same-length-8 c = c .before .before .before .before .before .before .before .before .before .before .before .before .before .before .before .before .before .before .before .before .before .before .before .before .split-lane .kept .1 .1 .1 .1 .1 .1 .1 .1 .1 .0
 
--- src/lib.rt:14:1
 same-length-9 : tie.Need-same-length-9
-same-length-9 c = c .before .before .before .before .before .before .before .before .before .before .before .before .before .before .before .before .before .before .before .before .before .before .before .before .merge-lanes .kept .1 .1 .1 .1 .1 .1 .1 .1 .1 .1 .1 .1 .0
+same-length-9 c = c .before .before .before .before .before .before .before .before .before .before .before .before .before .before .before .before .before .before .before .before .before .before .before .before .split-lane .kept .1 .1 .1 .1 .1 .1 .1 .1 .1 .1 .1 .1 .1 .0
 
--- src/lib.rt:14:1
 same-length-10 : tie.Need-same-length-10
-same-length-10 c = c .before .before .before .before .before .before .before .before .before .before .before .before .before .before .before .before .before .before .before .before .before .before .before .before .merge-lanes .kept .1 .1 .1 .1 .1 .1 .1 .1 .1 .1 .1 .1 .1 .0
+same-length-10 c = c .before .before .before .before .before .before .before .before .before .before .before .before .before .before .before .before .before .before .before .before .before .before .before .before .split-lane .kept .1 .1 .1 .1 .1 .1 .1 .1 .1 .1 .1 .1 .1 .1 .0
 
--- src/lib.rt:14:1
 same-length-11 : tie.Need-same-length-11
-same-length-11 c = c .before .before .before .before .before .before .before .before .before .before .before .before .before .before .before .before .before .before .before .before .before .before .before .before .merge-lanes .kept .1 .1 .1 .1 .1 .1 .1 .1 .1 .1 .1 .1 .1 .1 .0
+same-length-11 c = c .before .before .before .before .before .before .before .before .before .before .before .before .before .before .before .before .before .before .before .before .before .before .before .before .split-lane .kept .1 .1 .1 .1 .1 .1 .1 .1 .1 .1 .1 .1 .1 .1 .1 .0
 
--- src/lib.rt:14:1
 same-length-12 : tie.Need-same-length-12
-same-length-12 c = c .before .before .before .before .before .before .before .before .before .before .before .before .before .before .before .before .before .before .before .before .before .before .before .before .merge-lanes .kept .1 .1 .1 .1 .1 .1 .1 .1 .1 .1 .1 .1 .1 .1 .1 .0
+same-length-12 c = c .before .before .before .before .before .before .before .before .before .before .before .before .before .before .before .before .before .before .before .before .before .before .before .before .split-lane .kept .1 .1 .1 .1 .1 .1 .1 .1 .1 .1 .1 .1 .1 .1 .1 .1 .0
 
--- src/lib.rt:14:1
-returns-2 : tie.Need-returns-2
-returns-2 c = let s = c .before .before .before .before .before .before .before .before .before .before .before .before .before .before .before .before .before .before .before .before .before .before .before .before .before .before .before .before .before .before .before .before .before .before .before .before .before .before .before .before .before .before .before .before .before .before .before .before .before .before .before .before in made-as (s .args .tolerance) (lentOf (s .args .counter) (s .args .lanes .now) (s .args .boundaries .now) (s .args .roads .now) (s .args .junctions .now) (s .args .rules .now) (s .args .stop-lines .now) (s .args .crosswalks .now) (s .args .coordinates .now) (s .args .created .now) (s .args .modified .now) (s .args .deleted .now) (s .args .warnings .now)) (s .args .command) _ _ (c .before .before .before .before .before .before .before .before .before .before .before .before .before .before .before .before .before .before .before .before .before .before .before .before .before .before .before .before .before .before .before .before .before .before .before .before .before .before .command .given .1) refl (c .before .before .before .before .before .before .before .before .before .before .before .before .before .before .before .before .before .before .before .before .before .before .before .before .merge-lanes .ensures)
+returns : tie.Need-returns
+returns c = made-as (c .before .before .before .before .before .before .before .before .before .before .before .before .before .before .before .before .before .before .before .before .before .before .before .before .before .before .before .before .before .before .before .before .before .before .before .before .before .before .before .before .before .before .before .before .before .before .before .before .before .before .before .before .args .tolerance) (lentOf (c .before .before .before .before .before .before .before .before .before .before .before .before .before .before .before .before .before .before .before .before .before .before .before .before .before .before .before .before .before .before .before .before .before .before .before .before .before .before .before .before .before .before .before .before .before .before .before .before .before .before .before .before .args .counter) (c .before .before .before .before .before .before .before .before .before .before .before .before .before .before .before .before .before .before .before .before .before .before .before .before .before .before .before .before .before .before .before .before .before .before .before .before .before .before .before .before .before .before .before .before .before .before .before .before .before .before .before .before .args .lanes .now) (c .before .before .before .before .before .before .before .before .before .before .before .before .before .before .before .before .before .before .before .before .before .before .before .before .before .before .before .before .before .before .before .before .before .before .before .before .before .before .before .before .before .before .before .before .before .before .before .before .before .before .before .before .args .boundaries .now) (c .before .before .before .before .before .before .before .before .before .before .before .before .before .before .before .before .before .before .before .before .before .before .before .before .before .before .before .before .before .before .before .before .before .before .before .before .before .before .before .before .before .before .before .before .before .before .before .before .before .before .before .before .args .roads .now) (c .before .before .before .before .before .before .before .before .before .before .before .before .before .before .before .before .before .before .before .before .before .before .before .before .before .before .before .before .before .before .before .before .before .before .before .before .before .before .before .before .before .before .before .before .before .before .before .before .before .before .before .before .args .junctions .now) (c .before .before .before .before .before .before .before .before .before .before .before .before .before .before .before .before .before .before .before .before .before .before .before .before .before .before .before .before .before .before .before .before .before .before .before .before .before .before .before .before .before .before .before .before .before .before .before .before .before .before .before .before .args .rules .now) (c .before .before .before .before .before .before .before .before .before .before .before .before .before .before .before .before .before .before .before .before .before .before .before .before .before .before .before .before .before .before .before .before .before .before .before .before .before .before .before .before .before .before .before .before .before .before .before .before .before .before .before .before .args .stop-lines .now) (c .before .before .before .before .before .before .before .before .before .before .before .before .before .before .before .before .before .before .before .before .before .before .before .before .before .before .before .before .before .before .before .before .before .before .before .before .before .before .before .before .before .before .before .before .before .before .before .before .before .before .before .before .args .crosswalks .now) (c .before .before .before .before .before .before .before .before .before .before .before .before .before .before .before .before .before .before .before .before .before .before .before .before .before .before .before .before .before .before .before .before .before .before .before .before .before .before .before .before .before .before .before .before .before .before .before .before .before .before .before .before .args .coordinates .now) (c .before .before .before .before .before .before .before .before .before .before .before .before .before .before .before .before .before .before .before .before .before .before .before .before .before .before .before .before .before .before .before .before .before .before .before .before .before .before .before .before .before .before .before .before .before .before .before .before .before .before .before .before .args .created .now) (c .before .before .before .before .before .before .before .before .before .before .before .before .before .before .before .before .before .before .before .before .before .before .before .before .before .before .before .before .before .before .before .before .before .before .before .before .before .before .before .before .before .before .before .before .before .before .before .before .before .before .before .before .args .modified .now) (c .before .before .before .before .before .before .before .before .before .before .before .before .before .before .before .before .before .before .before .before .before .before .before .before .before .before .before .before .before .before .before .before .before .before .before .before .before .before .before .before .before .before .before .before .before .before .before .before .before .before .before .before .args .deleted .now) (c .before .before .before .before .before .before .before .before .before .before .before .before .before .before .before .before .before .before .before .before .before .before .before .before .before .before .before .before .before .before .before .before .before .before .before .before .before .before .before .before .before .before .before .before .before .before .before .before .before .before .before .before .args .warnings .now)) (c .before .before .before .before .before .before .before .before .before .before .before .before .before .before .before .before .before .before .before .before .before .before .before .before .before .before .before .before .before .before .before .before .before .before .before .before .before .before .before .before .before .before .before .before .before .before .before .before .before .before .before .before .args .command) _ _ (c .before .before .before .before .before .before .before .before .before .before .before .before .before .before .before .before .before .before .before .before .before .before .before .before .before .before .before .before .before .before .before .before .before .before .before .before .before .before .command .given .1) (c .before .before .before .before .before .before .before .before .before .before .before .before .before .before .before .before .before .before .before .before .before .before .before .before .split-lane .ensures)
 
--- src/lib.rt:14:1
 same-length-13 : tie.Need-same-length-13
-same-length-13 c = c .before .before .before .before .before .before .connect .kept .1 .1 .0
+same-length-13 c = c .before .before .before .before .before .before .before .before .before .before .before .before .before .before .before .before .before .before .before .before .before .before .before .before .merge-lanes .kept .1 .1 .0
 
--- src/lib.rt:14:1
 same-length-14 : tie.Need-same-length-14
-same-length-14 c = refl
+same-length-14 c = c .before .before .before .before .before .before .before .before .before .before .before .before .before .before .before .before .before .before .before .before .before .before .before .before .merge-lanes .kept .1 .1 .1 .0
 
--- src/lib.rt:14:1
 same-length-15 : tie.Need-same-length-15
-same-length-15 c = refl
+same-length-15 c = c .before .before .before .before .before .before .before .before .before .before .before .before .before .before .before .before .before .before .before .before .before .before .before .before .merge-lanes .kept .1 .1 .1 .1 .0
 
--- src/lib.rt:14:1
 same-length-16 : tie.Need-same-length-16
-same-length-16 c = refl
+same-length-16 c = c .before .before .before .before .before .before .before .before .before .before .before .before .before .before .before .before .before .before .before .before .before .before .before .before .merge-lanes .kept .1 .1 .1 .1 .1 .0
 
--- src/lib.rt:14:1
 same-length-17 : tie.Need-same-length-17
-same-length-17 c = refl
+same-length-17 c = c .before .before .before .before .before .before .before .before .before .before .before .before .before .before .before .before .before .before .before .before .before .before .before .before .merge-lanes .kept .1 .1 .1 .1 .1 .1 .0
 
--- src/lib.rt:14:1
 same-length-18 : tie.Need-same-length-18
-same-length-18 c = refl
+same-length-18 c = c .before .before .before .before .before .before .before .before .before .before .before .before .before .before .before .before .before .before .before .before .before .before .before .before .merge-lanes .kept .1 .1 .1 .1 .1 .1 .1 .0
 
--- src/lib.rt:14:1
 same-length-19 : tie.Need-same-length-19
-same-length-19 c = refl
+same-length-19 c = c .before .before .before .before .before .before .before .before .before .before .before .before .before .before .before .before .before .before .before .before .before .before .before .before .merge-lanes .kept .1 .1 .1 .1 .1 .1 .1 .1 .0
 
--- src/lib.rt:14:1
 same-length-20 : tie.Need-same-length-20
-same-length-20 c = refl
+same-length-20 c = c .before .before .before .before .before .before .before .before .before .before .before .before .before .before .before .before .before .before .before .before .before .before .before .before .merge-lanes .kept .1 .1 .1 .1 .1 .1 .1 .1 .1 .0
 
--- src/lib.rt:14:1
 same-length-21 : tie.Need-same-length-21
-same-length-21 c = refl
+same-length-21 c = c .before .before .before .before .before .before .before .before .before .before .before .before .before .before .before .before .before .before .before .before .before .before .before .before .merge-lanes .kept .1 .1 .1 .1 .1 .1 .1 .1 .1 .1 .1 .1 .0
 
--- src/lib.rt:14:1
 same-length-22 : tie.Need-same-length-22
-same-length-22 c = c .before .before .before .before .before .before .connect .kept .1 .1 .1 .1 .1 .1 .1 .1 .1 .1 .1 .1 .1 .0
+same-length-22 c = c .before .before .before .before .before .before .before .before .before .before .before .before .before .before .before .before .before .before .before .before .before .before .before .before .merge-lanes .kept .1 .1 .1 .1 .1 .1 .1 .1 .1 .1 .1 .1 .1 .0
 
--- src/lib.rt:14:1
 same-length-23 : tie.Need-same-length-23
-same-length-23 c = refl
+same-length-23 c = c .before .before .before .before .before .before .before .before .before .before .before .before .before .before .before .before .before .before .before .before .before .before .before .before .merge-lanes .kept .1 .1 .1 .1 .1 .1 .1 .1 .1 .1 .1 .1 .1 .1 .0
 
--- src/lib.rt:14:1
 same-length-24 : tie.Need-same-length-24
-same-length-24 c = c .before .before .before .before .before .before .connect .kept .1 .1 .1 .1 .1 .1 .1 .1 .1 .1 .1 .1 .1 .1 .1 .0
+same-length-24 c = c .before .before .before .before .before .before .before .before .before .before .before .before .before .before .before .before .before .before .before .before .before .before .before .before .merge-lanes .kept .1 .1 .1 .1 .1 .1 .1 .1 .1 .1 .1 .1 .1 .1 .1 .0
 
--- src/lib.rt:14:1
-returns-3 : tie.Need-returns-3
-returns-3 c = let s = c .before .before .before .before .before .before .before .before .before .before .before .before .before .before .before .before .before .before .before .before .before .before .before .before .before .before .before .before .before .before .before .before .before .before in made (s .args .tolerance) (lentOf (s .args .counter) (s .args .lanes .now) (s .args .boundaries .now) (s .args .roads .now) (s .args .junctions .now) (s .args .rules .now) (s .args .stop-lines .now) (s .args .crosswalks .now) (s .args .coordinates .now) (s .args .created .now) (s .args .modified .now) (s .args .deleted .now) (s .args .warnings .now)) (s .args .command) _ _ (c .before .before .before .before .before .before .connect .result) (c .before .before .before .before .before .before .before .before .before .before .before .before .before .before .before .before .before .before .before .before .command2 .given .1) refl (c .before .before .before .before .before .before .connect .ensures)
+returns-2 : tie.Need-returns-2
+returns-2 c = made-as (c .before .before .before .before .before .before .before .before .before .before .before .before .before .before .before .before .before .before .before .before .before .before .before .before .before .before .before .before .before .before .before .before .before .before .before .before .before .before .before .before .before .before .before .before .before .before .before .before .before .before .before .before .args .tolerance) (lentOf (c .before .before .before .before .before .before .before .before .before .before .before .before .before .before .before .before .before .before .before .before .before .before .before .before .before .before .before .before .before .before .before .before .before .before .before .before .before .before .before .before .before .before .before .before .before .before .before .before .before .before .before .before .args .counter) (c .before .before .before .before .before .before .before .before .before .before .before .before .before .before .before .before .before .before .before .before .before .before .before .before .before .before .before .before .before .before .before .before .before .before .before .before .before .before .before .before .before .before .before .before .before .before .before .before .before .before .before .before .args .lanes .now) (c .before .before .before .before .before .before .before .before .before .before .before .before .before .before .before .before .before .before .before .before .before .before .before .before .before .before .before .before .before .before .before .before .before .before .before .before .before .before .before .before .before .before .before .before .before .before .before .before .before .before .before .before .args .boundaries .now) (c .before .before .before .before .before .before .before .before .before .before .before .before .before .before .before .before .before .before .before .before .before .before .before .before .before .before .before .before .before .before .before .before .before .before .before .before .before .before .before .before .before .before .before .before .before .before .before .before .before .before .before .before .args .roads .now) (c .before .before .before .before .before .before .before .before .before .before .before .before .before .before .before .before .before .before .before .before .before .before .before .before .before .before .before .before .before .before .before .before .before .before .before .before .before .before .before .before .before .before .before .before .before .before .before .before .before .before .before .before .args .junctions .now) (c .before .before .before .before .before .before .before .before .before .before .before .before .before .before .before .before .before .before .before .before .before .before .before .before .before .before .before .before .before .before .before .before .before .before .before .before .before .before .before .before .before .before .before .before .before .before .before .before .before .before .before .before .args .rules .now) (c .before .before .before .before .before .before .before .before .before .before .before .before .before .before .before .before .before .before .before .before .before .before .before .before .before .before .before .before .before .before .before .before .before .before .before .before .before .before .before .before .before .before .before .before .before .before .before .before .before .before .before .before .args .stop-lines .now) (c .before .before .before .before .before .before .before .before .before .before .before .before .before .before .before .before .before .before .before .before .before .before .before .before .before .before .before .before .before .before .before .before .before .before .before .before .before .before .before .before .before .before .before .before .before .before .before .before .before .before .before .before .args .crosswalks .now) (c .before .before .before .before .before .before .before .before .before .before .before .before .before .before .before .before .before .before .before .before .before .before .before .before .before .before .before .before .before .before .before .before .before .before .before .before .before .before .before .before .before .before .before .before .before .before .before .before .before .before .before .before .args .coordinates .now) (c .before .before .before .before .before .before .before .before .before .before .before .before .before .before .before .before .before .before .before .before .before .before .before .before .before .before .before .before .before .before .before .before .before .before .before .before .before .before .before .before .before .before .before .before .before .before .before .before .before .before .before .before .args .created .now) (c .before .before .before .before .before .before .before .before .before .before .before .before .before .before .before .before .before .before .before .before .before .before .before .before .before .before .before .before .before .before .before .before .before .before .before .before .before .before .before .before .before .before .before .before .before .before .before .before .before .before .before .before .args .modified .now) (c .before .before .before .before .before .before .before .before .before .before .before .before .before .before .before .before .before .before .before .before .before .before .before .before .before .before .before .before .before .before .before .before .before .before .before .before .before .before .before .before .before .before .before .before .before .before .before .before .before .before .before .before .args .deleted .now) (c .before .before .before .before .before .before .before .before .before .before .before .before .before .before .before .before .before .before .before .before .before .before .before .before .before .before .before .before .before .before .before .before .before .before .before .before .before .before .before .before .before .before .before .before .before .before .before .before .before .before .before .before .args .warnings .now)) (c .before .before .before .before .before .before .before .before .before .before .before .before .before .before .before .before .before .before .before .before .before .before .before .before .before .before .before .before .before .before .before .before .before .before .before .before .before .before .before .before .before .before .before .before .before .before .before .before .before .before .before .before .args .command) _ _ (c .before .before .before .before .before .before .before .before .before .before .before .before .before .before .before .before .before .before .before .before .before .before .before .before .before .before .before .before .before .before .before .before .before .before .before .before .before .before .command2 .given .1) (c .before .before .before .before .before .before .before .before .before .before .before .before .before .before .before .before .before .before .before .before .before .before .before .before .merge-lanes .ensures)
 
--- src/lib.rt:14:1
 same-length-25 : tie.Need-same-length-25
-same-length-25 c = c .before .before .before .before .before .before .disconnect .kept .1 .1 .0
+same-length-25 c = c .before .before .before .before .before .before .connect .kept .1 .1 .0
 
--- src/lib.rt:14:1
 same-length-26 : tie.Need-same-length-26
 same-length-26 c = refl
 
--- src/lib.rt:14:1
 same-length-27 : tie.Need-same-length-27
 same-length-27 c = refl
 
--- src/lib.rt:14:1
 same-length-28 : tie.Need-same-length-28
 same-length-28 c = refl
 
--- src/lib.rt:14:1
 same-length-29 : tie.Need-same-length-29
 same-length-29 c = refl
 
--- src/lib.rt:14:1
 same-length-30 : tie.Need-same-length-30
 same-length-30 c = refl
 
--- src/lib.rt:14:1
 same-length-31 : tie.Need-same-length-31
 same-length-31 c = refl
 
--- src/lib.rt:14:1
 same-length-32 : tie.Need-same-length-32
 same-length-32 c = refl
 
--- src/lib.rt:14:1
 same-length-33 : tie.Need-same-length-33
 same-length-33 c = refl
 
--- src/lib.rt:14:1
 same-length-34 : tie.Need-same-length-34
-same-length-34 c = c .before .before .before .before .before .before .disconnect .kept .1 .1 .1 .1 .1 .1 .1 .1 .1 .1 .1 .1 .1 .0
+same-length-34 c = c .before .before .before .before .before .before .connect .kept .1 .1 .1 .1 .1 .1 .1 .1 .1 .1 .1 .1 .1 .0
 
--- src/lib.rt:14:1
 same-length-35 : tie.Need-same-length-35
 same-length-35 c = refl
 
--- src/lib.rt:14:1
 same-length-36 : tie.Need-same-length-36
-same-length-36 c = c .before .before .before .before .before .before .disconnect .kept .1 .1 .1 .1 .1 .1 .1 .1 .1 .1 .1 .1 .1 .1 .1 .0
+same-length-36 c = c .before .before .before .before .before .before .connect .kept .1 .1 .1 .1 .1 .1 .1 .1 .1 .1 .1 .1 .1 .1 .1 .0
 
--- src/lib.rt:14:1
-returns-4 : tie.Need-returns-4
-returns-4 c = let s = c .before .before .before .before .before .before .before .before .before .before .before .before .before .before .before .before .before .before .before .before .before .before .before .before .before .before .before .before .before .before .before .before .before .before in made (s .args .tolerance) (lentOf (s .args .counter) (s .args .lanes .now) (s .args .boundaries .now) (s .args .roads .now) (s .args .junctions .now) (s .args .rules .now) (s .args .stop-lines .now) (s .args .crosswalks .now) (s .args .coordinates .now) (s .args .created .now) (s .args .modified .now) (s .args .deleted .now) (s .args .warnings .now)) (s .args .command) _ _ (c .before .before .before .before .before .before .disconnect .result) (c .before .before .before .before .before .before .before .before .before .before .before .before .before .before .before .before .before .before .before .before .command3 .given .1) refl (c .before .before .before .before .before .before .disconnect .ensures)
+returns-3 : tie.Need-returns-3
+returns-3 c = made (c .before .before .before .before .before .before .before .before .before .before .before .before .before .before .before .before .before .before .before .before .before .before .before .before .before .before .before .before .before .before .before .before .before .before .args .tolerance) (lentOf (c .before .before .before .before .before .before .before .before .before .before .before .before .before .before .before .before .before .before .before .before .before .before .before .before .before .before .before .before .before .before .before .before .before .before .args .counter) (c .before .before .before .before .before .before .before .before .before .before .before .before .before .before .before .before .before .before .before .before .before .before .before .before .before .before .before .before .before .before .before .before .before .before .args .lanes .now) (c .before .before .before .before .before .before .before .before .before .before .before .before .before .before .before .before .before .before .before .before .before .before .before .before .before .before .before .before .before .before .before .before .before .before .args .boundaries .now) (c .before .before .before .before .before .before .before .before .before .before .before .before .before .before .before .before .before .before .before .before .before .before .before .before .before .before .before .before .before .before .before .before .before .before .args .roads .now) (c .before .before .before .before .before .before .before .before .before .before .before .before .before .before .before .before .before .before .before .before .before .before .before .before .before .before .before .before .before .before .before .before .before .before .args .junctions .now) (c .before .before .before .before .before .before .before .before .before .before .before .before .before .before .before .before .before .before .before .before .before .before .before .before .before .before .before .before .before .before .before .before .before .before .args .rules .now) (c .before .before .before .before .before .before .before .before .before .before .before .before .before .before .before .before .before .before .before .before .before .before .before .before .before .before .before .before .before .before .before .before .before .before .args .stop-lines .now) (c .before .before .before .before .before .before .before .before .before .before .before .before .before .before .before .before .before .before .before .before .before .before .before .before .before .before .before .before .before .before .before .before .before .before .args .crosswalks .now) (c .before .before .before .before .before .before .before .before .before .before .before .before .before .before .before .before .before .before .before .before .before .before .before .before .before .before .before .before .before .before .before .before .before .before .args .coordinates .now) (c .before .before .before .before .before .before .before .before .before .before .before .before .before .before .before .before .before .before .before .before .before .before .before .before .before .before .before .before .before .before .before .before .before .before .args .created .now) (c .before .before .before .before .before .before .before .before .before .before .before .before .before .before .before .before .before .before .before .before .before .before .before .before .before .before .before .before .before .before .before .before .before .before .args .modified .now) (c .before .before .before .before .before .before .before .before .before .before .before .before .before .before .before .before .before .before .before .before .before .before .before .before .before .before .before .before .before .before .before .before .before .before .args .deleted .now) (c .before .before .before .before .before .before .before .before .before .before .before .before .before .before .before .before .before .before .before .before .before .before .before .before .before .before .before .before .before .before .before .before .before .before .args .warnings .now)) (c .before .before .before .before .before .before .before .before .before .before .before .before .before .before .before .before .before .before .before .before .before .before .before .before .before .before .before .before .before .before .before .before .before .before .args .command) _ _ (c .before .before .before .before .before .before .connect .result) (c .before .before .before .before .before .before .before .before .before .before .before .before .before .before .before .before .before .before .before .before .command3 .given .1) (c .before .before .before .before .before .before .connect .ensures)
 
--- src/lib.rt:14:1
 same-length-37 : tie.Need-same-length-37
-same-length-37 c = c .before .before .before .before .before .before .set-neighbor .kept .1 .1 .0
+same-length-37 c = c .before .before .before .before .before .before .disconnect .kept .1 .1 .0
 
--- src/lib.rt:14:1
 same-length-38 : tie.Need-same-length-38
 same-length-38 c = refl
 
--- src/lib.rt:14:1
 same-length-39 : tie.Need-same-length-39
 same-length-39 c = refl
 
--- src/lib.rt:14:1
 same-length-40 : tie.Need-same-length-40
 same-length-40 c = refl
 
--- src/lib.rt:14:1
 same-length-41 : tie.Need-same-length-41
 same-length-41 c = refl
 
--- src/lib.rt:14:1
 same-length-42 : tie.Need-same-length-42
 same-length-42 c = refl
 
--- src/lib.rt:14:1
 same-length-43 : tie.Need-same-length-43
 same-length-43 c = refl
 
--- src/lib.rt:14:1
 same-length-44 : tie.Need-same-length-44
 same-length-44 c = refl
 
--- src/lib.rt:14:1
 same-length-45 : tie.Need-same-length-45
 same-length-45 c = refl
 
--- src/lib.rt:14:1
 same-length-46 : tie.Need-same-length-46
-same-length-46 c = c .before .before .before .before .before .before .set-neighbor .kept .1 .1 .1 .1 .1 .1 .1 .1 .1 .1 .1 .1 .1 .1 .0
+same-length-46 c = c .before .before .before .before .before .before .disconnect .kept .1 .1 .1 .1 .1 .1 .1 .1 .1 .1 .1 .1 .1 .0
 
--- src/lib.rt:14:1
 same-length-47 : tie.Need-same-length-47
 same-length-47 c = refl
 
--- src/lib.rt:14:1
 same-length-48 : tie.Need-same-length-48
-same-length-48 c = c .before .before .before .before .before .before .set-neighbor .kept .1 .1 .1 .1 .1 .1 .1 .1 .1 .1 .1 .1 .1 .1 .1 .1 .0
+same-length-48 c = c .before .before .before .before .before .before .disconnect .kept .1 .1 .1 .1 .1 .1 .1 .1 .1 .1 .1 .1 .1 .1 .1 .0
 
--- src/lib.rt:14:1
-returns-5 : tie.Need-returns-5
-returns-5 c = let s = c .before .before .before .before .before .before .before .before .before .before .before .before .before .before .before .before .before .before .before .before .before .before .before .before .before .before .before .before .before .before .before .before .before .before in made (s .args .tolerance) (lentOf (s .args .counter) (s .args .lanes .now) (s .args .boundaries .now) (s .args .roads .now) (s .args .junctions .now) (s .args .rules .now) (s .args .stop-lines .now) (s .args .crosswalks .now) (s .args .coordinates .now) (s .args .created .now) (s .args .modified .now) (s .args .deleted .now) (s .args .warnings .now)) (s .args .command) _ _ (c .before .before .before .before .before .before .set-neighbor .result) (c .before .before .before .before .before .before .before .before .before .before .before .before .before .before .before .before .before .before .before .before .command4 .given .1) refl (c .before .before .before .before .before .before .set-neighbor .ensures)
+returns-4 : tie.Need-returns-4
+returns-4 c = made (c .before .before .before .before .before .before .before .before .before .before .before .before .before .before .before .before .before .before .before .before .before .before .before .before .before .before .before .before .before .before .before .before .before .before .args .tolerance) (lentOf (c .before .before .before .before .before .before .before .before .before .before .before .before .before .before .before .before .before .before .before .before .before .before .before .before .before .before .before .before .before .before .before .before .before .before .args .counter) (c .before .before .before .before .before .before .before .before .before .before .before .before .before .before .before .before .before .before .before .before .before .before .before .before .before .before .before .before .before .before .before .before .before .before .args .lanes .now) (c .before .before .before .before .before .before .before .before .before .before .before .before .before .before .before .before .before .before .before .before .before .before .before .before .before .before .before .before .before .before .before .before .before .before .args .boundaries .now) (c .before .before .before .before .before .before .before .before .before .before .before .before .before .before .before .before .before .before .before .before .before .before .before .before .before .before .before .before .before .before .before .before .before .before .args .roads .now) (c .before .before .before .before .before .before .before .before .before .before .before .before .before .before .before .before .before .before .before .before .before .before .before .before .before .before .before .before .before .before .before .before .before .before .args .junctions .now) (c .before .before .before .before .before .before .before .before .before .before .before .before .before .before .before .before .before .before .before .before .before .before .before .before .before .before .before .before .before .before .before .before .before .before .args .rules .now) (c .before .before .before .before .before .before .before .before .before .before .before .before .before .before .before .before .before .before .before .before .before .before .before .before .before .before .before .before .before .before .before .before .before .before .args .stop-lines .now) (c .before .before .before .before .before .before .before .before .before .before .before .before .before .before .before .before .before .before .before .before .before .before .before .before .before .before .before .before .before .before .before .before .before .before .args .crosswalks .now) (c .before .before .before .before .before .before .before .before .before .before .before .before .before .before .before .before .before .before .before .before .before .before .before .before .before .before .before .before .before .before .before .before .before .before .args .coordinates .now) (c .before .before .before .before .before .before .before .before .before .before .before .before .before .before .before .before .before .before .before .before .before .before .before .before .before .before .before .before .before .before .before .before .before .before .args .created .now) (c .before .before .before .before .before .before .before .before .before .before .before .before .before .before .before .before .before .before .before .before .before .before .before .before .before .before .before .before .before .before .before .before .before .before .args .modified .now) (c .before .before .before .before .before .before .before .before .before .before .before .before .before .before .before .before .before .before .before .before .before .before .before .before .before .before .before .before .before .before .before .before .before .before .args .deleted .now) (c .before .before .before .before .before .before .before .before .before .before .before .before .before .before .before .before .before .before .before .before .before .before .before .before .before .before .before .before .before .before .before .before .before .before .args .warnings .now)) (c .before .before .before .before .before .before .before .before .before .before .before .before .before .before .before .before .before .before .before .before .before .before .before .before .before .before .before .before .before .before .before .before .before .before .args .command) _ _ (c .before .before .before .before .before .before .disconnect .result) (c .before .before .before .before .before .before .before .before .before .before .before .before .before .before .before .before .before .before .before .before .command4 .given .1) (c .before .before .before .before .before .before .disconnect .ensures)
 
--- src/lib.rt:14:1
 same-length-49 : tie.Need-same-length-49
-same-length-49 c = c .before .before .before .before .before .before .before .before .before .before .before .before .before .before .before .before .remove-lane .kept .1 .1 .0
+same-length-49 c = c .before .before .before .before .before .before .set-neighbor .kept .1 .1 .0
 
--- src/lib.rt:14:1
 same-length-50 : tie.Need-same-length-50
-same-length-50 c = c .before .before .before .before .before .before .before .before .before .before .before .before .before .before .before .before .remove-lane .kept .1 .1 .1 .0
+same-length-50 c = refl
 
--- src/lib.rt:14:1
 same-length-51 : tie.Need-same-length-51
-same-length-51 c = c .before .before .before .before .before .before .before .before .before .before .before .before .before .before .before .before .remove-lane .kept .1 .1 .1 .1 .0
+same-length-51 c = refl
 
--- src/lib.rt:14:1
 same-length-52 : tie.Need-same-length-52
-same-length-52 c = c .before .before .before .before .before .before .before .before .before .before .before .before .before .before .before .before .remove-lane .kept .1 .1 .1 .1 .1 .0
+same-length-52 c = refl
 
--- src/lib.rt:14:1
 same-length-53 : tie.Need-same-length-53
-same-length-53 c = c .before .before .before .before .before .before .before .before .before .before .before .before .before .before .before .before .remove-lane .kept .1 .1 .1 .1 .1 .1 .0
+same-length-53 c = refl
 
--- src/lib.rt:14:1
 same-length-54 : tie.Need-same-length-54
 same-length-54 c = refl
 
--- src/lib.rt:14:1
 same-length-55 : tie.Need-same-length-55
 same-length-55 c = refl
 
--- src/lib.rt:14:1
 same-length-56 : tie.Need-same-length-56
 same-length-56 c = refl
 
--- src/lib.rt:14:1
 same-length-57 : tie.Need-same-length-57
 same-length-57 c = refl
 
--- src/lib.rt:14:1
 same-length-58 : tie.Need-same-length-58
-same-length-58 c = c .before .before .before .before .before .before .before .before .before .before .before .before .before .before .before .before .remove-lane .kept .1 .1 .1 .1 .1 .1 .1 .1 .1 .1 .1 .1 .0
+same-length-58 c = c .before .before .before .before .before .before .set-neighbor .kept .1 .1 .1 .1 .1 .1 .1 .1 .1 .1 .1 .1 .1 .1 .0
 
--- src/lib.rt:14:1
 same-length-59 : tie.Need-same-length-59
-same-length-59 c = c .before .before .before .before .before .before .before .before .before .before .before .before .before .before .before .before .remove-lane .kept .1 .1 .1 .1 .1 .1 .1 .1 .1 .1 .1 .1 .1 .0
+same-length-59 c = refl
 
--- src/lib.rt:14:1
 same-length-60 : tie.Need-same-length-60
-same-length-60 c = c .before .before .before .before .before .before .before .before .before .before .before .before .before .before .before .before .remove-lane .kept .1 .1 .1 .1 .1 .1 .1 .1 .1 .1 .1 .1 .1 .1 .0
+same-length-60 c = c .before .before .before .before .before .before .set-neighbor .kept .1 .1 .1 .1 .1 .1 .1 .1 .1 .1 .1 .1 .1 .1 .1 .1 .0
 
--- src/lib.rt:14:1
+returns-5 : tie.Need-returns-5
+returns-5 c = made (c .before .before .before .before .before .before .before .before .before .before .before .before .before .before .before .before .before .before .before .before .before .before .before .before .before .before .before .before .before .before .before .before .before .before .args .tolerance) (lentOf (c .before .before .before .before .before .before .before .before .before .before .before .before .before .before .before .before .before .before .before .before .before .before .before .before .before .before .before .before .before .before .before .before .before .before .args .counter) (c .before .before .before .before .before .before .before .before .before .before .before .before .before .before .before .before .before .before .before .before .before .before .before .before .before .before .before .before .before .before .before .before .before .before .args .lanes .now) (c .before .before .before .before .before .before .before .before .before .before .before .before .before .before .before .before .before .before .before .before .before .before .before .before .before .before .before .before .before .before .before .before .before .before .args .boundaries .now) (c .before .before .before .before .before .before .before .before .before .before .before .before .before .before .before .before .before .before .before .before .before .before .before .before .before .before .before .before .before .before .before .before .before .before .args .roads .now) (c .before .before .before .before .before .before .before .before .before .before .before .before .before .before .before .before .before .before .before .before .before .before .before .before .before .before .before .before .before .before .before .before .before .before .args .junctions .now) (c .before .before .before .before .before .before .before .before .before .before .before .before .before .before .before .before .before .before .before .before .before .before .before .before .before .before .before .before .before .before .before .before .before .before .args .rules .now) (c .before .before .before .before .before .before .before .before .before .before .before .before .before .before .before .before .before .before .before .before .before .before .before .before .before .before .before .before .before .before .before .before .before .before .args .stop-lines .now) (c .before .before .before .before .before .before .before .before .before .before .before .before .before .before .before .before .before .before .before .before .before .before .before .before .before .before .before .before .before .before .before .before .before .before .args .crosswalks .now) (c .before .before .before .before .before .before .before .before .before .before .before .before .before .before .before .before .before .before .before .before .before .before .before .before .before .before .before .before .before .before .before .before .before .before .args .coordinates .now) (c .before .before .before .before .before .before .before .before .before .before .before .before .before .before .before .before .before .before .before .before .before .before .before .before .before .before .before .before .before .before .before .before .before .before .args .created .now) (c .before .before .before .before .before .before .before .before .before .before .before .before .before .before .before .before .before .before .before .before .before .before .before .before .before .before .before .before .before .before .before .before .before .before .args .modified .now) (c .before .before .before .before .before .before .before .before .before .before .before .before .before .before .before .before .before .before .before .before .before .before .before .before .before .before .before .before .before .before .before .before .before .before .args .deleted .now) (c .before .before .before .before .before .before .before .before .before .before .before .before .before .before .before .before .before .before .before .before .before .before .before .before .before .before .before .before .before .before .before .before .before .before .args .warnings .now)) (c .before .before .before .before .before .before .before .before .before .before .before .before .before .before .before .before .before .before .before .before .before .before .before .before .before .before .before .before .before .before .before .before .before .before .args .command) _ _ (c .before .before .before .before .before .before .set-neighbor .result) (c .before .before .before .before .before .before .before .before .before .before .before .before .before .before .before .before .before .before .before .before .command5 .given .1) (c .before .before .before .before .before .before .set-neighbor .ensures)
+
+same-length-61 : tie.Need-same-length-61
+same-length-61 c = c .before .before .before .before .before .before .before .before .before .before .before .before .before .before .before .before .remove-lane .kept .1 .1 .0
+
+same-length-62 : tie.Need-same-length-62
+same-length-62 c = c .before .before .before .before .before .before .before .before .before .before .before .before .before .before .before .before .remove-lane .kept .1 .1 .1 .0
+
+same-length-63 : tie.Need-same-length-63
+same-length-63 c = c .before .before .before .before .before .before .before .before .before .before .before .before .before .before .before .before .remove-lane .kept .1 .1 .1 .1 .0
+
+same-length-64 : tie.Need-same-length-64
+same-length-64 c = c .before .before .before .before .before .before .before .before .before .before .before .before .before .before .before .before .remove-lane .kept .1 .1 .1 .1 .1 .0
+
+same-length-65 : tie.Need-same-length-65
+same-length-65 c = c .before .before .before .before .before .before .before .before .before .before .before .before .before .before .before .before .remove-lane .kept .1 .1 .1 .1 .1 .1 .0
+
+same-length-66 : tie.Need-same-length-66
+same-length-66 c = refl
+
+same-length-67 : tie.Need-same-length-67
+same-length-67 c = refl
+
+same-length-68 : tie.Need-same-length-68
+same-length-68 c = refl
+
+same-length-69 : tie.Need-same-length-69
+same-length-69 c = refl
+
+same-length-70 : tie.Need-same-length-70
+same-length-70 c = c .before .before .before .before .before .before .before .before .before .before .before .before .before .before .before .before .remove-lane .kept .1 .1 .1 .1 .1 .1 .1 .1 .1 .1 .1 .1 .0
+
+same-length-71 : tie.Need-same-length-71
+same-length-71 c = c .before .before .before .before .before .before .before .before .before .before .before .before .before .before .before .before .remove-lane .kept .1 .1 .1 .1 .1 .1 .1 .1 .1 .1 .1 .1 .1 .0
+
+same-length-72 : tie.Need-same-length-72
+same-length-72 c = c .before .before .before .before .before .before .before .before .before .before .before .before .before .before .before .before .remove-lane .kept .1 .1 .1 .1 .1 .1 .1 .1 .1 .1 .1 .1 .1 .1 .0
+
 returns-6 : tie.Need-returns-6
-returns-6 c = let s = c .before .before .before .before .before .before .before .before .before .before .before .before .before .before .before .before .before .before .before .before .before .before .before .before .before .before .before .before .before .before .before .before .before .before .before .before .before .before .before .before .before .before .before .before in made (s .args .tolerance) (lentOf (s .args .counter) (s .args .lanes .now) (s .args .boundaries .now) (s .args .roads .now) (s .args .junctions .now) (s .args .rules .now) (s .args .stop-lines .now) (s .args .crosswalks .now) (s .args .coordinates .now) (s .args .created .now) (s .args .modified .now) (s .args .deleted .now) (s .args .warnings .now)) (s .args .command) _ _ (c .before .before .before .before .before .before .before .before .before .before .before .before .before .before .before .before .remove-lane .result) (c .before .before .before .before .before .before .before .before .before .before .before .before .before .before .before .before .before .before .before .before .before .before .before .before .before .before .before .before .before .before .command5 .given .1) refl (c .before .before .before .before .before .before .before .before .before .before .before .before .before .before .before .before .remove-lane .ensures)
+returns-6 c = made (c .before .before .before .before .before .before .before .before .before .before .before .before .before .before .before .before .before .before .before .before .before .before .before .before .before .before .before .before .before .before .before .before .before .before .before .before .before .before .before .before .before .before .before .before .args .tolerance) (lentOf (c .before .before .before .before .before .before .before .before .before .before .before .before .before .before .before .before .before .before .before .before .before .before .before .before .before .before .before .before .before .before .before .before .before .before .before .before .before .before .before .before .before .before .before .before .args .counter) (c .before .before .before .before .before .before .before .before .before .before .before .before .before .before .before .before .before .before .before .before .before .before .before .before .before .before .before .before .before .before .before .before .before .before .before .before .before .before .before .before .before .before .before .before .args .lanes .now) (c .before .before .before .before .before .before .before .before .before .before .before .before .before .before .before .before .before .before .before .before .before .before .before .before .before .before .before .before .before .before .before .before .before .before .before .before .before .before .before .before .before .before .before .before .args .boundaries .now) (c .before .before .before .before .before .before .before .before .before .before .before .before .before .before .before .before .before .before .before .before .before .before .before .before .before .before .before .before .before .before .before .before .before .before .before .before .before .before .before .before .before .before .before .before .args .roads .now) (c .before .before .before .before .before .before .before .before .before .before .before .before .before .before .before .before .before .before .before .before .before .before .before .before .before .before .before .before .before .before .before .before .before .before .before .before .before .before .before .before .before .before .before .before .args .junctions .now) (c .before .before .before .before .before .before .before .before .before .before .before .before .before .before .before .before .before .before .before .before .before .before .before .before .before .before .before .before .before .before .before .before .before .before .before .before .before .before .before .before .before .before .before .before .args .rules .now) (c .before .before .before .before .before .before .before .before .before .before .before .before .before .before .before .before .before .before .before .before .before .before .before .before .before .before .before .before .before .before .before .before .before .before .before .before .before .before .before .before .before .before .before .before .args .stop-lines .now) (c .before .before .before .before .before .before .before .before .before .before .before .before .before .before .before .before .before .before .before .before .before .before .before .before .before .before .before .before .before .before .before .before .before .before .before .before .before .before .before .before .before .before .before .before .args .crosswalks .now) (c .before .before .before .before .before .before .before .before .before .before .before .before .before .before .before .before .before .before .before .before .before .before .before .before .before .before .before .before .before .before .before .before .before .before .before .before .before .before .before .before .before .before .before .before .args .coordinates .now) (c .before .before .before .before .before .before .before .before .before .before .before .before .before .before .before .before .before .before .before .before .before .before .before .before .before .before .before .before .before .before .before .before .before .before .before .before .before .before .before .before .before .before .before .before .args .created .now) (c .before .before .before .before .before .before .before .before .before .before .before .before .before .before .before .before .before .before .before .before .before .before .before .before .before .before .before .before .before .before .before .before .before .before .before .before .before .before .before .before .before .before .before .before .args .modified .now) (c .before .before .before .before .before .before .before .before .before .before .before .before .before .before .before .before .before .before .before .before .before .before .before .before .before .before .before .before .before .before .before .before .before .before .before .before .before .before .before .before .before .before .before .before .args .deleted .now) (c .before .before .before .before .before .before .before .before .before .before .before .before .before .before .before .before .before .before .before .before .before .before .before .before .before .before .before .before .before .before .before .before .before .before .before .before .before .before .before .before .before .before .before .before .args .warnings .now)) (c .before .before .before .before .before .before .before .before .before .before .before .before .before .before .before .before .before .before .before .before .before .before .before .before .before .before .before .before .before .before .before .before .before .before .before .before .before .before .before .before .before .before .before .before .args .command) _ _ (c .before .before .before .before .before .before .before .before .before .before .before .before .before .before .before .before .remove-lane .result) (c .before .before .before .before .before .before .before .before .before .before .before .before .before .before .before .before .before .before .before .before .before .before .before .before .before .before .before .before .before .before .command6 .given .1) (c .before .before .before .before .before .before .before .before .before .before .before .before .before .before .before .before .remove-lane .ensures)
 
 pub dispatch-spec : {M : Type 1} → statement M
 dispatch-spec =
     tie.close
     (tie.spec
-    enum-told
     enum-known-command
-    merge-lanes-requires
+    split-lane-requires
     enum-known-command-2
-    connect-requires
+    merge-lanes-requires
     enum-known-command-3
-    disconnect-requires
+    connect-requires
     enum-known-command-4
-    set-neighbor-requires
+    disconnect-requires
     enum-known-command-5
+    set-neighbor-requires
+    enum-known-command-6
     remove-lane-requires
-    returns
     same-length
     same-length-2
     same-length-3
@@ -350,7 +311,7 @@ dispatch-spec =
     same-length-10
     same-length-11
     same-length-12
-    returns-2
+    returns
     same-length-13
     same-length-14
     same-length-15
@@ -363,7 +324,7 @@ dispatch-spec =
     same-length-22
     same-length-23
     same-length-24
-    returns-3
+    returns-2
     same-length-25
     same-length-26
     same-length-27
@@ -376,7 +337,7 @@ dispatch-spec =
     same-length-34
     same-length-35
     same-length-36
-    returns-4
+    returns-3
     same-length-37
     same-length-38
     same-length-39
@@ -389,7 +350,7 @@ dispatch-spec =
     same-length-46
     same-length-47
     same-length-48
-    returns-5
+    returns-4
     same-length-49
     same-length-50
     same-length-51
@@ -402,4 +363,17 @@ dispatch-spec =
     same-length-58
     same-length-59
     same-length-60
+    returns-5
+    same-length-61
+    same-length-62
+    same-length-63
+    same-length-64
+    same-length-65
+    same-length-66
+    same-length-67
+    same-length-68
+    same-length-69
+    same-length-70
+    same-length-71
+    same-length-72
     returns-6)
