@@ -13,6 +13,7 @@ use Rattle.lists.specs.Rows.{over, rowWith}
 use Rattle.lists.specs.Select.{each, has}
 use Rattle.lists.specs.declared.Found.{Found}
 use Rattle.lists.specs.declared.Found.the-variants.{At, Nothing}
+use Rattle.lists.proofs.Booleans.{and-fst, and-snd}
 use Rattle.lists.proofs.Rows.{length-keys, length-over}
 use Rattle.entities.specs.Records.{Issue, ChangeSet}
 use Rattle.rules.specs.Names.{Tolerance, Point2, EntityKind, EntityRef, LaneKind, BoundaryKind, NoRoom, NoIds}
@@ -91,6 +92,13 @@ module _ {tol : Tolerance} {own : ℕ} {p : Point2} {seen : List Bool} {cut : Li
     unfolding splitEnds
     no-rows f = rw (ids-told, left, M.rows-full k ids pieces-many f)
 
+    pub numbered : (rowsFit 1024 52 (word 0 (l .tables .lanes) + length cut) (l .tables .lanes) && rowsFit 4096 5 (word 0 (l .tables .boundaries) + ids) (l .tables .boundaries)) ≡ true
+        → Numbered tol (l .counter) (l .tables) own p seen cut stations ids marks
+    numbered f =
+        let a = rowsFit 1024 52 (word 0 (l .tables .lanes) + length cut) (l .tables .lanes) in
+        let b = rowsFit 4096 5 (word 0 (l .tables .boundaries) + ids) (l .tables .boundaries) in
+        record { plan = k; marked = em; counted = ei; left = left; lanes-fit = and-fst a b f; boundaries-fit = and-snd a b f }
+
 -- ---- what the first steps ask
 
 -- a test that is negated
@@ -101,6 +109,10 @@ off false e = refl
 pub on : (b : Bool) → not b ≡ false → b ≡ true
 on true e = refl
 on false e = sym e
+
+-- two tests as they were made
+pub both-told : (a b x y r : Bool) → a ≡ x → b ≡ y → r ≡ (a && b) → r ≡ (x && y)
+both-told a b x y r e f g = rw (← e, ← f) g
 
 module _ {tol : Tolerance} {counter : ℕ} {t : Tables} {own : ℕ} {p : Point2} {seen : List Bool} {cut : List ℕ} {stations : List Float} (k : Planned tol counter t own p seen cut stations) where
   lanes-few : word 0 (t .lanes) ≤ 1024
