@@ -9,10 +9,9 @@ use lib.Ieee.{Float}
 use lib.ListN.{length, length-map, length-replicate, replicate, drop, take}
 use lib.Seq.{length-take-le}
 use Rattle.lists.specs.Rows.{over}
-use Rattle.lists.specs.Select.{keep, any, has}
+use Rattle.lists.specs.Select.{has}
 use Rattle.lists.specs.declared.Found.the-variants.{At, Nothing}
 use Rattle.lists.proofs.Rows.{length-keys, length-over, take-over}
-use Rattle.entities.specs.Records.{Lane}
 use Rattle.rules.specs.Names.{Tolerance, Point2, SplitAt, Refusal, LaneAbsent, NoRoom, NoIds}
 use Rattle.rules.specs.Sound.{fitsRoom, lastCounter, nextId}
 use Rattle.rules.specs.Edit as E
@@ -39,7 +38,7 @@ use Rattle.split_plan.specs.declared.Stations.the-variants as L
 use Rattle.split_plan.specs.Placing.{allOf, goodOf, groupMarks, markedRows, placed, rowStation, stationsTold}
 use Rattle.split_plan.proofs.Marked.{Each, each-length, each-good, all-each}
 use Rattle.split_laws.proofs.Whole.{Plans, split-absent, split-unplaced, split-unstationed, split-uncrossed, split-planned}
-use Rattle.split_facts.specs.Splitting.{Planned, plansIn, piecesIn, splitOf, splitEnds, written}
+use Rattle.split_facts.specs.Splitting.{Planned, splitOf, splitEnds, written}
 use Rattle.split_facts.proofs.Facts.{group-is, pieces-same}
 use Rattle.split_facts.proofs.Asks.{picked-few, rows-many}
 use Rattle.edit_split.specs.Parts.{crossings, crossEnds, stationEnds, cutIn, stationsIn, planEnds, planned, seenIn, groupEnds, MayCross, MayGroup}
@@ -208,9 +207,6 @@ module _ (tol : Tolerance) (l : Lent) (h : soundTables (l .counter) (l .tables) 
           plans : Plans tol next own at neighbors tt k seen n
           plans = split-planned tol next own at neighbors tt i ei k ek (replicate 1024 false) seen refl n en ex
 
-          abbrev ps : List LanePlan
-          ps = plansIn (l .tables) (k .point) seen stations
-
           abbrev all-planned : Planned tol (l .counter) tt own (k .point) seen cut stations
           all-planned =
               let p = plans in
@@ -268,6 +264,9 @@ module _ (tol : Tolerance) (l : Lent) (h : soundTables (l .counter) (l .tables) 
           go : (x : Stations) → planned tol own k seen tt ≡ x → planEnds tol own k seen l x ≡ step tol (O.SplitLane own at neighbors) l
           go (L.Refused r) q = refused r (split-unstationed tol next own at neighbors tt i ei k ek (replicate 1024 false) seen refl r q)
           go (L.Of n) q = crosses n q
+
+      pub split-done : (y : Ended) → y ≡ groupEnds tol own i k neighbors l → y ≡ step tol (O.SplitLane own at neighbors) l
+      split-done y e = e ∙ split-ends
 
       pub may-group : MayGroup tol (l .counter) (l .tables) own i k neighbors
       may-group =
