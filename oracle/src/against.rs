@@ -1,6 +1,5 @@
 //! Call by call beside an editor: every answer, every lent word, the counter.
 
-use std::collections::BTreeMap;
 
 use vectormap_core::*;
 
@@ -314,7 +313,6 @@ pub struct Outcome {
     pub tally: Tally,
     /// Differences by command, and the smallest input of each.
     pub found: Vec<(usize, State, Call, String)>,
-    pub skipped: BTreeMap<usize, usize>,
 }
 
 /// At most this many differences are made smaller and told.
@@ -324,7 +322,6 @@ pub fn compare(editor: &mut dyn Editor, cases: impl Iterator<Item = Case>) -> Ou
     let mut out = Outcome {
         tally: Tally::default(),
         found: Vec::new(),
-        skipped: BTreeMap::new(),
     };
     for case in cases {
         out.tally.case(&case);
@@ -332,11 +329,6 @@ pub fn compare(editor: &mut dyn Editor, cases: impl Iterator<Item = Case>) -> Ou
         let mut lent: Option<Lent> = None;
         case.play(|t| {
             let command = t.call.command();
-            if !editor.has(command) {
-                *out.skipped.entry(command).or_default() += 1;
-                lent = None;
-                return true;
-            }
             out.tally.turn(&t);
             let mut own = lent.take().unwrap_or_else(|| lend(t.before, t.room));
             match difference(editor, t.before, t.call, t.room, &mut own) {
@@ -368,12 +360,6 @@ fn tell(out: &Outcome) -> bool {
         );
     }
     out.tally.print();
-    for (command, n) in &out.skipped {
-        println!(
-            "skipped: {} is not there yet ({n} calls)",
-            COMMANDS[*command]
-        );
-    }
     println!(
         "{} differences in {} calls",
         out.found.len(),
@@ -412,10 +398,6 @@ const FAULTS: [&str; 8] = [
 ];
 
 impl Editor for Own {
-    fn has(&self, _: usize) -> bool {
-        true
-    }
-
     fn call(&mut self, call: &Call, lent: &mut Lent) -> Raw {
         let mut state = State::new(lent.tables.clone(), lent.counter);
         let room = Room {

@@ -40,7 +40,7 @@ const AMPLE: Room = Room {
 fn library(m: &Map, call: Call, room: Room, number: u64) -> Option<impl FnMut() -> Duration> {
     let mut editor = crate::ffi::library()?;
     let state = State::new(crate::cases::plain(m, 40, 400), m.peek_next_id());
-    editor.has(call.command()).then_some(move || {
+    Some(move || {
         let mut lent = crate::against::lend(&state, &room);
         let (took, made) = timed(|| black_box(&mut *editor).call(&call, black_box(&mut lent)));
         assert_eq!(made.number, number, "{call:?}");
@@ -119,10 +119,11 @@ fn time(name: &str, m: &Map, call: Call) {
     println!("{name:34}{alone:>10.1}{first:>14.1}{editor}");
 }
 
-/// 1,024 lanes, 4,096 boundaries, 65,536 points, 256 roads, 256 junctions and 512 rules: the limits of document 01, less `spare` boundaries that no lane has.
-fn full(spare: usize) -> Map {
+/// `rows` rows of eight lanes beside each other, 4,096 boundaries, 65,536 points, 256 roads, 256 junctions and 512 rules: with 128 rows the limits of document 01,
+/// less `spare` boundaries that no lane has.
+fn full(rows: usize, spare: usize) -> Map {
     let each = POINTS / LIMIT[BOUNDARIES];
-    let mut m = grid(128, 8, each);
+    let mut m = grid(rows, 8, each);
     for i in m.boundary_count()..LIMIT[BOUNDARIES] - spare {
         let line = (0..each)
             .map(|k| Point3::new(k as f64, i as f64, 0.0))
@@ -171,7 +172,7 @@ pub fn run() -> bool {
     time("split_lane, ten, with rules", &furnished, split(true));
 
     // Room for two joined lines.
-    let spared = full(8);
+    let spared = full(128, 8);
     let ahead = Call::MergeLanes {
         first: 514,
         second: 522,
@@ -182,9 +183,21 @@ pub fn run() -> bool {
         let second = first + 8;
         time(name, &spared, Call::MergeLanes { first, second });
     }
+    // Room for the second halves of a row.
+    let roomy = full(127, 16);
+    let beside = |neighbors| Call::SplitLane {
+        lane: 514,
+        at: SplitAt::Fraction(0.5),
+        neighbors,
+    };
+    time("split_lane, one, full map", &roomy, beside(false));
+    time("split_lane, a group of eight, full map", &roomy, beside(true));
+    stages("split_lane, one, by stages", &plain, split(false));
+    stages("split_lane, ten, by stages", &plain, split(true));
+    stages("split_lane, one, full map, by stages", &roomy, beside(false));
     stages("merge_lanes, by stages", &plain, merge);
     stages("merge_lanes, full map, by stages", &spared, ahead);
-    let full = full(0);
+    let full = full(128, 0);
     // Lanes in no order, with gaps between their ids: the worst for a search that begins near by.
     let scattered = grid_by(100, 10, 8, |place| {
         1 + 7 * (place as u64 * 389 % 1000) + place as u64 % 7

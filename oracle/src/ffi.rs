@@ -23,8 +23,6 @@ pub struct Raw {
 }
 
 pub trait Editor {
-    /// Whether the edit is there, by its place in `COMMANDS`.
-    fn has(&self, command: usize) -> bool;
     fn call(&mut self, call: &Call, lent: &mut Lent) -> Raw;
 }
 
@@ -50,10 +48,6 @@ pub fn sound(t: &Tables, counter: u64) -> Option<bool> {
 #[cfg(feature = "against")]
 mod linked {
     use super::{Call, Editor, Lent, Raw, Tables};
-
-    /// The edits that are in the library's code, by their place in `COMMANDS`; it answers 10 to the others.
-    /// TODO split_lane.
-    const THERE: [usize; 5] = [0, 1, 2, 3, 4];
 
     /// `Told` of crates/words.
     #[repr(C)]
@@ -186,10 +180,6 @@ mod linked {
     pub struct Library;
 
     impl Editor for Library {
-        fn has(&self, command: usize) -> bool {
-            THERE.contains(&command)
-        }
-
         fn call(&mut self, call: &Call, lent: &mut Lent) -> Raw {
             let told = apply(&call.row(), lent);
             lent.counter = told.counter;
