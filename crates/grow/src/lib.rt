@@ -16,7 +16,7 @@ pub fn count_cut(ids: &[u64], n: usize, cut: &[u64]) -> usize
     let mut i = 0;
     let mut count = 0;
     while i < n {
-        if let Found::At(_) = find::find_row(cut, 1, cut.len(), ids[i]) {
+        if let Found::At(_) = rank::rank(cut, ids[i]) {
             count += 1;
         }
         i += 1;
@@ -37,7 +37,7 @@ fn move_up(slots: &mut [u64], i: usize, to: usize, cut: &[u64], next: u64) -> Mo
 {
     let id = slots[i];
     let last = to - 1;
-    let Found::At(r) = find::find_row(cut, 1, cut.len(), id) else {
+    let Found::At(r) = rank::rank(cut, id) else {
         slots[last] = id;
         return Moved {
             to: last,

@@ -21,7 +21,7 @@ pub fn names_cut(ids: &[u64], n: usize, cut: &[u64]) -> bool
 {
     let mut i = 0;
     while i < n {
-        let found = find::find_row(cut, 1, cut.len(), ids[i]);
+        let found = rank::rank(cut, ids[i]);
         match found {
             Found::At(_) => {
                 return true;
@@ -62,7 +62,7 @@ fn lane_touched(t: &[u64], row: usize, cut: &[u64]) -> bool
     requires { ⌜ (ascending (now cut) ≡ true) × (row + 18 + 1 + word (row + 18) (now t) ≤ length (now t)) ⌝ }
     ensures { λ r. ⌜ r ≡ D.laneAt (now (cut .entry)) row (now (t .entry)) ⌝ }
 {
-    let found = find::find_row(cut, 1, cut.len(), t[row]);
+    let found = rank::rank(cut, t[row]);
     match found {
         Found::At(_) => true,
         Found::Nothing => row_names(t, row, PREDECESSORS, cut),

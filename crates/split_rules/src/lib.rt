@@ -36,7 +36,7 @@ fn lane_past(
     requires { ⌜ (K.Drawable (now lanes) (now boundaries) (now coordinates)) × ((ascending (now cut) ≡ true) × (length (now cut) ≤ length (now stations))) ⌝ }
     ensures { λ r. ⌜ r ≡ D.lanePast join (now (coordinates .entry)) (now (lanes .entry)) (now (boundaries .entry)) point (now (cut .entry)) (now (stations .entry)) anchor id ⌝ }
 {
-    let ranked = find::find_row(cut, 1, cut.len(), id);
+    let ranked = rank::rank(cut, id);
     let Found::At(r) = ranked else {
         return false;
     };

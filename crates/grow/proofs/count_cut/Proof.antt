@@ -22,14 +22,14 @@ loop-holds : tie.Need-loop-holds Inv-loop μ-loop
 unfolding keep
 loop-holds c = (omega arith, (omega arith, refl))
 
-mul-find-row : tie.Need-mul-find-row Inv-loop μ-loop
-mul-find-row c = omega arith
+mul-rank : tie.Need-mul-rank Inv-loop μ-loop
+mul-rank c = omega arith
 
-shared-slice-read-find-row : tie.Need-shared-slice-read-find-row Inv-loop μ-loop
-shared-slice-read-find-row c = omega arith
+shared-slice-read-rank : tie.Need-shared-slice-read-rank Inv-loop μ-loop
+shared-slice-read-rank c = omega arith
 
-find-row-requires : tie.Need-find-row-requires Inv-loop μ-loop
-find-row-requires c κs = (omega arith, (omega arith, rw keys-one (c .before .before .before .before .before .pre .1)))
+rank-requires : tie.Need-rank-requires Inv-loop μ-loop
+rank-requires c κs = rw keys-one (c .before .before .before .before .before .pre .1)
 
 enum-told : tie.Need-enum-told Inv-loop μ-loop
 enum-told c = search needs
@@ -52,7 +52,7 @@ loop-again c =
     let t = c .before .before .before .before .loop in
     let w = a .ids .now in
     let cut = a .cut .now in
-    let f = c .before .find-row in
+    let f = c .before .rank in
     let h : t .i < length w = omega arith in
     let p = one-has (getD w (t .i) 0) cut (f .result) (f .ensures) in
     ⊎-elim
@@ -72,9 +72,9 @@ count-cut-spec =
     Inv-loop
     μ-loop
     loop-holds
-    mul-find-row
-    shared-slice-read-find-row
-    find-row-requires
+    mul-rank
+    shared-slice-read-rank
+    rank-requires
     enum-told
     add-count
     enum-told-2

@@ -17,8 +17,8 @@ slice-read-id c = search needs
 sub-last : tie.Need-sub-last
 sub-last c = search needs
 
-find-row-requires : tie.Need-find-row-requires
-find-row-requires c κs = (omega arith, (omega arith, rw keys-one (c .before .before .before .pre .1 .1 .0)))
+rank-requires : tie.Need-rank-requires
+rank-requires c κs = rw keys-one (c .before .before .before .pre .1 .1 .0)
 
 enum-known-r : tie.Need-enum-known-r
 enum-known-r c = search needs
@@ -36,12 +36,12 @@ same-length : tie.Need-same-length
 same-length c = search needs
 
 returns : tie.Need-returns
-returns c = let a = c .before .before .before .before .before .before .args in let f = c .before .before .find-row in moved-one (a .slots .now) (a .cut .now) (a .next) (a .i) (a .to) (c .before .before .before .before .before .before .pre .0) (c .before .before .before .before .before .before .pre .1 .0) (f .result) (f .ensures) (c .enum-told .given .1)
+returns c = let a = c .before .before .before .before .before .before .args in let f = c .before .before .rank in moved-one (a .slots .now) (a .cut .now) (a .next) (a .i) (a .to) (c .before .before .before .before .before .before .pre .0) (c .before .before .before .before .before .before .pre .1 .0) (f .result) (f .ensures) (c .enum-told .given .1)
 
 add-second : tie.Need-add-second
 add-second c =
     let a = c .before .before .before .before .before .before .before .args in
-    let f = c .before .before .before .find-row in
+    let f = c .before .before .before .rank in
     omega (arith, found-within (getD (a .slots .now) (a .i) 0) (a .cut .now) (c .before .r .given .0 .0) (one-found (getD (a .slots .now) (a .i) 0) (a .cut .now) (f .result) (f .ensures) ∙ c .before .r .given .1))
 
 mul-slots-2 : tie.Need-mul-slots-2
@@ -57,7 +57,7 @@ same-length-2 : tie.Need-same-length-2
 same-length-2 c = search needs
 
 returns-2 : tie.Need-returns-2
-returns-2 c = let a = c .before .before .before .before .before .before .before .before .args in let f = c .before .before .before .before .find-row in moved-met (a .slots .now) (a .cut .now) (a .next) (a .i) (a .to) (c .before .before .before .before .before .before .before .before .pre .0) (c .before .before .before .before .before .before .before .before .pre .1 .0) (f .result) (f .ensures) (c .before .before .r .given .0 .0) (c .before .before .r .given .1) (c .if1 .taken)
+returns-2 c = let a = c .before .before .before .before .before .before .before .before .args in let f = c .before .before .before .before .rank in moved-met (a .slots .now) (a .cut .now) (a .next) (a .i) (a .to) (c .before .before .before .before .before .before .before .before .pre .0) (c .before .before .before .before .before .before .before .before .pre .1 .0) (f .result) (f .ensures) (c .before .before .r .given .0 .0) (c .before .before .r .given .1) (c .if1 .taken)
 
 sub-front : tie.Need-sub-front
 sub-front c = search needs
@@ -72,7 +72,7 @@ same-length-3 : tie.Need-same-length-3
 same-length-3 c = search needs
 
 returns-3 : tie.Need-returns-3
-returns-3 c = let a = c .before .before .before .before .before .before .before .before .args in let f = c .before .before .before .before .find-row in moved-two (a .slots .now) (a .cut .now) (a .next) (a .i) (a .to) (c .before .before .before .before .before .before .before .before .pre .0) (c .before .before .before .before .before .before .before .before .pre .1 .0) (f .result) (f .ensures) (c .before .before .r .given .0 .0) (c .before .before .r .given .1) (c .if1 .left)
+returns-3 c = let a = c .before .before .before .before .before .before .before .before .args in let f = c .before .before .before .before .rank in moved-two (a .slots .now) (a .cut .now) (a .next) (a .i) (a .to) (c .before .before .before .before .before .before .before .before .pre .0) (c .before .before .before .before .before .before .before .before .pre .1 .0) (f .result) (f .ensures) (c .before .before .r .given .0 .0) (c .before .before .r .given .1) (c .if1 .left)
 
 pub move-up-spec : {M : Type 1} → statement M
 move-up-spec =
@@ -81,7 +81,7 @@ move-up-spec =
     mul-id
     slice-read-id
     sub-last
-    find-row-requires
+    rank-requires
     enum-known-r
     enum-told
     mul-slots

@@ -19,20 +19,20 @@ abbrev μ-loop : tie.MeasureT-loop
 loop-holds : tie.Need-loop-holds Inv-loop μ-loop
 loop-holds c = (omega arith, refl)
 
-mul-find-row : tie.Need-mul-find-row Inv-loop μ-loop
-mul-find-row c = omega arith
+mul-rank : tie.Need-mul-rank Inv-loop μ-loop
+mul-rank c = omega arith
 
-shared-slice-read-find-row : tie.Need-shared-slice-read-find-row Inv-loop μ-loop
-shared-slice-read-find-row c = omega arith
+shared-slice-read-rank : tie.Need-shared-slice-read-rank Inv-loop μ-loop
+shared-slice-read-rank c = omega arith
 
-find-row-requires : tie.Need-find-row-requires Inv-loop μ-loop
-find-row-requires c κs = (omega arith, (omega arith, rw keys-one (c .before .before .before .before .before .pre .1)))
+rank-requires : tie.Need-rank-requires Inv-loop μ-loop
+rank-requires c κs = rw keys-one (c .before .before .before .before .before .pre .1)
 
 enum-told : tie.Need-enum-told Inv-loop μ-loop
 enum-told c = search needs
 
 returns : tie.Need-returns Inv-loop μ-loop
-returns c = let a = c .before .before .before .before .before .before .before .before .args in let t = c .before .before .before .before .before .loop in sym (t .inv .1 ∙ names-found (a .cut .now) (a .ids .now) (a .n) (c .before .before .before .before .before .before .before .before .pre .0) (t .i) (c .before .before .before .before .loop-test .taken) (c .before .before .find-row .result) (c .before .before .find-row .ensures) (c .enum-told .given .0 .0) (c .enum-told .given .1))
+returns c = let a = c .before .before .before .before .before .before .before .before .args in let t = c .before .before .before .before .before .loop in sym (t .inv .1 ∙ names-found (a .cut .now) (a .ids .now) (a .n) (c .before .before .before .before .before .before .before .before .pre .0) (t .i) (c .before .before .before .before .loop-test .taken) (c .before .before .rank .result) (c .before .before .rank .ensures) (c .enum-told .given .0 .0) (c .enum-told .given .1))
 
 enum-told-2 : tie.Need-enum-told-2 Inv-loop μ-loop
 enum-told-2 c = search needs
@@ -44,7 +44,7 @@ loop-less : tie.Need-loop-less Inv-loop μ-loop
 loop-less c = omega arith
 
 loop-again : tie.Need-loop-again Inv-loop μ-loop
-loop-again c = let a = c .before .before .before .before .before .before .before .before .args in let t = c .before .before .before .before .before .loop in (omega arith, t .inv .1 ∙ names-other (a .cut .now) (a .ids .now) (a .n) (c .before .before .before .before .before .before .before .before .pre .0) (t .i) (c .before .before .before .before .loop-test .taken) (c .before .before .find-row .result) (c .before .before .find-row .ensures) (c .enum-told2 .given .1))
+loop-again c = let a = c .before .before .before .before .before .before .before .before .args in let t = c .before .before .before .before .before .loop in (omega arith, t .inv .1 ∙ names-other (a .cut .now) (a .ids .now) (a .n) (c .before .before .before .before .before .before .before .before .pre .0) (t .i) (c .before .before .before .before .loop-test .taken) (c .before .before .rank .result) (c .before .before .rank .ensures) (c .enum-told2 .given .1))
 
 returns-2 : tie.Need-returns-2 Inv-loop μ-loop
 returns-2 c = let a = c .before .before .before .before .args in let t = c .before .loop in sym (t .inv .1 ∙ names-end (a .cut .now) (a .ids .now) (a .n) (c .before .before .before .before .pre .0) (t .i) (c .loop-test .left))
@@ -56,9 +56,9 @@ names-cut-spec =
     Inv-loop
     μ-loop
     loop-holds
-    mul-find-row
-    shared-slice-read-find-row
-    find-row-requires
+    mul-rank
+    shared-slice-read-rank
+    rank-requires
     enum-told
     returns
     enum-told-2
