@@ -317,7 +317,7 @@ pub fn merge_lanes(
         return Answer::Refused(Refusal::NotMergeable(first));
     }
     let join = tolerance.join;
-    let planned = merge_plan::decide(join, lanes, i, j, boundaries, coordinates);
+    let planned = merge_decide::decide(join, lanes, i, j, boundaries, coordinates);
     match planned {
         Planned::Refused(refusal) => Answer::Refused(refusal),
         Planned::Merges(plan) => merge_found(

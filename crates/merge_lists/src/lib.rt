@@ -144,7 +144,7 @@ fn conflicting(lanes: &[u64], i: usize, j: usize) -> Notice
     let first = lanes[1 + i * LANE];
     let second = lanes[1 + j * LANE];
     let code = IssueCode::AttributeConflict;
-    report::pair_where(merge_plan::conflict(lanes, i, j), code, first, second)
+    report::pair_where(merge_decide::conflict(lanes, i, j), code, first, second)
 }
 
 pub fn notices_of(
@@ -160,8 +160,8 @@ pub fn notices_of(
 {
     let second = next + side_ids(left) as u64;
     let conflict = conflicting(lanes, i, j);
-    let dropped_left = merge_plan::dropped(lanes, i, j, Side::Left);
-    let dropped_right = merge_plan::dropped(lanes, i, j, Side::Right);
+    let dropped_left = merge_decide::dropped(lanes, i, j, Side::Left);
+    let dropped_right = merge_decide::dropped(lanes, i, j, Side::Right);
     let one = unshared(left, next);
     let other = unshared(right, second);
     Notices {

@@ -5,7 +5,7 @@ use Rattle.edit_merge.proofs.merge_lanes.Reads as reads
 use Rattle.edit_merge.proofs.merge_lanes.Lts as lts
 use Rattle.edit_merge.proofs.merge_found.Reads as merge-found-reads
 use Rattle.lookup.proofs.lane.Reads as lane-reads
-use Rattle.merge_plan.proofs.decide.Reads as decide-reads
+use Rattle.merge_decide.proofs.decide.Reads as decide-reads
 use Rattle.merge_plan.proofs.mergeable.Reads as mergeable-reads
 use native.Mathlib.Omega.{arith}
 use Rattle.step.specs.Step.{tablesOf, lentOf}

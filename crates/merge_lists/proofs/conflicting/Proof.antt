@@ -3,7 +3,7 @@ use Rattle.merge_lists.proofs.conflicting.Statement.{statement}
 use Rattle.merge_lists.proofs.conflicting.Tie as tie
 use Rattle.merge_lists.proofs.conflicting.Reads as reads
 use Rattle.merge_lists.proofs.conflicting.Lts as lts
-use Rattle.merge_plan.proofs.conflict.Reads as conflict-reads
+use Rattle.merge_decide.proofs.conflict.Reads as conflict-reads
 use Rattle.report.proofs.pair_where.Reads as pair-where-reads
 use native.Mathlib.Omega.{arith}
 use Rattle.lookup.proofs.Laws.{sorted-row}

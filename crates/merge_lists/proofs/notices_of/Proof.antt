@@ -5,7 +5,7 @@ use Rattle.merge_lists.proofs.notices_of.Reads as reads
 use Rattle.merge_lists.proofs.notices_of.Lts as lts
 use Rattle.merge_lists.proofs.conflicting.Reads as conflicting-reads
 use Rattle.merge_lists.proofs.unshared.Reads as unshared-reads
-use Rattle.merge_plan.proofs.dropped.Reads as dropped-reads
+use Rattle.merge_decide.proofs.dropped.Reads as dropped-reads
 use Rattle.merge_plan.proofs.side_ids.Reads as side-ids-reads
 use mathlib.Core.Path.{_≡_, ap, _∙_}
 use Rattle.merge_lists.proofs.Noted.{all-noted}

@@ -1,10 +1,10 @@
--- `merge_plan::center_plan` meets its contract: by the marks of the explicit centrelines. Assumes nothing.
+-- `merge_decide::center_plan` meets its contract: by the marks of the explicit centrelines. Assumes nothing.
 use native.Mathlib.Omega.{arith}
 use borrow.Author.Needs.{needs}
 use Rattle.lookup.proofs.Laws.{sorted-row}
 use Rattle.merge_plan.proofs.Readings.{center-lent, center-few, first-uncentered, second-uncentered, centers-meet, centers-joined}
-use Rattle.merge_plan.proofs.center_plan.Statement.{statement}
-use Rattle.merge_plan.proofs.center_plan.Tie as tie
+use Rattle.merge_decide.proofs.center_plan.Statement.{statement}
+use Rattle.merge_decide.proofs.center_plan.Tie as tie
 
 mul-a : tie.Need-mul-a
 mul-a c = omega (arith, sorted-row 1024 52 (c .before .before .args .lanes .now) (c .before .before .pre .0) (c .before .before .args .i) (c .before .before .pre .1 .1 .0), sorted-row 1024 52 (c .before .before .args .lanes .now) (c .before .before .pre .0) (c .before .before .args .j) (c .before .before .pre .1 .1 .1))

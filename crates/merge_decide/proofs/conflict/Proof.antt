@@ -1,10 +1,10 @@
--- `merge_plan::conflict` meets its contract: the words that are read are the lanes' kinds, turns and speed limits. Assumes nothing.
+-- `merge_decide::conflict` meets its contract: the words that are read are the lanes' kinds, turns and speed limits. Assumes nothing.
 use native.Mathlib.Omega.{arith}
 use borrow.Author.Needs.{needs}
 use Rattle.lookup.proofs.Laws.{sorted-row}
 use Rattle.merge_plan.proofs.Readings.{kinds-differ, turns-differ, speeds-left}
-use Rattle.merge_plan.proofs.conflict.Statement.{statement}
-use Rattle.merge_plan.proofs.conflict.Tie as tie
+use Rattle.merge_decide.proofs.conflict.Statement.{statement}
+use Rattle.merge_decide.proofs.conflict.Tie as tie
 
 mul-a : tie.Need-mul-a
 mul-a c = omega (arith, sorted-row 1024 52 (c .before .args .lanes .now) (c .before .pre .0) (c .before .args .i) (c .before .pre .1 .0), sorted-row 1024 52 (c .before .args .lanes .now) (c .before .pre .0) (c .before .args .j) (c .before .pre .1 .1))

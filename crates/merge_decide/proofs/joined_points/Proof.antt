@@ -1,10 +1,10 @@
--- `merge_plan::joined_points` meets its contract: a stored line has as many points as its row says, and joined lines as many as both but where they meet. Assumes nothing.
+-- `merge_decide::joined_points` meets its contract: a stored line has as many points as its row says, and joined lines as many as both but where they meet. Assumes nothing.
 use native.Mathlib.Omega.{arith}
 use borrow.Author.Needs.{needs}
 use Rattle.lookup.specs.Lookup.{sideLine}
 use Rattle.merge_plan.proofs.Laws.{met-few, joined-long, first-long, second-long, both-few, first-row, second-row}
-use Rattle.merge_plan.proofs.joined_points.Statement.{statement}
-use Rattle.merge_plan.proofs.joined_points.Tie as tie
+use Rattle.merge_decide.proofs.joined_points.Statement.{statement}
+use Rattle.merge_decide.proofs.joined_points.Tie as tie
 
 oriented-last-requires : tie.Need-oriented-last-requires
 oriented-last-requires c κs = search needs

@@ -1,10 +1,10 @@
--- `merge_plan::dropped` meets its contract: by the slots that are read. Assumes nothing.
+-- `merge_decide::dropped` meets its contract: by the slots that are read. Assumes nothing.
 use native.Mathlib.Omega.{arith}
 use borrow.Author.Needs.{needs}
 use Rattle.lookup.proofs.Laws.{sorted-row}
 use Rattle.merge_plan.proofs.Readings.{slot-small, no-neighbor, neighbor-kept, neighbor-dropped}
-use Rattle.merge_plan.proofs.dropped.Statement.{statement}
-use Rattle.merge_plan.proofs.dropped.Tie as tie
+use Rattle.merge_decide.proofs.dropped.Statement.{statement}
+use Rattle.merge_decide.proofs.dropped.Tie as tie
 
 slot-word-requires : tie.Need-slot-word-requires
 slot-word-requires c κs = search needs

@@ -1,9 +1,9 @@
--- `merge_plan::side_plan` meets its contract: a boundary that both lanes name, one that is absent, or both lines joined, in place where each is its lane's alone. Assumes nothing.
+-- `merge_decide::side_plan` meets its contract: a boundary that both lanes name, one that is absent, or both lines joined, in place where each is its lane's alone. Assumes nothing.
 use mathlib.Core.Path.{sym, _∙_}
 use borrow.Author.Needs.{needs}
 use Rattle.merge_plan.proofs.Laws.{side-kept, first-absent, second-absent, side-rows, side-in-place, side-fresh}
-use Rattle.merge_plan.proofs.side_plan.Statement.{statement}
-use Rattle.merge_plan.proofs.side_plan.Tie as tie
+use Rattle.merge_decide.proofs.side_plan.Statement.{statement}
+use Rattle.merge_decide.proofs.side_plan.Tie as tie
 
 boundary-ref-requires : tie.Need-boundary-ref-requires
 boundary-ref-requires c κs = search needs

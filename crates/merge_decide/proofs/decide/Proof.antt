@@ -1,10 +1,10 @@
--- `merge_plan::decide` meets its contract: a refusal of the left side comes first. Assumes nothing.
+-- `merge_decide::decide` meets its contract: a refusal of the left side comes first. Assumes nothing.
 use borrow.Author.Needs.{needs}
 use Rattle.rules.specs.Names.{Left, Right}
 use Rattle.merge_plan.specs.Deciding.{sidePlan}
 use Rattle.merge_plan.proofs.Readings.{left-refused, right-refused, both-join}
-use Rattle.merge_plan.proofs.decide.Statement.{statement}
-use Rattle.merge_plan.proofs.decide.Tie as tie
+use Rattle.merge_decide.proofs.decide.Statement.{statement}
+use Rattle.merge_decide.proofs.decide.Tie as tie
 
 side-plan-requires : tie.Need-side-plan-requires
 side-plan-requires c κs = search needs
