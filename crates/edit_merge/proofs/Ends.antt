@@ -37,7 +37,7 @@ use Rattle.merge_plan.specs.Sides.{sideIds}
 use Rattle.merge_plan.specs.declared.Plan.{Plan}
 use Rattle.merge_plan.specs.declared.Planned.the-variants as N
 use Rattle.merge_decide.proofs.Whole.{Plans, merge-unfit, merge-refused, merge-planned}
-use Rattle.merge_room.specs.Leaving.{fitsAfter}
+use Rattle.merge_gone.specs.Leaving.{fitsAfter}
 use Rattle.merge_lists.specs.Changes.{touched, leaving, warningsOf}
 use Rattle.merge_lists.proofs.Standing.{length-refs}
 use Rattle.merge_laid.proofs.Planning.{Planning}

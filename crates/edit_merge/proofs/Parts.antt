@@ -27,7 +27,7 @@ use Rattle.merge_plan.specs.declared.Joined.the-variants.{Kept, InPlace, Fresh}
 use Rattle.merge_plan.specs.declared.Plan.{Plan}
 use Rattle.merge_plan.specs.Sides.{sideIds}
 use Rattle.merge_plan.proofs.Laws.{id-read}
-use Rattle.merge_room.specs.Leaving.{fitsAfter}
+use Rattle.merge_gone.specs.Leaving.{fitsAfter}
 use Rattle.merge_lists.specs.declared.Notices.{Notices}
 use Rattle.merge_lists.specs.Changes.{Formed, touched, leaving, issuesOf, warningsOf, joinedIds}
 use Rattle.merge_lists.proofs.Standing.{length-refs}

@@ -26,7 +26,7 @@ use Rattle.mentions.specs.Naming.{tableFormed, forgets, ruleReplaces}
 use Rattle.room.specs.Room.{idsLeft, listsFit}
 use Rattle.merge_plan.specs.declared.Plan.{Plan}
 use Rattle.merge_plan.specs.Sides.{sideIds, sideId}
-use Rattle.merge_room.specs.Leaving.{Leaving, Countable, goneOf, fitsAfter}
+use Rattle.merge_gone.specs.Leaving.{Leaving, Countable, goneOf, fitsAfter}
 use Rattle.merge_lists.specs.declared.Notices.{Notices}
 use Rattle.merge_lists.specs.Changes.{Formed, Looked, touched, leaving, issuesOf, joinedIds, warningsOf}
 use Rattle.merge_redraw.specs.Relaying.{Relayable, relaid, blank}

@@ -257,7 +257,7 @@ fn merge_found(
     let one = lookup::boundary_ref(lanes, i, Side::Left).boundary;
     let two = lookup::boundary_ref(lanes, i, Side::Right).boundary;
     let mut gone = [0; MOST_GONE];
-    let n = merge_room::gone(lanes, i, j, left, right, boundaries, &mut gone);
+    let n = merge_gone::gone(lanes, i, j, left, right, boundaries, &mut gone);
     let mut joined = [0; MOST_JOINED];
     let m = merge_lists::joined_ids(left, one, right, two, &mut joined);
     merge_with(

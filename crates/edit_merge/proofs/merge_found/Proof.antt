@@ -7,7 +7,7 @@ use Rattle.edit_merge.proofs.merge_with.Reads as merge-with-reads
 use Rattle.lookup.proofs.boundary_ref.Reads as boundary-ref-reads
 use Rattle.merge_lists.proofs.joined_ids.Reads as joined-ids-reads
 use Rattle.merge_plan.proofs.side_ids.Reads as side-ids-reads
-use Rattle.merge_room.proofs.gone.Reads as gone-reads
+use Rattle.merge_gone.proofs.gone.Reads as gone-reads
 use Rattle.room.proofs.ids_left.Reads as ids-left-reads
 use native.Mathlib.Omega.{arith}
 use Rattle.step.specs.Step.{tablesOf, lentOf}
@@ -15,7 +15,7 @@ use mathlib.Core.Path.{refl, sym, ap, _∙_}
 use Prim.Native.Nat.{ℕ}
 use lib.ListN.{replicate, length-replicate}
 use lib.Seq.{length-take-le}
-use Rattle.merge_room.specs.Leaving.{goneOf}
+use Rattle.merge_gone.specs.Leaving.{goneOf}
 use Rattle.edit_merge.specs.Parts.{goneIn, joinedIn}
 use Rattle.edit_merge.proofs.Parts.{ids-few, front, no-ids, ids-there, decided-asks, found-made, off, on, both-refs}
 

@@ -1,7 +1,7 @@
--- `merge_room::held` meets its contract. Assumes nothing.
+-- `merge_gone::held` meets its contract. Assumes nothing.
 use borrow.Author.Needs.{needs}
-use Rattle.merge_room.proofs.held.Statement.{statement}
-use Rattle.merge_room.proofs.held.Tie as tie
+use Rattle.merge_gone.proofs.held.Statement.{statement}
+use Rattle.merge_gone.proofs.held.Tie as tie
 
 boundary-ref-requires : tie.Need-boundary-ref-requires
 boundary-ref-requires c κs = search needs

@@ -1,7 +1,7 @@
--- `merge_room::row_points` meets its contract. Assumes nothing.
+-- `merge_points::row_points` meets its contract. Assumes nothing.
 use borrow.Author.Needs.{needs}
-use Rattle.merge_room.proofs.row_points.Statement.{statement}
-use Rattle.merge_room.proofs.row_points.Tie as tie
+use Rattle.merge_points.proofs.row_points.Statement.{statement}
+use Rattle.merge_points.proofs.row_points.Tie as tie
 use mathlib.Core.Path.{sym, _∙_}
 
 shared-slice-read-id : tie.Need-shared-slice-read-id

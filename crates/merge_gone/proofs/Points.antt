@@ -14,8 +14,8 @@ use Rattle.lookup.proofs.Laws.{row-passes}
 use Rattle.merge_plan.specs.declared.Joined.{Joined}
 use Rattle.merge_plan.specs.declared.Joined.the-variants.{Kept, InPlace, Fresh}
 use Rattle.merge_plan.specs.Sides.{sidePoints, sideIds, centerPoints}
-use Rattle.merge_room.specs.declared.Sides.{Sides}
-use Rattle.merge_room.specs.Leaving.{joins, rowPoints, newPoints, centerAfter, centersShort}
+use Rattle.merge_gone.specs.declared.Sides.{Sides}
+use Rattle.merge_gone.specs.Leaving.{joins, rowPoints, newPoints, centerAfter, centersShort}
 
 pub boundary-few : (gone : List ℕ) (s : Sides) (t : List ℕ) → allShort 5 2 t ≡ true → sidePoints (s .left) ≤ 512 → sidePoints (s .right) ≤ 512 → (i : ℕ) → i < word 0 t
     → rowPoints gone s (rowAt 5 t i) ≤ 512

@@ -1,9 +1,9 @@
--- `merge_room::add_gone` meets its contract. Assumes nothing.
+-- `merge_gone::add_gone` meets its contract. Assumes nothing.
 use borrow.Author.Needs.{needs}
-use Rattle.merge_room.proofs.add_gone.Statement.{statement}
-use Rattle.merge_room.proofs.add_gone.Tie as tie
-use Rattle.merge_room.specs.Leaving.{goes}
-use Rattle.merge_room.proofs.Going.{gone-added, gone-kept}
+use Rattle.merge_gone.proofs.add_gone.Statement.{statement}
+use Rattle.merge_gone.proofs.add_gone.Tie as tie
+use Rattle.merge_gone.specs.Leaving.{goes}
+use Rattle.merge_gone.proofs.Going.{gone-added, gone-kept}
 
 goes-requires : tie.Need-goes-requires
 goes-requires c κs = search needs

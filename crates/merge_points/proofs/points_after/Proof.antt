@@ -1,14 +1,14 @@
--- `merge_room::points_after` meets its contract. Assumes nothing.
+-- `merge_points::points_after` meets its contract. Assumes nothing.
 use borrow.Author.Needs.{needs}
-use Rattle.merge_room.proofs.points_after.Statement.{statement}
-use Rattle.merge_room.proofs.points_after.Tie as tie
+use Rattle.merge_points.proofs.points_after.Statement.{statement}
+use Rattle.merge_points.proofs.points_after.Tie as tie
 use native.Mathlib.Omega.{arith}
 use Prim.Native.Nat.{_+_, _≤_, _<_}
 use Rattle.room.proofs.Sums.{columns-counted}
 use Rattle.merge_plan.proofs.Laws.{id-read}
-use Rattle.merge_room.specs.Leaving.{pointsAfter}
-use Rattle.merge_room.proofs.Points.{new-few}
-use Rattle.merge_room.proofs.Going.{both-rows}
+use Rattle.merge_gone.specs.Leaving.{pointsAfter}
+use Rattle.merge_gone.proofs.Points.{new-few}
+use Rattle.merge_gone.proofs.Going.{both-rows}
 
 -- the points that are counted are few
 new : (c : tie.After-new-points2) → c .before .new-points .result + c .new-points2 .result ≤ 1024

@@ -1,7 +1,7 @@
--- `merge_room::joins` meets its contract. Assumes nothing.
+-- `merge_points::joins` meets its contract. Assumes nothing.
 use borrow.Author.Needs.{needs}
-use Rattle.merge_room.proofs.joins.Statement.{statement}
-use Rattle.merge_room.proofs.joins.Tie as tie
+use Rattle.merge_points.proofs.joins.Statement.{statement}
+use Rattle.merge_points.proofs.joins.Tie as tie
 
 enum-told : tie.Need-enum-told
 enum-told c = search needs

@@ -21,7 +21,7 @@ use Rattle.merge_plan.specs.declared.Joined.{Joined}
 use Rattle.merge_plan.specs.declared.Joined.the-variants.{Kept, InPlace, Fresh}
 use Rattle.merge_plan.specs.declared.Plan.{Plan}
 use Rattle.merge_plan.specs.Sides.{sidePoints, sideIds, isFresh, sideId, centerPoints}
-use Rattle.merge_room.specs.declared.Sides.{Sides}
+use Rattle.merge_gone.specs.declared.Sides.{Sides}
 use Rattle.room.specs.Room.{rowsFit, pointsFit, columnPoints}
 
 -- ---- boundaries that go

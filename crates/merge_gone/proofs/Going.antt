@@ -22,7 +22,7 @@ use Rattle.lookup.specs.Lookup.{rowAt, rowUses, sortedTable, placeOf, usedOutsi
 use Rattle.lookup.proofs.Laws.{sorted-ascends, sorted-row}
 use Rattle.merge_plan.specs.declared.Joined.{Joined}
 use Rattle.merge_plan.proofs.Laws.{id-read}
-use Rattle.merge_room.specs.Leaving.{Leaving, held, idle, there, goes, withGone, goneOf}
+use Rattle.merge_gone.specs.Leaving.{Leaving, held, idle, there, goes, withGone, goneOf}
 
 -- the rows of both lanes lie within the table
 pub both-rows : {lanes : List ℕ} {i j : ℕ} {boundaries : List ℕ} → Leaving lanes i j boundaries → (1 + i * 52 + 52 ≤ length lanes) × (1 + j * 52 + 52 ≤ length lanes)

@@ -1,9 +1,9 @@
--- `merge_room::goes` meets its contract: it is in the table, and no lane but the two uses it. Assumes nothing.
+-- `merge_gone::goes` meets its contract: it is in the table, and no lane but the two uses it. Assumes nothing.
 use borrow.Author.Needs.{needs}
-use Rattle.merge_room.proofs.goes.Statement.{statement}
-use Rattle.merge_room.proofs.goes.Tie as tie
+use Rattle.merge_gone.proofs.goes.Statement.{statement}
+use Rattle.merge_gone.proofs.goes.Tie as tie
 use native.Mathlib.Omega.{arith}
-use Rattle.merge_room.proofs.Going.{both-rows, goes-missing, goes-there}
+use Rattle.merge_gone.proofs.Going.{both-rows, goes-missing, goes-there}
 
 boundary-requires : tie.Need-boundary-requires
 boundary-requires c κs = search needs

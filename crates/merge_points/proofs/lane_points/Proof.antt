@@ -1,6 +1,6 @@
--- `merge_room::lane_points` meets its contract. The invariant: what is counted are the points of the rows before i. The measure is how many rows are left. Assumes nothing.
-use Rattle.merge_room.proofs.lane_points.Statement.{statement}
-use Rattle.merge_room.proofs.lane_points.Tie as tie
+-- `merge_points::lane_points` meets its contract. The invariant: what is counted are the points of the rows before i. The measure is how many rows are left. Assumes nothing.
+use Rattle.merge_points.proofs.lane_points.Statement.{statement}
+use Rattle.merge_points.proofs.lane_points.Tie as tie
 use mathlib.Core.Path.{_≡_, ap, _∙_}
 use Prim.Native.Nat.{_+_, _-_, _*_, _≤_, _<_}
 use native.Mathlib.Omega.{arith}
@@ -9,8 +9,8 @@ use Rattle.row_tests.proofs.Tables.{row-length}
 use Rattle.lookup.specs.Lookup.{rowAt}
 use Rattle.lookup.proofs.Laws.{sorted-counted, sorted-few, sorted-room, sorted-row}
 use Rattle.room.proofs.Sums.{Summed, sum-starts, sum-turns, sum-ends, row-lent}
-use Rattle.merge_room.specs.Leaving.{centerAfter, lanePoints}
-use Rattle.merge_room.proofs.Points.{center-few}
+use Rattle.merge_gone.specs.Leaving.{centerAfter, lanePoints}
+use Rattle.merge_gone.proofs.Points.{center-few}
 
 abbrev Inv-loop : tie.InvT-loop
 Inv-loop lanes first second center n points₀ i₀ points i = Summed 52 (centerAfter first second center) lanes 512 i points

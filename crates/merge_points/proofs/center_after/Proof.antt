@@ -1,7 +1,7 @@
--- `merge_room::center_after` meets its contract. Assumes nothing.
+-- `merge_points::center_after` meets its contract. Assumes nothing.
 use borrow.Author.Needs.{needs}
-use Rattle.merge_room.proofs.center_after.Statement.{statement}
-use Rattle.merge_room.proofs.center_after.Tie as tie
+use Rattle.merge_points.proofs.center_after.Statement.{statement}
+use Rattle.merge_points.proofs.center_after.Tie as tie
 use borrow.Author.Tests.{eq-eqb, ne-eqb}
 use lib.ListN.{getD}
 

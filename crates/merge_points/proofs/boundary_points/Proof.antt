@@ -1,6 +1,6 @@
--- `merge_room::boundary_points` meets its contract. The invariant: what is counted are the points of the rows before i. The measure is how many rows are left. Assumes nothing.
-use Rattle.merge_room.proofs.boundary_points.Statement.{statement}
-use Rattle.merge_room.proofs.boundary_points.Tie as tie
+-- `merge_points::boundary_points` meets its contract. The invariant: what is counted are the points of the rows before i. The measure is how many rows are left. Assumes nothing.
+use Rattle.merge_points.proofs.boundary_points.Statement.{statement}
+use Rattle.merge_points.proofs.boundary_points.Tie as tie
 use mathlib.Core.Path.{_≡_, ap, _∙_}
 use Prim.Native.Nat.{_+_, _-_, _*_, _≤_, _<_}
 use native.Mathlib.Omega.{arith}
@@ -9,8 +9,8 @@ use Rattle.row_tests.proofs.Tables.{row-length}
 use Rattle.lookup.specs.Lookup.{rowAt}
 use Rattle.lookup.proofs.Laws.{sorted-counted, sorted-few, sorted-room, sorted-row}
 use Rattle.room.proofs.Sums.{Summed, sum-starts, sum-turns, sum-ends, row-lent}
-use Rattle.merge_room.specs.Leaving.{rowPoints, boundaryPoints}
-use Rattle.merge_room.proofs.Points.{boundary-few}
+use Rattle.merge_gone.specs.Leaving.{rowPoints, boundaryPoints}
+use Rattle.merge_gone.proofs.Points.{boundary-few}
 
 abbrev Inv-loop : tie.InvT-loop
 Inv-loop boundaries gone sides n points₀ i₀ points i = Summed 5 (rowPoints gone sides) boundaries 512 i points

@@ -1,4 +1,4 @@
--- `merge_room::gone` meets its contract. After each of the four calls those that go so far stand in front. Assumes nothing.
+-- `merge_gone::gone` meets its contract. After each of the four calls those that go so far stand in front. Assumes nothing.
 use borrow.Author.Needs.{needs}
 use mathlib.Core.Path.{ap}
 use mathlib.Core.Bool.{Bool}
@@ -6,10 +6,10 @@ use mathlib.Core.List.{List, []}
 use Prim.Native.Nat.{ℕ, _<_}
 use native.Mathlib.Omega.{arith}
 use lib.ListN.{length}
-use Rattle.merge_room.specs.Leaving.{goes, withGone}
-use Rattle.merge_room.proofs.Going.{Gathered, gathered-none, gathered-room, gathered-more, gathered-gone}
-use Rattle.merge_room.proofs.gone.Statement.{statement}
-use Rattle.merge_room.proofs.gone.Tie as tie
+use Rattle.merge_gone.specs.Leaving.{goes, withGone}
+use Rattle.merge_gone.proofs.Going.{Gathered, gathered-none, gathered-room, gathered-more, gathered-gone}
+use Rattle.merge_gone.proofs.gone.Statement.{statement}
+use Rattle.merge_gone.proofs.gone.Tie as tie
 
 -- b: the lanes' four boundaries are read
 abbrev start : tie.After-boundary-ref4 → tie.Start
