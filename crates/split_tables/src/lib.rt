@@ -135,7 +135,7 @@ fn put_half(
     let end = begin + LANE;
     let mut old = [0; LANE];
     slots::copy(&t[from..to], &mut old, 0);
-    split_rows::second_half(
+    split_second::second_half(
         &mut t[begin..end],
         &old,
         pieces,
@@ -182,7 +182,7 @@ fn cut_rows(t: &mut [u64], pieces: &[u64], m: usize, cut: &[u64], next: u64, cen
     while i < n {
         let at = 1 + i * LANE;
         let end = at + LANE;
-        split_rows::cut_row(&mut t[at..end], pieces, m, cut, next, centers);
+        split_first::cut_row(&mut t[at..end], pieces, m, cut, next, centers);
         i += 1;
     }
 }

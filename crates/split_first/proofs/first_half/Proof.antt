@@ -1,9 +1,9 @@
--- `split_rows::first_half` meets its contract: store by store. Assumes nothing.
+-- `split_first::first_half` meets its contract: store by store. Assumes nothing.
 use borrow.Author.Needs.{needs}
-use Rattle.split_rows.proofs.first_half.Statement.{statement}
-use Rattle.split_rows.proofs.first_half.Tie as tie
+use Rattle.split_first.proofs.first_half.Statement.{statement}
+use Rattle.split_first.proofs.first_half.Tie as tie
 use native.Mathlib.Omega.{arith}
 use Rattle.split_rows.proofs.Written.{left-asks, right-asks, list-asks, first-written, first-links}
 
 mul-measure : tie.Need-mul-measure
 mul-measure c = search needs

@@ -1,11 +1,11 @@
--- `split_rows::second_half` meets its contract: store by store, from the row as it was. Assumes nothing.
+-- `split_second::second_half` meets its contract: store by store, from the row as it was. Assumes nothing.
 use borrow.Author.Needs.{needs}
-use Rattle.split_rows.proofs.second_half.Statement.{statement}
-use Rattle.split_rows.proofs.second_half.Tie as tie
+use Rattle.split_second.proofs.second_half.Statement.{statement}
+use Rattle.split_second.proofs.second_half.Tie as tie
 use Prim.Native.Nat.{_+_, _*_}
 use native.Mathlib.Omega.{arith}
 use Rattle.store.proofs.Marks.{lane-marks}
 use Rattle.split_rows.proofs.Written.{measure-near, beside-left, beside-right, before-asks, after-asks, successors-part, second-written}
 
 mul-measure : tie.Need-mul-measure
 mul-measure c = search needs

@@ -1,13 +1,13 @@
--- `split_rows::cut_row` meets its contract: a row that is found becomes its first half, and every row's predecessors change. Assumes nothing.
+-- `split_first::cut_row` meets its contract: a row that is found becomes its first half, and every row's predecessors change. Assumes nothing.
 use borrow.Author.Needs.{needs}
-use Rattle.split_rows.proofs.cut_row.Statement.{statement}
-use Rattle.split_rows.proofs.cut_row.Tie as tie
+use Rattle.split_first.proofs.cut_row.Statement.{statement}
+use Rattle.split_first.proofs.cut_row.Tie as tie
 use native.Mathlib.Omega.{arith}
 use mathlib.Core.Logic.{⊎-elim}
 use mathlib.Core.Path.{_∙_, ap}
 use Rattle.lists.proofs.Rows.{one-found, found-within}
 use Rattle.split_rows.proofs.Slots.{cut-asks}
 use Rattle.split_rows.proofs.Written.{came-asks, half-asks, cut-first, cut-other}
 use lib.ListN.{length}
 
 slice-read-find-row : tie.Need-slice-read-find-row

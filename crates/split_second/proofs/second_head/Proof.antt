@@ -1,12 +1,12 @@
--- `split_rows::second_head` meets its contract: store by store; a limit's bits only where there is one. Assumes nothing.
+-- `split_second::second_head` meets its contract: store by store; a limit's bits only where there is one. Assumes nothing.
 use borrow.Author.Needs.{needs}
-use Rattle.split_rows.proofs.second_head.Statement.{statement}
-use Rattle.split_rows.proofs.second_head.Tie as tie
+use Rattle.split_second.proofs.second_head.Statement.{statement}
+use Rattle.split_second.proofs.second_head.Tie as tie
 use native.Mathlib.Omega.{arith}
 use mathlib.Core.Path.{_≡_}
 use mathlib.Core.Logic.{⊎-elim}
 use lib.ListN.{length-set}
 use Rattle.split_rows.proofs.Rows.{limit, limit-on, limit-off, limit-long, head-done}
 
 slice-write-row : tie.Need-slice-write-row
 slice-write-row c = search needs
