@@ -67,7 +67,7 @@ use Rattle.merge_plan.specs.Sides.{sideId}
 use Rattle.merge_lists.specs.Changes.{Formed, Looked, withJoined}
 use Rattle.merge_lists.proofs.Listed.{joined-more}
 use Rattle.merge_laid.proofs.Whole.{relayable}
-use Rattle.edit_merge.specs.Parts.{MayMerge, countsOf, namedWritten, namedIn, reachOf, written, mergeMade, mergeFound, goneIn, joinedIn}
+use Rattle.merge_made.specs.Parts.{MayMerge, countsOf, namedWritten, namedIn, reachOf, written, mergeMade, mergeFound, goneIn, joinedIn}
 
 -- ---- refused by what is named
 
