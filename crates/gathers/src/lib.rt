@@ -31,7 +31,7 @@ fn gather_in(
     ensures { λ _. ⌜ lineTables (now (lanes .exit)) (now (boundaries .exit)) (now («stop_lines» .exit)) (now (crosswalks .exit)) (now (coordinates .exit)) ≡ gathered (sourced reach (now (coordinates .entry)) (now (drawn .entry))) (lineTables (now (lanes .entry)) (now (boundaries .entry)) (now («stop_lines» .entry)) (now (crosswalks .entry)) (now (coordinates .entry))) ⌝ }
 {
     layout::copy(coordinates, 0, reach * POINT, work, 0);
-    layout::gather_all(
+    layout_all::gather_all(
         lanes,
         boundaries,
         stop_lines,

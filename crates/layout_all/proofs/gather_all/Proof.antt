@@ -1,7 +1,7 @@
--- `layout::gather_all` meets its contract: column by column, what is left before each. Assumes nothing.
+-- `layout_all::gather_all` meets its contract: column by column, what is left before each. Assumes nothing.
 use borrow.Author.Needs.{needs}
-use Rattle.layout.proofs.gather_all.Statement.{statement}
-use Rattle.layout.proofs.gather_all.Tie as tie
+use Rattle.layout_all.proofs.gather_all.Statement.{statement}
+use Rattle.layout_all.proofs.gather_all.Tie as tie
 use mathlib.Core.Path.{_≡_, _∙_}
 use mathlib.Core.Bool.{true}
 use mathlib.Core.List.{List, _++_}

@@ -1,13 +1,13 @@
--- `layout::gather_centers` meets its contract. The invariant: what becomes of the centrelines is what becomes of those from lane i on, from the place as it is.
+-- `layout_all::gather_centers` meets its contract. The invariant: what becomes of the centrelines is what becomes of those from lane i on, from the place as it is.
 -- The measure is how many lanes are left. Assumes nothing.
-use Rattle.layout.proofs.gather_centers.Statement.{statement}
-use Rattle.layout.proofs.gather_centers.Tie as tie
+use Rattle.layout_all.proofs.gather_centers.Statement.{statement}
+use Rattle.layout_all.proofs.gather_centers.Tie as tie
 use native.Mathlib.Omega.{arith}
 use Prim.Native.Nat.{_+_, _-_, _*_, _≤_}
 use Rattle.tables.specs.View.{word}
 use Rattle.apart.proofs.Marks.{counted-facts}
 use Rattle.layout.specs.Layout.{sourced, centerlines}
 use Rattle.layout.proofs.Column.{Left, RowReady, left-start, left-row, left-turn, left-done}
 
 abbrev Inv-loop : tie.InvT-loop
 Inv-loop lanes₀ work reach drawn coordinates₀ at n place₀ i₀ lanes coordinates place i = (i ≤ n) × Left centerlines (sourced reach work drawn) lanes₀ coordinates₀ at (n - i) (1 + i * 52) lanes coordinates place

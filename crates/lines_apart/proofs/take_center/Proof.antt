@@ -1,11 +1,11 @@
--- `apart::take_center` meets its contract: of a lane with no explicit centreline, and of one that has one. Assumes nothing.
+-- `lines_apart::take_center` meets its contract: of a lane with no explicit centreline, and of one that has one. Assumes nothing.
 use lib.ListN.{length}
 use borrow.Author.Needs.{needs}
 use Rattle.tables.specs.Formed.{spanAt, centerSpan}
 use Rattle.apart.specs.Marks.{within}
 use Rattle.apart.proofs.Marks.{take-no, take-one, one-fits, center-none, center-one}
-use Rattle.apart.proofs.take_center.Statement.{statement}
-use Rattle.apart.proofs.take_center.Tie as tie
+use Rattle.lines_apart.proofs.take_center.Statement.{statement}
+use Rattle.lines_apart.proofs.take_center.Tie as tie
 
 shared-slice-read-if1 : tie.Need-shared-slice-read-if1
 shared-slice-read-if1 c = search needs

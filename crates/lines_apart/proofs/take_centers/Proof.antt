@@ -1,4 +1,4 @@
--- `apart::take_centers` meets its contract. The invariant: what the lanes' centrelines find and mark is what those from lane i on do, from the marks as they are.
+-- `lines_apart::take_centers` meets its contract. The invariant: what the lanes' centrelines find and mark is what those from lane i on do, from the marks as they are.
 -- The measure is how many lanes are left. Assumes nothing.
 use mathlib.Core.Path.{_≡_, sym, ap, _∙_}
 use mathlib.Core.List.{List, _++_}
@@ -8,10 +8,10 @@ use lib.ListN.{length, take, drop}
 use Rattle.lists.specs.Rows.{reads}
 use Rattle.tables.specs.View.{word, rows}
 use Rattle.tables.specs.Formed.{Span, centerSpan}
 use Rattle.apart.proofs.Marks.{joined, rows-start, joined-end, part-length, row-in, counted-facts}
 use Rattle.apart.proofs.Walk.{Left, left-start, left-lane, left-fits, left-step, left-stop, left-done, never}
-use Rattle.apart.proofs.take_centers.Statement.{statement}
-use Rattle.apart.proofs.take_centers.Tie as tie
+use Rattle.lines_apart.proofs.take_centers.Statement.{statement}
+use Rattle.lines_apart.proofs.take_centers.Tie as tie
 
 abbrev Inv-loop : tie.InvT-loop
 Inv-loop t marks₀ n i₀ marks i = (i ≤ n) × Left marks₀ (joined (rows 52 centerSpan t)) marks (joined (reads 52 centerSpan (n - i) (drop (i * 52) (drop 1 t))))

@@ -1,7 +1,7 @@
--- `soundness::sound` meets its contract: each end by its law of Ends.antt, over the tables that were lent. Assumes nothing.
+-- `sound_map::sound` meets its contract: each end by its law of Ends.antt, over the tables that were lent. Assumes nothing.
 use borrow.Author.Needs.{needs}
-use Rattle.soundness.proofs.sound.Statement.{statement}
-use Rattle.soundness.proofs.sound.Tie as tie
+use Rattle.sound_map.proofs.sound.Statement.{statement}
+use Rattle.sound_map.proofs.sound.Tie as tie
 use mathlib.Core.Path.{sym, ap, _∙_}
 use Prim.Native.Nat.{_≤_}
 use native.Mathlib.Omega.{arith}

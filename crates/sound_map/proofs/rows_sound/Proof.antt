@@ -1,10 +1,10 @@
--- `soundness::rows_sound` meets its contract: the three answers as one. Assumes nothing.
+-- `sound_map::rows_sound` meets its contract: the three answers as one. Assumes nothing.
 use borrow.Author.Needs.{needs}
-use Rattle.soundness.proofs.rows_sound.Statement.{statement}
-use Rattle.soundness.proofs.rows_sound.Tie as tie
+use Rattle.sound_map.proofs.rows_sound.Statement.{statement}
+use Rattle.sound_map.proofs.rows_sound.Tie as tie
 use mathlib.Core.Path.{sym}
 use Rattle.tables.specs.View.{tablesOf}
 use Rattle.soundness.proofs.Ends.{both-found}
 
 largest-id-requires : tie.Need-largest-id-requires
 largest-id-requires c κs = search needs

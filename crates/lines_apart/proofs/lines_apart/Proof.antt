@@ -1,11 +1,11 @@
--- `apart::lines_apart` meets its contract: 65,536 points, none of them marked at first. Assumes nothing.
+-- `lines_apart::lines_apart` meets its contract: 65,536 points, none of them marked at first. Assumes nothing.
 use mathlib.Core.Path.{_∙_}
 use borrow.Author.Needs.{needs}
 use Rattle.apart.specs.Marks.{lineSpans}
 use Rattle.apart.proofs.Stored.{all-facts}
 use Rattle.apart.proofs.Clear.{apart-clear}
-use Rattle.apart.proofs.lines_apart.Statement.{statement}
-use Rattle.apart.proofs.lines_apart.Tie as tie
+use Rattle.lines_apart.proofs.lines_apart.Statement.{statement}
+use Rattle.lines_apart.proofs.lines_apart.Tie as tie
 
 slice-aggregate-take-all : tie.Need-slice-aggregate-take-all
 slice-aggregate-take-all c = search needs

@@ -1,14 +1,14 @@
--- `layout::gather` meets its contract. The invariant: what becomes of the column is what becomes of the rows from i on, from the place as it is.
+-- `layout_all::gather` meets its contract. The invariant: what becomes of the column is what becomes of the rows from i on, from the place as it is.
 -- The measure is how many rows are left. Assumes nothing.
-use Rattle.layout.proofs.gather.Statement.{statement}
-use Rattle.layout.proofs.gather.Tie as tie
+use Rattle.layout_all.proofs.gather.Statement.{statement}
+use Rattle.layout_all.proofs.gather.Tie as tie
 use mathlib.Core.Path.{refl}
 use native.Mathlib.Omega.{arith}
 use Prim.Native.Nat.{_+_, _-_, _*_, _≤_}
 use Rattle.tables.specs.View.{word}
 use Rattle.apart.proofs.Marks.{counted-facts}
 use Rattle.layout.specs.Layout.{sourced, plain}
 use Rattle.layout.proofs.Column.{Left, Ready, left-start, line-needs, left-line, left-done}
 
 abbrev Inv-loop : tie.InvT-loop
 Inv-loop rows₀ stride offset work reach drawn coordinates₀ at n place₀ i₀ rows coordinates place i = (i ≤ n) × Left (plain stride offset) (sourced reach work drawn) rows₀ coordinates₀ at (n - i) (1 + i * stride) rows coordinates place

@@ -1,4 +1,4 @@
--- `apart::take_column` meets its contract. The invariant: what the column's lines find and mark is what those from row i on do, from the marks as they are.
+-- `lines_apart::take_column` meets its contract. The invariant: what the column's lines find and mark is what those from row i on do, from the marks as they are.
 -- The measure is how many rows are left. Assumes nothing.
 use mathlib.Core.Path.{refl, sym, _∙_}
 use mathlib.Core.List.{List, [], _∷_}
@@ -9,11 +9,11 @@ use Rattle.lists.specs.Rows.{reads}
 use Rattle.lists.proofs.Every.{all-head}
 use Rattle.tables.specs.View.{word, rows}
 use Rattle.tables.specs.Formed.{Span, spanAt}
 use Rattle.apart.specs.Marks.{within}
 use Rattle.apart.proofs.Marks.{rows-start, reads-end, row-in, counted-facts, take-one}
 use Rattle.apart.proofs.Walk.{Left, left-start, left-row, left-fits, left-step, left-stop, left-done, never}
-use Rattle.apart.proofs.take_column.Statement.{statement}
-use Rattle.apart.proofs.take_column.Tie as tie
+use Rattle.lines_apart.proofs.take_column.Statement.{statement}
+use Rattle.lines_apart.proofs.take_column.Tie as tie
 
 abbrev Inv-loop : tie.InvT-loop
 Inv-loop t row k marks₀ n i₀ marks i = (i ≤ n) × Left marks₀ (rows row (spanAt k) t) marks (reads row (spanAt k) (n - i) (drop (i * row) (drop 1 t)))

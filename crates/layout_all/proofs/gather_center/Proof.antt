@@ -1,9 +1,9 @@
--- `layout::gather_center` meets its contract: of a lane with no explicit centreline, and of one that has one. Assumes nothing.
+-- `layout_all::gather_center` meets its contract: of a lane with no explicit centreline, and of one that has one. Assumes nothing.
 use borrow.Author.Needs.{needs}
-use Rattle.layout.proofs.gather_center.Statement.{statement}
-use Rattle.layout.proofs.gather_center.Tie as tie
+use Rattle.layout_all.proofs.gather_center.Statement.{statement}
+use Rattle.layout_all.proofs.gather_center.Tie as tie
 use Rattle.layout.specs.Layout.{sourced, centerlines}
 use Rattle.layout.proofs.Column.{row-stays, row-ready, row-turned, center-there, center-absent}
 use native.Mathlib.Omega.{arith}
 
 add-if1 : tie.Need-add-if1

@@ -1,4 +1,4 @@
--- `apart::take_rest` meets its contract: the stop lines, then the left edges of the crosswalks, then the right ones. Assumes nothing.
+-- `lines_apart::take_rest` meets its contract: the stop lines, then the left edges of the crosswalks, then the right ones. Assumes nothing.
 use mathlib.Core.Path.{_≡_, refl, sym, _∙_}
 use mathlib.Core.Bool.{true}
 use mathlib.Core.List.{List, _++_}
@@ -9,11 +9,11 @@ use borrow.Author.Needs.{needs}
 use Rattle.lists.specs.Every.{all}
 use Rattle.tables.specs.View.{rows}
 use Rattle.tables.specs.Formed.{Span, spanAt, counted}
 use Rattle.apart.specs.Marks.{within, restSpans}
 use Rattle.apart.proofs.Walk.{Left, left-start, left-fits, left-all, left-step, left-stop}
 use Rattle.apart.proofs.Stored.{rest-facts}
-use Rattle.apart.proofs.take_rest.Statement.{statement}
-use Rattle.apart.proofs.take_rest.Tie as tie
+use Rattle.lines_apart.proofs.take_rest.Statement.{statement}
+use Rattle.lines_apart.proofs.take_rest.Tie as tie
 
 -- what is left before each column
 abbrev stops : tie.Start → List Span

@@ -1,4 +1,4 @@
--- `apart::take_all` meets its contract: the boundaries, then the explicit centrelines, then the rest. Assumes nothing.
+-- `lines_apart::take_all` meets its contract: the boundaries, then the explicit centrelines, then the rest. Assumes nothing.
 use mathlib.Core.Path.{_≡_, refl, sym, _∙_}
 use mathlib.Core.Bool.{true}
 use mathlib.Core.List.{List, _++_}
@@ -8,12 +8,12 @@ use borrow.Author.Needs.{needs}
 use Rattle.lists.specs.Every.{all}
 use Rattle.tables.specs.View.{rows}
 use Rattle.tables.specs.Formed.{Span, spanAt, centerSpan, counted}
 use Rattle.apart.specs.Marks.{within, restSpans, restTakeable}
 use Rattle.apart.proofs.Marks.{joined}
 use Rattle.apart.proofs.Walk.{Left, left-start, left-fits, left-step, left-stop}
 use Rattle.apart.proofs.Stored.{all-facts}
-use Rattle.apart.proofs.take_all.Statement.{statement}
-use Rattle.apart.proofs.take_all.Tie as tie
+use Rattle.lines_apart.proofs.take_all.Statement.{statement}
+use Rattle.lines_apart.proofs.take_all.Tie as tie
 
 -- what is left before each part
 abbrev edges : tie.Start → List Span
