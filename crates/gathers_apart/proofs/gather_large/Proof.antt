@@ -1,7 +1,7 @@
--- `gathers::gather_medium` meets its contract. Assumes nothing.
+-- `gathers_apart::gather_large` meets its contract. Assumes nothing.
 use borrow.Author.Needs.{needs}
-use Rattle.gathers.proofs.gather_medium.Statement.{statement}
-use Rattle.gathers.proofs.gather_medium.Tie as tie
+use Rattle.gathers_apart.proofs.gather_large.Statement.{statement}
+use Rattle.gathers_apart.proofs.gather_large.Tie as tie
 use native.Mathlib.Omega.{arith}
 
 slice-aggregate-gather-in : tie.Need-slice-aggregate-gather-in
@@ -28,8 +28,8 @@ same-length-5 c = search needs
 returns : tie.Need-returns
 returns c = search needs
 
-pub gather-medium-spec : {M : Type 1} → statement M
-gather-medium-spec =
+pub gather-large-spec : {M : Type 1} → statement M
+gather-large-spec =
     tie.close
     (tie.spec
     slice-aggregate-gather-in

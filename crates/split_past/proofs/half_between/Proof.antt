@@ -1,7 +1,7 @@
--- `split_half::half_between` meets its contract: both sides are read back from where they were written. Assumes nothing.
+-- `split_past::half_between` meets its contract: both sides are read back from where they were written. Assumes nothing.
 use borrow.Author.Needs.{needs}
-use Rattle.split_half.proofs.half_between.Statement.{statement}
-use Rattle.split_half.proofs.half_between.Tie as tie
+use Rattle.split_past.proofs.half_between.Statement.{statement}
+use Rattle.split_past.proofs.half_between.Tie as tie
 use mathlib.Core.Path.{sym, _∙_}
 use Prim.Native.Nat.{_*_}
 use native.Mathlib.Omega.{arith}

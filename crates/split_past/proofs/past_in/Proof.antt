@@ -1,7 +1,7 @@
--- `split_half::past_in` meets its contract: both halves and their joined line are read back from where they were written. Assumes nothing.
+-- `split_past::past_in` meets its contract: both halves and their joined line are read back from where they were written. Assumes nothing.
 use borrow.Author.Needs.{needs}
-use Rattle.split_half.proofs.past_in.Statement.{statement}
-use Rattle.split_half.proofs.past_in.Tie as tie
+use Rattle.split_past.proofs.past_in.Statement.{statement}
+use Rattle.split_past.proofs.past_in.Tie as tie
 use mathlib.Core.Path.{sym, _∙_}
 use mathlib.Core.Bool.{true, false}
 use Prim.Native.Nat.{_*_}

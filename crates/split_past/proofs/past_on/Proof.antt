@@ -1,9 +1,9 @@
--- `split_half::past_on` meets its contract: a line with no station is not passed. Assumes nothing.
+-- `split_past::past_on` meets its contract: a line with no station is not passed. Assumes nothing.
 use borrow.Author.Needs.{needs}
-use Rattle.split_half.proofs.past_on.Statement.{statement}
-use Rattle.split_half.proofs.past_on.Tie as tie
+use Rattle.split_past.proofs.past_on.Statement.{statement}
+use Rattle.split_past.proofs.past_on.Tie as tie
 use Rattle.polyline.specs.Polyline.{points}
 use Rattle.split_half.proofs.Centers.{past-nowhere, past-near}
 
 nearest-point-requires : tie.Need-nearest-point-requires
 nearest-point-requires c κs = search needs

@@ -1,14 +1,14 @@
--- `split_half::half_center` meets its contract: of an explicit line with points a piece, else the line between both boundaries. Assumes nothing.
+-- `split_past::half_center` meets its contract: of an explicit line with points a piece, else the line between both boundaries. Assumes nothing.
 use borrow.Author.Needs.{needs}
-use Rattle.split_half.proofs.half_center.Statement.{statement}
-use Rattle.split_half.proofs.half_center.Tie as tie
+use Rattle.split_past.proofs.half_center.Statement.{statement}
+use Rattle.split_past.proofs.half_center.Tie as tie
 use mathlib.Core.Path.{sym, _∙_}
 use mathlib.Core.Logic.{⊎-elim, inl, inr}
 use native.Mathlib.Omega.{arith}
 use Rattle.lookup.proofs.Laws.{sorted-row}
 use Rattle.lookup.proofs.Center.{center-stored, written-as}
 use Rattle.split_half.specs.Half.{rowHalf, rowDerived}
 use Rattle.split_half.proofs.Centers.{half-between, own-written, own-few}
 
 mul-at : tie.Need-mul-at
 mul-at c = let a = c .before .before .before .before .args in let p = c .before .before .before .before .pre in omega (arith, sorted-row 1024 52 (a .lanes .now) (p .0 .drawable .lanes-sorted) (a .i) (p .0 .row))
