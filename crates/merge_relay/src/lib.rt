@@ -38,7 +38,7 @@ fn lay_out(
         return;
     }
     if order::in_order(lanes, boundaries, stop_lines, crosswalks, reach) {
-        in_place::settle(
+        settle::settle(
             lanes,
             boundaries,
             stop_lines,
