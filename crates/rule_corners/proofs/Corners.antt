@@ -1,19 +1,19 @@
 -- Document 01's corners, as rows in the form of Cases.antt: each outcome is the oracle's answer, and each holds by computation.
 use mathlib.Core.Path.{refl}
-use mathlib.Core.Bool.{Bool, true, false}
+use mathlib.Core.Bool.{true, false}
 use mathlib.Core.List.{List, [], _∷_}
 use mathlib.Core.Option.{Option, none, some}
 use Prim.{tt}
 use Prim.Native.Nat.{ℕ, _-_, _^_}
 use lib.Ieee.{Float}
-use Rattle.entities.specs.declared.OptionNeighbor.the-variants.{Some as ANeighbor}
 use Rattle.entities.specs.Types.{same, opposing}
 use Rattle.entities.specs.Records.{Line, Lane, Road, Rule, StopLine, Crosswalk, Map, Issue}
-use Rattle.rules.specs.Names.{Fraction, Station, Right, EntityRef, RoadKind, RuleKind, Warning, BoundaryUnshared, OrphanRule, AttributeConflict, LaneAbsent, PositionOutside, NotMergeable, BoundaryAbsent, NoUsableLine, NotCrossing, Unsound, NoRoom, NoIds}
+use Rattle.rules.specs.Names.{Fraction, Station, EntityRef, RoadKind, RuleKind, Warning, BoundaryUnshared, OrphanRule, AttributeConflict, PositionOutside, NotMergeable, BoundaryAbsent, NoUsableLine, NotCrossing, Unsound, NoRoom, NoIds}
 use Rattle.rules.specs.Sound.{Room, Lists}
-use Rattle.rules.specs.Ops.{SplitLane, MergeLanes, ConnectLanes, DisconnectLanes, SetNeighbor, RemoveLane, State}
+use Rattle.rules.specs.Ops.{SplitLane, MergeLanes, ConnectLanes, DisconnectLanes, RemoveLane}
 use Rattle.rules.proofs.Opened.{opened}
 use Rattle.rules.proofs.Cases.{Case, Holds, AllHold, theLane, theBoundary, warns, nothing-done, ample, lists, refusing, changing, changes, f, -n2, n0, n0·5, n10, n2, n5, at, from, edge, plain, beside, linked, yard, e101, e102, e103, one, halvedAt, halving}
+use Rattle.rules.proofs.Turned.{n6, n20, counting, turned}
 
 -- ---- what the corners need beside the helpers of Cases
 
@@ -23,9 +23,6 @@ abbrev -n4 : Float
 abbrev n4 : Float
 n4 = f 0x4010000000000000
 
-abbrev n6 : Float
-n6 = f 0x4018000000000000
-
 abbrev n8 : Float
 n8 = f 0x4020000000000000
 
@@ -34,12 +31,6 @@ n10·5 = f 0x4025000000000000
 
 abbrev n14 : Float
 n14 = f 0x402C000000000000
-
-abbrev n20 : Float
-n20 = f 0x4034000000000000
-
-abbrev counting : ℕ → Map → State
-counting n m = record { map = m; counter = n }
 
 -- the same row with other room and other lists lent
 abbrev lending : Room → Lists → Case → Case
@@ -73,24 +64,6 @@ limited bits l =
       right = l .right;
       centerline = l .centerline;
       speed-limit = some bits;
-      one-way = l .one-way;
-      turn-direction = l .turn-direction;
-      attributes = l .attributes;
-      left-neighbor = l .left-neighbor;
-      right-neighbor = l .right-neighbor;
-      predecessors = l .predecessors;
-      successors = l .successors;
-    }
-
-abbrev turned : Bool → Bool → Lane → Lane
-turned left right l =
-    record {
-      id = l .id;
-      kind = l .kind;
-      left = record { boundary = l .left .boundary; reversed = left };
-      right = record { boundary = l .right .boundary; reversed = right };
-      centerline = l .centerline;
-      speed-limit = l .speed-limit;
       one-way = l .one-way;
       turn-direction = l .turn-direction;
       attributes = l .attributes;
@@ -150,60 +123,6 @@ ruleEntity i = record { kind = RuleKind; id = i }
 -- the warning of a rule left without lanes, with the mark for the removal fix
 abbrev orphaning : ℕ → Issue
 orphaning i = record { severity = Warning; code = OrphanRule; entity = ruleEntity i; related = []; fix = true }
-
--- ---- the wrong turns
-
--- "In a merge, warning of a dropped neighbour where only the directions differ": lane 3 is left of both, not warned of.
-abbrev merge-directions : Case
-merge-directions =
-    changing (counting 106 (yard (linked [] (2 ∷ []) (beside (some (same 3)) none (plain 1 101 102)) ∷
-    linked (1 ∷ []) [] (beside (some (opposing 3)) none (plain 2 103 104)) ∷ beside (some (opposing 2)) (some (same 1)) (plain 3 105 101) ∷ [])
-    (e101 ∷ e102 ∷ edge 103 (from n10 n20 n2) ∷ edge 104 (from n10 n20 -n2) ∷ edge 105 (from n0 n20 n6) ∷ []))) (MergeLanes 1 2)
-    (yard (beside (some (same 3)) none (plain 1 106 102) ∷ beside none (some (same 1)) (plain 3 105 101) ∷ [])
-    (e101 ∷ edge 102 (at n0 -n2 ∷ at n10 -n2 ∷ at n20 -n2 ∷ []) ∷ edge 105 (from n0 n20 n6) ∷ edge 106 (at n0 n2 ∷ at n10 n2 ∷ at n20 n2 ∷ []) ∷ []))
-    107 none
-    (changes (theBoundary 106 ∷ []) (theLane 1 ∷ theLane 3 ∷ theBoundary 102 ∷ [])
-    (theLane 2 ∷ theBoundary 103 ∷ theBoundary 104 ∷ []) (warns BoundaryUnshared (theBoundary 106) [] ∷ []))
-
-merge-directions-holds : Holds merge-directions
-unfolding opened
-merge-directions-holds = refl
-
--- "Pairing opposite halves first with first": each first half stands beside the other's second.
-abbrev opposite-halves : Case
-opposite-halves =
-    changing (counting 104 (yard (beside (some (opposing 2)) none (plain 1 101 102) ∷
-    beside (some (opposing 1)) none (turned true true (plain 2 101 103)) ∷ []) (e101 ∷ e102 ∷ edge 103 (from n0 n10 n6) ∷ [])))
-    (SplitLane 1 (Fraction n0·5) true)
-    (yard (linked [] (107 ∷ []) (beside (some (opposing 108)) none (plain 1 101 102)) ∷
-    linked [] (108 ∷ []) (beside (some (opposing 107)) none (turned true true (plain 2 104 106))) ∷
-    linked (1 ∷ []) [] (beside (some (opposing 2)) none (plain 107 104 105)) ∷
-    linked (2 ∷ []) [] (beside (some (opposing 1)) none (turned true true (plain 108 101 103))) ∷ [])
-    (edge 101 (from n0 n5 n2) ∷ edge 102 (from n0 n5 -n2) ∷ edge 103 (from n0 n5 n6) ∷ edge 104 (from n5 n10 n2) ∷ edge 105 (from n5 n10 -n2) ∷
-    edge 106 (from n5 n10 n6) ∷ []))
-    109 (some 107)
-    (changes (theLane 107 ∷ theLane 108 ∷ theBoundary 104 ∷ theBoundary 105 ∷ theBoundary 106 ∷ [])
-    (theLane 1 ∷ theLane 2 ∷ theBoundary 101 ∷ theBoundary 102 ∷ theBoundary 103 ∷ []) [] [])
-
-opposite-halves-holds : Holds opposite-halves
-unfolding opened
-opposite-halves-holds = refl
-
--- "Reporting only the two named lanes in `set_neighbor`": lanes 2 and 4 are freed and reported too.
-abbrev freed-reported : Case
-freed-reported =
-    changing (counting 106 (yard (beside none (some (same 2)) (plain 1 101 102) ∷ beside (some (same 1)) none (plain 2 102 103) ∷
-    beside (some (same 4)) none (plain 3 104 101) ∷ beside none (some (same 3)) (plain 4 105 104) ∷ [])
-    (e101 ∷ e102 ∷ e103 ∷ edge 104 (from n0 n10 n6) ∷ edge 105 (from n0 n10 n10) ∷ []))) (SetNeighbor 1 Right (ANeighbor (same 3)))
-    (yard (beside none (some (same 3)) (plain 1 101 102) ∷ plain 2 102 103 ∷ beside (some (same 1)) none (plain 3 104 101) ∷ plain 4 105 104 ∷ [])
-    (e101 ∷ e102 ∷ e103 ∷ edge 104 (from n0 n10 n6) ∷ edge 105 (from n0 n10 n10) ∷ []))
-    106 none
-    (changes [] (theLane 1 ∷ theLane 2 ∷ theLane 3 ∷ theLane 4 ∷ []) []
-    (warns BoundaryUnshared (theLane 1) (theLane 3 ∷ []) ∷ []))
-
-freed-reported-holds : Holds freed-reported
-unfolding opened
-freed-reported-holds = refl
 
 -- ---- refusals 9 to 11, and the counter
 
@@ -767,40 +686,10 @@ missing-unlisted-holds : Holds missing-unlisted
 unfolding opened
 missing-unlisted-holds = refl
 
--- a lane that goes is forgotten by those that it led to and came from
-abbrev removed-unlinked : Case
-removed-unlinked =
-    changing
-    (counting 104 (yard (linked [] (2 ∷ []) (plain 1 101 102) ∷ linked (1 ∷ []) (3 ∷ []) (plain 2 101 102) ∷ linked (2 ∷ []) [] (plain 3 101 102) ∷ []) (e101 ∷ e102 ∷ [])))
-    (RemoveLane 2)
-    (yard (plain 1 101 102 ∷ plain 3 101 102 ∷ []) (e101 ∷ e102 ∷ []))
-    104 none
-    (changes [] (theLane 1 ∷ theLane 3 ∷ []) (theLane 2 ∷ []) [])
-
-removed-unlinked-holds : Holds removed-unlinked
-unfolding opened
-removed-unlinked-holds = refl
-
--- ---- the order of refusals: "lane absent, in the order named", and before a lane as its own successor
-
-abbrev both-absent : Case
-both-absent = refusing one (ConnectLanes 9 8) (LaneAbsent 9)
-
-both-absent-holds : Holds both-absent
-unfolding opened
-both-absent-holds = refl
-
-abbrev absent-itself : Case
-absent-itself = refusing one (ConnectLanes 9 9) (LaneAbsent 9)
-
-absent-itself-holds : Holds absent-itself
-unfolding opened
-absent-itself-holds = refl
-
 -- ---- the table
 
 abbrev pub corners : List Case
-corners = merge-directions ∷ opposite-halves ∷ freed-reported ∷ one-sided ∷ created-short ∷ created-exact ∷ lanes-short ∷ ids-short ∷ ids-exact ∷ spent ∷ counter-zero ∷ counter-kept ∷ nearest-station ∷ neighbour-empty ∷ neighbour-point ∷ boundary-missing ∷ boundary-empty ∷ boundary-short ∷ line-missing ∷ line-before-fraction ∷ own-empty ∷ reversed ∷ both-sides ∷ self-link ∷ self-beside ∷ anchor-past ∷ anchor-before ∷ stop-missing ∷ crosswalk-past ∷ crosswalk-before ∷ own-twice ∷ road-twice ∷ rights ∷ shared-kept ∷ in-place-reversed ∷ fresh-forward ∷ both-in-place ∷ apart-joined ∷ nan-limits ∷ zero-limits ∷ one-centreline ∷ same-lane ∷ absent-left-first ∷ orphan ∷ orphan-before ∷ missing-unlisted ∷ removed-unlinked ∷ both-absent ∷ absent-itself ∷ []
+corners = one-sided ∷ created-short ∷ created-exact ∷ lanes-short ∷ ids-short ∷ ids-exact ∷ spent ∷ counter-zero ∷ counter-kept ∷ nearest-station ∷ neighbour-empty ∷ neighbour-point ∷ boundary-missing ∷ boundary-empty ∷ boundary-short ∷ line-missing ∷ line-before-fraction ∷ own-empty ∷ reversed ∷ both-sides ∷ self-link ∷ self-beside ∷ anchor-past ∷ anchor-before ∷ stop-missing ∷ crosswalk-past ∷ crosswalk-before ∷ own-twice ∷ road-twice ∷ rights ∷ shared-kept ∷ in-place-reversed ∷ fresh-forward ∷ both-in-place ∷ apart-joined ∷ nan-limits ∷ zero-limits ∷ one-centreline ∷ same-lane ∷ absent-left-first ∷ orphan ∷ orphan-before ∷ missing-unlisted ∷ []
 
 pub corners-hold : AllHold corners
-corners-hold = (merge-directions-holds, (opposite-halves-holds, (freed-reported-holds, (one-sided-holds, (created-short-holds, (created-exact-holds, (lanes-short-holds, (ids-short-holds, (ids-exact-holds, (spent-holds, (counter-zero-holds, (counter-kept-holds, (nearest-station-holds, (neighbour-empty-holds, (neighbour-point-holds, (boundary-missing-holds, (boundary-empty-holds, (boundary-short-holds, (line-missing-holds, (line-before-fraction-holds, (own-empty-holds, (reversed-holds, (both-sides-holds, (self-link-holds, (self-beside-holds, (anchor-past-holds, (anchor-before-holds, (stop-missing-holds, (crosswalk-past-holds, (crosswalk-before-holds, (own-twice-holds, (road-twice-holds, (rights-holds, (shared-kept-holds, (in-place-reversed-holds, (fresh-forward-holds, (both-in-place-holds, (apart-joined-holds, (nan-limits-holds, (zero-limits-holds, (one-centreline-holds, (same-lane-holds, (absent-left-first-holds, (orphan-holds, (orphan-before-holds, (missing-unlisted-holds, (removed-unlinked-holds, (both-absent-holds, (absent-itself-holds, tt)))))))))))))))))))))))))))))))))))))))))))))))))
+corners-hold = (one-sided-holds, (created-short-holds, (created-exact-holds, (lanes-short-holds, (ids-short-holds, (ids-exact-holds, (spent-holds, (counter-zero-holds, (counter-kept-holds, (nearest-station-holds, (neighbour-empty-holds, (neighbour-point-holds, (boundary-missing-holds, (boundary-empty-holds, (boundary-short-holds, (line-missing-holds, (line-before-fraction-holds, (own-empty-holds, (reversed-holds, (both-sides-holds, (self-link-holds, (self-beside-holds, (anchor-past-holds, (anchor-before-holds, (stop-missing-holds, (crosswalk-past-holds, (crosswalk-before-holds, (own-twice-holds, (road-twice-holds, (rights-holds, (shared-kept-holds, (in-place-reversed-holds, (fresh-forward-holds, (both-in-place-holds, (apart-joined-holds, (nan-limits-holds, (zero-limits-holds, (one-centreline-holds, (same-lane-holds, (absent-left-first-holds, (orphan-holds, (orphan-before-holds, (missing-unlisted-holds, tt)))))))))))))))))))))))))))))))))))))))))))
