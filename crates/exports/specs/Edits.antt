@@ -4,7 +4,7 @@ use Rattle.rules.specs.Ops as O
 use Rattle.words.specs.Words.{told}
 use Rattle.words.specs.declared.Told.{Told}
 use Rattle.step.specs.Step.{Lent}
-use Rattle.commands.specs.Applying.{applying}
+use Rattle.ops.specs.Applying.{applying}
 
 pub record Called : Type 0 where
   pub lent : Lent

@@ -11,7 +11,7 @@ use mathlib.Core.Path.{_≡_, refl, sym, ap, _∙_}
 use native.Mathlib.Omega.{arith}
 use Rattle.step.specs.Step.{Lent, lentOf}
 use Rattle.words.specs.Words.{commandOf}
-use Rattle.commands.proofs.Counters.{counter-word}
+use Rattle.ops.proofs.Counters.{counter-word}
 use Rattle.exports.proofs.Calls.{all-called}
 
 -- what is lent

@@ -3,10 +3,10 @@ use Rattle.ops.proofs.apply.Statement.{statement}
 use Rattle.ops.proofs.apply.Tie as tie
 use Rattle.ops.proofs.apply.Reads as reads
 use Rattle.ops.proofs.apply.Lts as lts
-use Rattle.commands.proofs.dispatch.Reads as dispatch-reads
+use Rattle.ops.proofs.dispatch.Reads as dispatch-reads
 use Rattle.sound_map.proofs.sound.Reads as sound-reads
 use Rattle.step.specs.Step.{Lent, lentOf}
-use Rattle.commands.proofs.Applies.{unsound}
+use Rattle.ops.proofs.Applies.{unsound}
 use mathlib.Core.Path.{_≡_, refl, sym, ap, _∙_}
 
 -- what is lent

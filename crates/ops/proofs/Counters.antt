@@ -11,7 +11,7 @@ use Rattle.report.specs.Report.{counterBehind}
 use Rattle.report.specs.declared.Answer.{Answer}
 use Rattle.step.specs.Step.{Lent, Ended, ended, step, refusing}
 use Rattle.step.proofs.Counter.{step-counter, step-counter-fits}
-use Rattle.commands.specs.Applying.{InCode, applying}
+use Rattle.ops.specs.Applying.{InCode, applying}
 
 -- of the answer of a call that had the counter k
 abbrev behind : ℕ → Ended → ℕ

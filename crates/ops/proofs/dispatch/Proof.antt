@@ -1,8 +1,8 @@
 use borrow.Author.Needs.{needs}
-use Rattle.commands.proofs.dispatch.Statement.{statement}
-use Rattle.commands.proofs.dispatch.Tie as tie
-use Rattle.commands.proofs.dispatch.Reads as reads
-use Rattle.commands.proofs.dispatch.Lts as lts
+use Rattle.ops.proofs.dispatch.Statement.{statement}
+use Rattle.ops.proofs.dispatch.Tie as tie
+use Rattle.ops.proofs.dispatch.Reads as reads
+use Rattle.ops.proofs.dispatch.Lts as lts
 use Rattle.edit.proofs.connect.Reads as connect-reads
 use Rattle.edit.proofs.disconnect.Reads as disconnect-reads
 use Rattle.edit.proofs.set_neighbor.Reads as set-neighbor-reads
@@ -10,9 +10,9 @@ use Rattle.edit_lane.proofs.remove_lane.Reads as remove-lane-reads
 use Rattle.edit_merge.proofs.merge_lanes.Reads as merge-lanes-reads
 use Rattle.step.specs.Step.{lentOf}
 use Rattle.rules.specs.Ops as O
-use Rattle.commands.proofs.Applies.{not-yet, made, made-as}
+use Rattle.ops.proofs.Applies.{not-yet, made, made-as}
 use mathlib.Core.Path.{_≡_, refl, sym, ap, _∙_}
-use Rattle.commands.specs.Applying.{InCode}
+use Rattle.ops.specs.Applying.{InCode}
 
 -- src/lib.rt:39:30
 enum-told : tie.Need-enum-told

@@ -10,7 +10,7 @@ use Rattle.report.specs.declared.Answer.{Answer}
 use Rattle.step.specs.Step.{Lent, Ended, ended, step, refusing}
 use Rattle.step.proofs.Steps.{step-unsound}
 use Rattle.step.proofs.Counter.{withCounter, counter-told}
-use Rattle.commands.specs.Applying.{InCode, applying}
+use Rattle.ops.specs.Applying.{InCode, applying}
 
 module _ (tol : Tolerance) (l : Lent) where
   pub unsound : (c : O.Command) → soundTables (l .counter) (l .tables) ≡ false → refusing l Unsound ≡ applying tol c l
