@@ -20,5 +20,5 @@ pub fn lines_clear(
     if order::in_order(lanes, boundaries, stop_lines, crosswalks, MAX_POINTS) {
         return true;
     }
-    apart::lines_apart(lanes, boundaries, stop_lines, crosswalks)
+    lines_apart::lines_apart(lanes, boundaries, stop_lines, crosswalks)
 }

@@ -112,7 +112,7 @@ pub fn set_neighbor(
         return Answer::Refused(Refusal::LaneAbsent(lane));
     };
     let OptionNeighbor::Some(n) = neighbor else {
-        return reslot::free_slot(lanes, i, side, modified, warnings);
+        return reslot_edits::free_slot(lanes, i, side, modified, warnings);
     };
     let direction = n.direction;
     let other = lookup::lane(lanes, n.lane);
@@ -122,5 +122,5 @@ pub fn set_neighbor(
     if n.lane == lane {
         return Answer::Refused(Refusal::OwnPartner(lane));
     }
-    reslot::set_slot(lanes, i, side, j, direction, modified, warnings)
+    reslot_edits::set_slot(lanes, i, side, j, direction, modified, warnings)
 }

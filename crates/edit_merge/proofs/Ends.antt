@@ -36,8 +36,8 @@ use Rattle.merge_plan.specs.Deciding.{laneIn, follows, planned}
 use Rattle.merge_plan.specs.Sides.{sideIds}
 use Rattle.merge_plan.specs.declared.Plan.{Plan}
 use Rattle.merge_plan.specs.declared.Planned.the-variants as N
-use Rattle.merge_plan.proofs.Whole.{Plans, merge-unfit, merge-refused, merge-planned}
-use Rattle.merge_room.specs.Leaving.{fitsAfter}
+use Rattle.merge_decide.proofs.Whole.{Plans, merge-unfit, merge-refused, merge-planned}
+use Rattle.merge_gone.specs.Leaving.{fitsAfter}
 use Rattle.merge_lists.specs.Changes.{touched, leaving, warningsOf}
 use Rattle.merge_lists.proofs.Standing.{length-refs}
 use Rattle.merge_laid.proofs.Planning.{Planning}
@@ -67,7 +67,7 @@ use Rattle.merge_plan.specs.Sides.{sideId}
 use Rattle.merge_lists.specs.Changes.{Formed, Looked, withJoined}
 use Rattle.merge_lists.proofs.Listed.{joined-more}
 use Rattle.merge_laid.proofs.Whole.{relayable}
-use Rattle.edit_merge.specs.Parts.{MayMerge, countsOf, namedWritten, namedIn, reachOf, written, mergeMade, mergeFound, goneIn, joinedIn}
+use Rattle.merge_made.specs.Parts.{MayMerge, countsOf, namedWritten, namedIn, reachOf, written, mergeMade, mergeFound, goneIn, joinedIn}
 
 -- ---- refused by what is named
 

@@ -109,7 +109,7 @@ pub extern "C" fn voldrekka_sound(
 ) -> bool
     ensures { λ r. ⌜ r ≡ soundTables counter (tablesOf (now (lanes .entry)) (now (boundaries .entry)) (now (roads .entry)) (now (junctions .entry)) (now (rules .entry)) (now («stop_lines» .entry)) (now (crosswalks .entry)) (now (coordinates .entry))) ⌝ }
 {
-    soundness::sound(
+    sound_map::sound(
         counter,
         lanes,
         boundaries,

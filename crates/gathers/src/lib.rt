@@ -8,16 +8,10 @@ use tables::POINT;
 // Points that the three arrays of work hold.
 pub const SMALL_POINTS: usize = 2560;
 
-const MEDIUM_POINTS: usize = 14848;
-
 const SMALL: usize = 7680;
 
-const MEDIUM: usize = 44544;
-
-const LARGE: usize = 196608;
-
 // Every line of the map, column by column, from a copy of the coordinates up to point `reach` made in `work`.
-fn gather_in(
+pub fn gather_in(
     lanes: &mut [u64],
     boundaries: &mut [u64],
     stop_lines: &mut [u64],
@@ -31,7 +25,7 @@ fn gather_in(
     ensures { λ _. ⌜ lineTables (now (lanes .exit)) (now (boundaries .exit)) (now («stop_lines» .exit)) (now (crosswalks .exit)) (now (coordinates .exit)) ≡ gathered (sourced reach (now (coordinates .entry)) (now (drawn .entry))) (lineTables (now (lanes .entry)) (now (boundaries .entry)) (now («stop_lines» .entry)) (now (crosswalks .entry)) (now (coordinates .entry))) ⌝ }
 {
     layout::copy(coordinates, 0, reach * POINT, work, 0);
-    layout::gather_all(
+    layout_all::gather_all(
         lanes,
         boundaries,
         stop_lines,
@@ -65,91 +59,5 @@ pub fn gather_small(
         reach,
         drawn,
         &mut work,
-    );
-}
-
-fn gather_medium(
-    lanes: &mut [u64],
-    boundaries: &mut [u64],
-    stop_lines: &mut [u64],
-    crosswalks: &mut [u64],
-    coordinates: &mut [f64],
-    reach: usize,
-    drawn: &[f64],
-)
-    requires { ⌜ (reach ≤ 14848) × ((reach * 3 ≤ length (now coordinates)) × (Gatherable (sourced reach (now coordinates) (now drawn)) (lineTables (now lanes) (now boundaries) (now «stop_lines») (now crosswalks) (now coordinates)))) ⌝ }
-    ensures { λ _. ⌜ lineTables (now (lanes .exit)) (now (boundaries .exit)) (now («stop_lines» .exit)) (now (crosswalks .exit)) (now (coordinates .exit)) ≡ gathered (sourced reach (now (coordinates .entry)) (now (drawn .entry))) (lineTables (now (lanes .entry)) (now (boundaries .entry)) (now («stop_lines» .entry)) (now (crosswalks .entry)) (now (coordinates .entry))) ⌝ }
-{
-    let mut work = [0.0; MEDIUM];
-    gather_in(
-        lanes,
-        boundaries,
-        stop_lines,
-        crosswalks,
-        coordinates,
-        reach,
-        drawn,
-        &mut work,
-    );
-}
-
-fn gather_large(
-    lanes: &mut [u64],
-    boundaries: &mut [u64],
-    stop_lines: &mut [u64],
-    crosswalks: &mut [u64],
-    coordinates: &mut [f64],
-    reach: usize,
-    drawn: &[f64],
-)
-    requires { ⌜ (reach ≤ 65536) × ((reach * 3 ≤ length (now coordinates)) × (Gatherable (sourced reach (now coordinates) (now drawn)) (lineTables (now lanes) (now boundaries) (now «stop_lines») (now crosswalks) (now coordinates)))) ⌝ }
-    ensures { λ _. ⌜ lineTables (now (lanes .exit)) (now (boundaries .exit)) (now («stop_lines» .exit)) (now (crosswalks .exit)) (now (coordinates .exit)) ≡ gathered (sourced reach (now (coordinates .entry)) (now (drawn .entry))) (lineTables (now (lanes .entry)) (now (boundaries .entry)) (now («stop_lines» .entry)) (now (crosswalks .entry)) (now (coordinates .entry))) ⌝ }
-{
-    let mut work = [0.0; LARGE];
-    gather_in(
-        lanes,
-        boundaries,
-        stop_lines,
-        crosswalks,
-        coordinates,
-        reach,
-        drawn,
-        &mut work,
-    );
-}
-
-// In the smaller of the larger two that holds the copy.
-pub fn gather_apart(
-    lanes: &mut [u64],
-    boundaries: &mut [u64],
-    stop_lines: &mut [u64],
-    crosswalks: &mut [u64],
-    coordinates: &mut [f64],
-    reach: usize,
-    drawn: &[f64],
-)
-    requires { ⌜ (reach ≤ 65536) × ((reach * 3 ≤ length (now coordinates)) × (Gatherable (sourced reach (now coordinates) (now drawn)) (lineTables (now lanes) (now boundaries) (now «stop_lines») (now crosswalks) (now coordinates)))) ⌝ }
-    ensures { λ _. ⌜ lineTables (now (lanes .exit)) (now (boundaries .exit)) (now («stop_lines» .exit)) (now (crosswalks .exit)) (now (coordinates .exit)) ≡ gathered (sourced reach (now (coordinates .entry)) (now (drawn .entry))) (lineTables (now (lanes .entry)) (now (boundaries .entry)) (now («stop_lines» .entry)) (now (crosswalks .entry)) (now (coordinates .entry))) ⌝ }
-{
-    if reach <= MEDIUM_POINTS {
-        gather_medium(
-            lanes,
-            boundaries,
-            stop_lines,
-            crosswalks,
-            coordinates,
-            reach,
-            drawn,
-        );
-        return;
-    }
-    gather_large(
-        lanes,
-        boundaries,
-        stop_lines,
-        crosswalks,
-        coordinates,
-        reach,
-        drawn,
     );
 }

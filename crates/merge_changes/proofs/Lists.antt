@@ -34,7 +34,7 @@ use Rattle.merge_plan.specs.Sides.{sideIds}
 use Rattle.merge_plan.specs.declared.Joined.{Joined}
 use Rattle.merge_plan.specs.declared.Joined.the-variants.{Kept, InPlace, Fresh}
 use Rattle.merge_plan.specs.declared.Plan.{Plan}
-use Rattle.merge_plan.proofs.Whole.{conflict-lineless, slot-lineless}
+use Rattle.merge_decide.proofs.Whole.{conflict-lineless, slot-lineless}
 use Rattle.merge_lists.specs.Changes.{withJoined, joinedIds, touched, leaving, unshared, conflicting, warningsOf}
 use Rattle.merge_laid.proofs.Lanes.{all-one}
 use Rattle.merge_laid.proofs.Merging.{Merging, a, b, pl, pr, next, left-planned, right-planned, found, leads, lanes-up, boundary-keys, known}

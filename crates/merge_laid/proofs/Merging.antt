@@ -45,7 +45,7 @@ use Rattle.sound_facts.proofs.Facts.{Facts}
 use Rattle.sound_facts.proofs.Room.{Limits, limits}
 use Rattle.merge_plan.specs.Deciding.{laneIn, follows}
 use Rattle.merge_plan.specs.declared.Plan.{Plan}
-use Rattle.merge_plan.proofs.Whole.{Plans}
+use Rattle.merge_decide.proofs.Whole.{Plans}
 use Rattle.merge_laid.proofs.Lanes.{all-one, leadsOnly, takesRow}
 use Rattle.merge_laid.proofs.Planning.{Planning}
 use Rattle.merge_laid.proofs.Planning as P

@@ -44,7 +44,7 @@ use Rattle.sound_facts.proofs.Stored.{formed-counts}
 use Rattle.sound_facts.proofs.Facts.{Facts, facts}
 use Rattle.merge_plan.specs.Deciding.{laneIn, follows}
 use Rattle.merge_plan.specs.declared.Plan.{Plan}
-use Rattle.merge_plan.proofs.Whole.{Plans}
+use Rattle.merge_decide.proofs.Whole.{Plans}
 
 -- Lanes `one` and `two` stand in rows i and j of sound tables, the second follows the first, and p is the plan of their merge.
 pub record Planning (tol : Tolerance) (counter : ℕ) (t : Tables) (one two i j : ℕ) (p : Plan) : Type 0 where

@@ -23,7 +23,7 @@ use Rattle.merge_plan.specs.declared.Plan.{Plan}
 use Rattle.merge_laid.proofs.Lines as L
 use Rattle.merge_laid.proofs.Planning.{Planning}
 use Rattle.merge_laid.proofs.Planning as P
-use Rattle.merge_room.specs.Leaving.{Leaving, Counting, Countable, sidesOf, goneOf, centersShort}
+use Rattle.merge_gone.specs.Leaving.{Leaving, Counting, Countable, sidesOf, goneOf, centersShort}
 use Rattle.merge_limits.proofs.Gone.{gone-within}
 
 -- ---- plans in numbers

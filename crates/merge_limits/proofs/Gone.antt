@@ -34,7 +34,7 @@ use Rattle.merge_plan.specs.declared.Joined.{Joined}
 use Rattle.merge_plan.specs.declared.Plan.{Plan}
 use Rattle.merge_laid.proofs.Planning.{Planning}
 use Rattle.merge_laid.proofs.Planning as P
-use Rattle.merge_room.specs.Leaving.{held, idle, goneOf}
+use Rattle.merge_gone.specs.Leaving.{held, idle, goneOf}
 
 -- ---- a side's reference after the merge
 

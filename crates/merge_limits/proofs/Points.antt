@@ -35,8 +35,8 @@ use Rattle.merge_plan.specs.declared.Plan.{Plan}
 use Rattle.merge_laid.proofs.Rows.{side-ids}
 use Rattle.merge_laid.proofs.Planning.{Planning}
 use Rattle.merge_laid.proofs.Planning as P
-use Rattle.merge_room.specs.declared.Sides.{Sides}
-use Rattle.merge_room.specs.Leaving.{joins, sidesOf, sizeAfter, rowPoints, boundaryPoints, newPoints, centerAfter, lanePoints, pointsAfter, boundariesAfter}
+use Rattle.merge_gone.specs.declared.Sides.{Sides}
+use Rattle.merge_gone.specs.Leaving.{joins, sidesOf, sizeAfter, rowPoints, boundaryPoints, newPoints, centerAfter, lanePoints, pointsAfter, boundariesAfter}
 use Rattle.room.specs.Room.{columnPoints}
 use Rattle.merge_limits.proofs.Asked.{side-many, toldPlan}
 

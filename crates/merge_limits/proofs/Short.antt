@@ -34,8 +34,8 @@ use Rattle.laws.proofs.MergeStill.{joined-stays}
 use Rattle.lookup.specs.Lookup.{countOf}
 use Rattle.merge_plan.specs.Deciding.{counted}
 use Rattle.merge_plan.specs.Sides.{sidePoints, centerPoints}
-use Rattle.merge_room.specs.declared.Sides.{Sides}
-use Rattle.merge_room.specs.Leaving.{joins, overdrawn, linesFit}
+use Rattle.merge_gone.specs.declared.Sides.{Sides}
+use Rattle.merge_gone.specs.Leaving.{joins, overdrawn, linesFit}
 use Rattle.merge_limits.proofs.Asked.{side-many}
 use Rattle.merge_limits.proofs.Points.{joins-is}
 

@@ -30,7 +30,7 @@ use Rattle.merge_laid.proofs.Planning.{Planning}
 use Rattle.merge_laid.proofs.Planning as P
 use Rattle.merge_laid.proofs.Merging.{Merging}
 use Rattle.sound_facts.proofs.Room.{limits}
-use Rattle.merge_room.specs.Leaving.{goneOf, sidesOf, linesFit, fitsAfter}
+use Rattle.merge_gone.specs.Leaving.{goneOf, sidesOf, linesFit, fitsAfter}
 use Rattle.room.specs.Room.{idsLeft}
 use Rattle.merge_limits.proofs.Gone.{gone-is, gone-within, gone-four}
 use Rattle.merge_limits.proofs.Asked.{toldPlan}

@@ -1,4 +1,4 @@
--- The change set of a merge, in words. Nothing that a host calls rests on this page; the laws of edit_merge tie it to the rules.
+-- The change set of a merge, in words. Nothing that a host calls rests on this page; the laws of merge_made tie it to the rules.
 use Prim.Native.Nat.{ℕ, _+_, _<_}
 use mathlib.Core.Path.{_≡_}
 use mathlib.Core.Bool.{true}

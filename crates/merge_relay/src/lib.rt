@@ -38,7 +38,7 @@ fn lay_out(
         return;
     }
     if order::in_order(lanes, boundaries, stop_lines, crosswalks, reach) {
-        in_place::settle(
+        settle::settle(
             lanes,
             boundaries,
             stop_lines,
@@ -49,7 +49,7 @@ fn lay_out(
         );
         return;
     }
-    gathers::gather_apart(
+    gathers_apart::gather_apart(
         lanes,
         boundaries,
         stop_lines,

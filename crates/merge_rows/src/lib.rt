@@ -71,7 +71,7 @@ fn point_side(t: &mut [u64], side: Redrawn)
     match plan {
         Joined::Kept => {}
         Joined::InPlace(n) => {
-            merge_draw::point_boundary(t, side.boundary, side.start, n);
+            merge_tables::point_boundary(t, side.boundary, side.start, n);
         }
         Joined::Fresh(_) => {}
     }
@@ -87,7 +87,7 @@ fn add_side(t: &mut [u64], side: Redrawn)
         Joined::Kept => {}
         Joined::InPlace(_) => {}
         Joined::Fresh(n) => {
-            merge_draw::add_boundary(t, side.id, side.kind, side.start, n, side.attributes);
+            merge_tables::add_boundary(t, side.id, side.kind, side.start, n, side.attributes);
         }
     }
 }
@@ -130,7 +130,7 @@ fn redraw_lanes(t: &mut [u64], first: u64, second: u64, taken: Taken, successors
 {
     let gone = [second];
     store::drop_rows(t, LANE, &gone);
-    merge_draw::merge_rows(t, first, second, taken, successors);
+    merge_tables::merge_rows(t, first, second, taken, successors);
 }
 
 // The first lane's row takes over a copy of the second's successors.

@@ -172,7 +172,7 @@ pub fn apply(
 ) -> Answer
     ensures { λ r. ⌜ Applied tolerance command (S.lentOf counter (now (lanes .entry)) (now (boundaries .entry)) (now (roads .entry)) (now (junctions .entry)) (now (rules .entry)) (now («stop_lines» .entry)) (now (crosswalks .entry)) (now (coordinates .entry)) (now (created .entry)) (now (modified .entry)) (now (deleted .entry)) (now (warnings .entry))) (S.ended (S.lentOf (counterBehind counter r) (now (lanes .exit)) (now (boundaries .exit)) (now (roads .exit)) (now (junctions .exit)) (now (rules .exit)) (now («stop_lines» .exit)) (now (crosswalks .exit)) (now (coordinates .exit)) (now (created .exit)) (now (modified .exit)) (now (deleted .exit)) (now (warnings .exit))) r) ⌝ }
 {
-    if soundness::sound(
+    if sound_map::sound(
         counter,
         lanes,
         boundaries,

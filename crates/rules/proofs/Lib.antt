@@ -2,5 +2,5 @@ pub mod Opened
 pub mod Facts
 pub mod Reciprocal
 pub mod Relations
-mod Cases
-mod Corners
+pub mod Cases
+pub mod Turned

@@ -1,8 +1,8 @@
 // The test of soundness: the counts, the rows, the ids, the points, the links and neighbours.
 ghost use mathlib.Core.Path.{_≡_};
 ghost use mathlib.Core.Bool.{true};
-ghost use Prim.Native.Nat.{_≤_, _<_};
-ghost use Rattle.tables.specs.Formed.{counted, soundTables};
+ghost use Prim.Native.Nat.{_<_};
+ghost use Rattle.tables.specs.Formed.{counted};
 ghost use Rattle.tables.specs.View.{tablesOf};
 ghost use Rattle.soundness.specs.Parts as P;
 use lists::both;
@@ -22,7 +22,7 @@ use tables::STOP_LINE;
 use tables::STOP_LINES;
 
 // Every table holds its count of rows.
-fn all_counted(
+pub fn all_counted(
     lanes: &[u64],
     boundaries: &[u64],
     roads: &[u64],
@@ -53,7 +53,7 @@ fn all_counted(
 }
 
 // Every row of every table passes.
-fn all_good(
+pub fn all_good(
     most: u64,
     lanes: &[u64],
     boundaries: &[u64],
@@ -94,7 +94,7 @@ fn ascends(t: &[u64], limit: u64, row: usize) -> bool
 }
 
 // The ids of every table ascend.
-fn all_ascend(
+pub fn all_ascend(
     lanes: &[u64],
     boundaries: &[u64],
     roads: &[u64],
@@ -120,90 +120,4 @@ fn all_ascend(
         both(c, ascends(stop_lines, STOP_LINES, STOP_LINE)),
         ascends(crosswalks, CROSSWALKS, CROSSWALK),
     )
-}
-
-// The rows of every table pass, for the largest id that the counter allows, and its ids ascend.
-fn rows_sound(
-    counter: u64,
-    lanes: &[u64],
-    boundaries: &[u64],
-    roads: &[u64],
-    junctions: &[u64],
-    rules: &[u64],
-    stop_lines: &[u64],
-    crosswalks: &[u64],
-    coordinates: &[f64],
-) -> bool
-    requires { ⌜ P.allCounted (tablesOf (now lanes) (now boundaries) (now roads) (now junctions) (now rules) (now «stop_lines») (now crosswalks) (now coordinates)) ≡ true ⌝ }
-    ensures { λ r. ⌜ r ≡ P.rowsSound counter (tablesOf (now (lanes .entry)) (now (boundaries .entry)) (now (roads .entry)) (now (junctions .entry)) (now (rules .entry)) (now («stop_lines» .entry)) (now (crosswalks .entry)) (now (coordinates .entry))) ⌝ }
-{
-    let most = row_tests::sound::largest_id(counter);
-    let good = all_good(
-        most,
-        lanes,
-        boundaries,
-        roads,
-        junctions,
-        rules,
-        stop_lines,
-        crosswalks,
-        coordinates,
-    );
-    both(
-        good,
-        all_ascend(
-            lanes,
-            boundaries,
-            roads,
-            junctions,
-            rules,
-            stop_lines,
-            crosswalks,
-            coordinates,
-        ),
-    )
-}
-
-// "A map is sound when ..", of lent memory.
-pub fn sound(
-    counter: u64,
-    lanes: &[u64],
-    boundaries: &[u64],
-    roads: &[u64],
-    junctions: &[u64],
-    rules: &[u64],
-    stop_lines: &[u64],
-    crosswalks: &[u64],
-    coordinates: &[f64],
-) -> bool
-    ensures { λ r. ⌜ r ≡ soundTables counter (tablesOf (now (lanes .entry)) (now (boundaries .entry)) (now (roads .entry)) (now (junctions .entry)) (now (rules .entry)) (now («stop_lines» .entry)) (now (crosswalks .entry)) (now (coordinates .entry))) ⌝ }
-{
-    if all_counted(
-        lanes,
-        boundaries,
-        roads,
-        junctions,
-        rules,
-        stop_lines,
-        crosswalks,
-        coordinates,
-    ) {
-        if rows_sound(
-            counter,
-            lanes,
-            boundaries,
-            roads,
-            junctions,
-            rules,
-            stop_lines,
-            crosswalks,
-            coordinates,
-        ) {
-            if clear::lines_clear(lanes, boundaries, stop_lines, crosswalks) {
-                let linked = link_tests::links_returned(lanes);
-                return both(linked, link_tests::neighbors_returned(lanes));
-            }
-        }
-    }
-    false
 }

@@ -49,7 +49,7 @@ fn lay_out(
         return;
     }
     if order::in_order(lanes, boundaries, stop_lines, crosswalks, reach) {
-        in_place::settle(
+        settle::settle(
             lanes,
             boundaries,
             stop_lines,
@@ -60,7 +60,7 @@ fn lay_out(
         );
         return;
     }
-    gathers::gather_apart(
+    gathers_apart::gather_apart(
         lanes,
         boundaries,
         stop_lines,
@@ -116,7 +116,7 @@ fn relay_in(
         behind,
     );
     split_tables::cut_boundaries(boundaries, marks, pieces, m, lines);
-    split_tables::cut_lanes(lanes, seen, pieces, m, cut, next, centers);
+    split_lanes::cut_lanes(lanes, seen, pieces, m, cut, next, centers);
     lay_out(
         lanes,
         boundaries,

@@ -44,7 +44,7 @@ fn lane_past(
     let Found::At(i) = found else {
         return false;
     };
-    split_half::past_cut(
+    split_past::past_cut(
         join,
         lanes,
         i,

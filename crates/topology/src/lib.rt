@@ -4,7 +4,6 @@ ghost use mathlib.Core.Bool.{true};
 ghost use Prim.Native.Nat.{_+_, _*_, _<_};
 ghost use Rattle.lists.specs.Select.{place};
 ghost use mathlib.Core.Option.{none, some};
-ghost use Rattle.entities.specs.Types.{reciprocal-side};
 ghost use Rattle.rules.specs.Edit.{slotAfter, reslotted};
 ghost use Rattle.store.specs.Store.{directionMark};
 ghost use Rattle.store.specs.Rows.{onRows, keyed, setSlot};
@@ -62,7 +61,7 @@ pub fn neighbor(lanes: &[u64], i: usize, side: Side) -> OptionNeighbor
 }
 
 // The slot that answers what a slot on a side held is freed.
-fn free_answer(lanes: &mut [u64], side: Side, held: OptionNeighbor)
+pub fn free_answer(lanes: &mut [u64], side: Side, held: OptionNeighbor)
     requires { ⌜ searchable (now lanes) ≡ true ⌝ }
     ensures { λ _. ⌜ now (lanes .exit) ≡ onRows 52 (T.freedBy side held) (now (lanes .entry)) ⌝ }
 {
@@ -79,7 +78,7 @@ fn free_answer(lanes: &mut [u64], side: Side, held: OptionNeighbor)
 }
 
 // A neighbour put into the slot of the lane in row i on a side.
-fn put_slot(lanes: &mut [u64], i: usize, side: Side, n: Neighbor)
+pub fn put_slot(lanes: &mut [u64], i: usize, side: Side, n: Neighbor)
     requires { ⌜ (searchable (now lanes) ≡ true) × (i < word 0 (now lanes)) ⌝ }
     ensures { λ _. ⌜ now (lanes .exit) ≡ onRows 52 (keyed (T.idAt (now (lanes .entry)) i) (setSlot (T.slotPlace side) (some n))) (now (lanes .entry)) ⌝ }
 {
@@ -97,36 +96,4 @@ pub fn clear_slot(lanes: &mut [u64], i: usize, side: Side)
     let old = neighbor(lanes, i, side);
     free_answer(lanes, side, old);
     lanes[1 + i * LANE + slot_place(side)] = NONE;
-}
-
-// The lane in row j set beside the lane in row i, another one, on a side. What either slot held is freed first.
-pub fn set_neighbor(lanes: &mut [u64], i: usize, side: Side, j: usize, direction: NeighborDirection)
-    requires { ⌜ (searchable (now lanes) ≡ true) × ((i < word 0 (now lanes)) × ((j < word 0 (now lanes)) × (j ≡ i → ⊥))) ⌝ }
-    ensures { λ _. ⌜ now (lanes .exit) ≡ T.lanesChanged (reslotted (slotAfter (T.idAt (now (lanes .entry)) i) side (some (T.besideRow (now (lanes .entry)) j direction)) (T.slotHeld (now (lanes .entry)) i side) (T.slotHeld (now (lanes .entry)) j (reciprocal-side side direction)))) (now (lanes .entry)) ⌝ }
-{
-    let answer = reciprocal_side(side, direction);
-    let old = neighbor(lanes, i, side);
-    let other = neighbor(lanes, j, answer);
-    let from = lanes[1 + i * LANE];
-    let to = lanes[1 + j * LANE];
-    free_answer(lanes, side, old);
-    free_answer(lanes, answer, other);
-    put_slot(
-        lanes,
-        i,
-        side,
-        Neighbor {
-            lane: to,
-            direction,
-        },
-    );
-    put_slot(
-        lanes,
-        j,
-        answer,
-        Neighbor {
-            lane: from,
-            direction,
-        },
-    );
 }

@@ -3,9 +3,9 @@ use Rattle.edit_merge.proofs.merge_lanes.Statement.{statement}
 use Rattle.edit_merge.proofs.merge_lanes.Tie as tie
 use Rattle.edit_merge.proofs.merge_lanes.Reads as reads
 use Rattle.edit_merge.proofs.merge_lanes.Lts as lts
-use Rattle.edit_merge.proofs.merge_found.Reads as merge-found-reads
+use Rattle.merge_made.proofs.merge_found.Reads as merge-found-reads
 use Rattle.lookup.proofs.lane.Reads as lane-reads
-use Rattle.merge_plan.proofs.decide.Reads as decide-reads
+use Rattle.merge_decide.proofs.decide.Reads as decide-reads
 use Rattle.merge_plan.proofs.mergeable.Reads as mergeable-reads
 use native.Mathlib.Omega.{arith}
 use Rattle.step.specs.Step.{tablesOf, lentOf}
@@ -16,7 +16,7 @@ use Rattle.sound_facts.proofs.Found.{lanes-sorted, found, missing, sound-formed
 use Rattle.sound_facts.proofs.Facts.{facts}
 use Rattle.soundness.proofs.Back.{formed-parts}
 use Rattle.lookup.proofs.Laws.{place-within}
-use Rattle.edit_merge.proofs.Parts.{off, on}
+use Rattle.merge_made.proofs.Parts.{off, on}
 use Rattle.edit_merge.proofs.Ends.{first-absent, second-absent, unfit, side-refused, may-merge, merge-ends}
 
 -- src/lib.rt:308:9

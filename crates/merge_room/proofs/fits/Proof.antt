@@ -4,8 +4,8 @@ use Rattle.merge_room.proofs.fits.Statement.{statement}
 use Rattle.merge_room.proofs.fits.Tie as tie
 use native.Mathlib.Omega.{arith}
 use Rattle.lookup.proofs.Laws.{sorted-few, sorted-room}
-use Rattle.merge_room.specs.Leaving.{fitsAfter}
-use Rattle.merge_room.proofs.Points.{ids-few}
+use Rattle.merge_gone.specs.Leaving.{fitsAfter}
+use Rattle.merge_gone.proofs.Points.{ids-few}
 
 sides-of-requires : tie.Need-sides-of-requires
 sides-of-requires c κs = search needs

@@ -4,7 +4,7 @@ use Rattle.ops.proofs.apply.Tie as tie
 use Rattle.ops.proofs.apply.Reads as reads
 use Rattle.ops.proofs.apply.Lts as lts
 use Rattle.ops.proofs.dispatch.Reads as dispatch-reads
-use Rattle.soundness.proofs.sound.Reads as sound-reads
+use Rattle.sound_map.proofs.sound.Reads as sound-reads
 use Rattle.step.specs.Step.{Lent, lentOf}
 use Rattle.step.proofs.Steps.{step-unsound}
 use mathlib.Core.Path.{_≡_, refl, sym, ap, _∙_}

@@ -1,0 +1,1 @@
+// The corners of document 01, computed by the rules.

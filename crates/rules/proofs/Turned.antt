@@ -1,0 +1,132 @@
+-- The corners of document 01 that the must-fail edits of this crate turn, as rows in the form of Cases.antt: each outcome is the oracle's answer, and each holds by computing. Assumes nothing.
+use mathlib.Core.Path.{refl}
+use mathlib.Core.Bool.{Bool, true}
+use mathlib.Core.List.{List, [], _∷_}
+use mathlib.Core.Option.{none, some}
+use Prim.{tt}
+use Prim.Native.Nat.{ℕ}
+use lib.Ieee.{Float}
+use Rattle.entities.specs.declared.OptionNeighbor.the-variants.{Some as ANeighbor}
+use Rattle.entities.specs.Types.{same, opposing}
+use Rattle.entities.specs.Records.{Lane, Map}
+use Rattle.rules.specs.Names.{Fraction, Right, BoundaryUnshared, LaneAbsent}
+use Rattle.rules.specs.Ops.{SplitLane, MergeLanes, ConnectLanes, SetNeighbor, RemoveLane, State}
+use Rattle.rules.proofs.Opened.{opened}
+use Rattle.rules.proofs.Cases.{Case, Holds, AllHold, theLane, theBoundary, warns, refusing, changing, changes, f, -n2, n0, n0·5, n10, n2, n5, at, from, edge, plain, beside, linked, yard, e101, e102, e103, one}
+
+abbrev pub n6 : Float
+n6 = f 0x4018000000000000
+
+abbrev pub n20 : Float
+n20 = f 0x4034000000000000
+
+abbrev pub counting : ℕ → Map → State
+counting n m = record { map = m; counter = n }
+
+abbrev pub turned : Bool → Bool → Lane → Lane
+turned left right l =
+    record {
+      id = l .id;
+      kind = l .kind;
+      left = record { boundary = l .left .boundary; reversed = left };
+      right = record { boundary = l .right .boundary; reversed = right };
+      centerline = l .centerline;
+      speed-limit = l .speed-limit;
+      one-way = l .one-way;
+      turn-direction = l .turn-direction;
+      attributes = l .attributes;
+      left-neighbor = l .left-neighbor;
+      right-neighbor = l .right-neighbor;
+      predecessors = l .predecessors;
+      successors = l .successors;
+    }
+
+-- ---- the rows
+
+-- "In a merge, warning of a dropped neighbour where only the directions differ": lane 3 is left of both, not warned of.
+abbrev merge-directions : Case
+merge-directions =
+    changing (counting 106 (yard (linked [] (2 ∷ []) (beside (some (same 3)) none (plain 1 101 102)) ∷
+    linked (1 ∷ []) [] (beside (some (opposing 3)) none (plain 2 103 104)) ∷ beside (some (opposing 2)) (some (same 1)) (plain 3 105 101) ∷ [])
+    (e101 ∷ e102 ∷ edge 103 (from n10 n20 n2) ∷ edge 104 (from n10 n20 -n2) ∷ edge 105 (from n0 n20 n6) ∷ []))) (MergeLanes 1 2)
+    (yard (beside (some (same 3)) none (plain 1 106 102) ∷ beside none (some (same 1)) (plain 3 105 101) ∷ [])
+    (e101 ∷ edge 102 (at n0 -n2 ∷ at n10 -n2 ∷ at n20 -n2 ∷ []) ∷ edge 105 (from n0 n20 n6) ∷ edge 106 (at n0 n2 ∷ at n10 n2 ∷ at n20 n2 ∷ []) ∷ []))
+    107 none
+    (changes (theBoundary 106 ∷ []) (theLane 1 ∷ theLane 3 ∷ theBoundary 102 ∷ [])
+    (theLane 2 ∷ theBoundary 103 ∷ theBoundary 104 ∷ []) (warns BoundaryUnshared (theBoundary 106) [] ∷ []))
+
+merge-directions-holds : Holds merge-directions
+unfolding opened
+merge-directions-holds = refl
+
+-- "Pairing opposite halves first with first": each first half stands beside the other's second.
+abbrev opposite-halves : Case
+opposite-halves =
+    changing (counting 104 (yard (beside (some (opposing 2)) none (plain 1 101 102) ∷
+    beside (some (opposing 1)) none (turned true true (plain 2 101 103)) ∷ []) (e101 ∷ e102 ∷ edge 103 (from n0 n10 n6) ∷ [])))
+    (SplitLane 1 (Fraction n0·5) true)
+    (yard (linked [] (107 ∷ []) (beside (some (opposing 108)) none (plain 1 101 102)) ∷
+    linked [] (108 ∷ []) (beside (some (opposing 107)) none (turned true true (plain 2 104 106))) ∷
+    linked (1 ∷ []) [] (beside (some (opposing 2)) none (plain 107 104 105)) ∷
+    linked (2 ∷ []) [] (beside (some (opposing 1)) none (turned true true (plain 108 101 103))) ∷ [])
+    (edge 101 (from n0 n5 n2) ∷ edge 102 (from n0 n5 -n2) ∷ edge 103 (from n0 n5 n6) ∷ edge 104 (from n5 n10 n2) ∷ edge 105 (from n5 n10 -n2) ∷
+    edge 106 (from n5 n10 n6) ∷ []))
+    109 (some 107)
+    (changes (theLane 107 ∷ theLane 108 ∷ theBoundary 104 ∷ theBoundary 105 ∷ theBoundary 106 ∷ [])
+    (theLane 1 ∷ theLane 2 ∷ theBoundary 101 ∷ theBoundary 102 ∷ theBoundary 103 ∷ []) [] [])
+
+opposite-halves-holds : Holds opposite-halves
+unfolding opened
+opposite-halves-holds = refl
+
+-- "Reporting only the two named lanes in `set_neighbor`": lanes 2 and 4 are freed and reported too.
+abbrev freed-reported : Case
+freed-reported =
+    changing (counting 106 (yard (beside none (some (same 2)) (plain 1 101 102) ∷ beside (some (same 1)) none (plain 2 102 103) ∷
+    beside (some (same 4)) none (plain 3 104 101) ∷ beside none (some (same 3)) (plain 4 105 104) ∷ [])
+    (e101 ∷ e102 ∷ e103 ∷ edge 104 (from n0 n10 n6) ∷ edge 105 (from n0 n10 n10) ∷ []))) (SetNeighbor 1 Right (ANeighbor (same 3)))
+    (yard (beside none (some (same 3)) (plain 1 101 102) ∷ plain 2 102 103 ∷ beside (some (same 1)) none (plain 3 104 101) ∷ plain 4 105 104 ∷ [])
+    (e101 ∷ e102 ∷ e103 ∷ edge 104 (from n0 n10 n6) ∷ edge 105 (from n0 n10 n10) ∷ []))
+    106 none
+    (changes [] (theLane 1 ∷ theLane 2 ∷ theLane 3 ∷ theLane 4 ∷ []) []
+    (warns BoundaryUnshared (theLane 1) (theLane 3 ∷ []) ∷ []))
+
+freed-reported-holds : Holds freed-reported
+unfolding opened
+freed-reported-holds = refl
+
+-- a lane that goes is forgotten by those that it led to and came from
+abbrev removed-unlinked : Case
+removed-unlinked =
+    changing
+    (counting 104 (yard (linked [] (2 ∷ []) (plain 1 101 102) ∷ linked (1 ∷ []) (3 ∷ []) (plain 2 101 102) ∷ linked (2 ∷ []) [] (plain 3 101 102) ∷ []) (e101 ∷ e102 ∷ [])))
+    (RemoveLane 2)
+    (yard (plain 1 101 102 ∷ plain 3 101 102 ∷ []) (e101 ∷ e102 ∷ []))
+    104 none
+    (changes [] (theLane 1 ∷ theLane 3 ∷ []) (theLane 2 ∷ []) [])
+
+removed-unlinked-holds : Holds removed-unlinked
+unfolding opened
+removed-unlinked-holds = refl
+
+abbrev both-absent : Case
+both-absent = refusing one (ConnectLanes 9 8) (LaneAbsent 9)
+
+both-absent-holds : Holds both-absent
+unfolding opened
+both-absent-holds = refl
+
+abbrev absent-itself : Case
+absent-itself = refusing one (ConnectLanes 9 9) (LaneAbsent 9)
+
+absent-itself-holds : Holds absent-itself
+unfolding opened
+absent-itself-holds = refl
+
+-- ---- the table
+
+abbrev pub turns : List Case
+turns = merge-directions ∷ opposite-halves ∷ freed-reported ∷ removed-unlinked ∷ both-absent ∷ absent-itself ∷ []
+
+pub turns-hold : AllHold turns
+turns-hold = (merge-directions-holds, (opposite-halves-holds, (freed-reported-holds, (removed-unlinked-holds, (both-absent-holds, (absent-itself-holds, tt))))))
