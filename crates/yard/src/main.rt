@@ -323,9 +323,9 @@ fn drawn_row(lanes: &[u64], counter: u64, seed: u64) -> [u64; COMMAND] {
         0 | 1 | 2 | 3 => drawn_split(other, a),
         4 | 5 | 6 => [MERGE, lane, behind, 0, 0],
         7 => [MERGE, lane, other, 0, 0],
-        8 | 9 => [CONNECT, lane, other, 0, 0],
-        10 | 11 => [DISCONNECT, lane, behind, 0, 0],
-        12 | 13 => [SET_NEIGHBOR, lane, draw(a, 2), draw(b, 3), other],
+        8 | 9 | 10 => [CONNECT, lane, other, 0, 0],
+        11 | 12 => [DISCONNECT, lane, behind, 0, 0],
+        13 | 14 => [SET_NEIGHBOR, lane, draw(a, 2), draw(b, 3), other],
         _ => [REMOVE, other, 0, 0, 0],
     }
 }
@@ -799,8 +799,10 @@ fn change(n: Counts, created: &[u64], modified: &[u64], deleted: &[u64], warning
 
 // ---- what is left
 
-// The most rows that are shown, and the most links of a lane each way.
+// The most rows that are shown, the most points of a map, and the most links of a lane each way.
 const ROWS: usize = 64;
+
+const MOST: usize = 65536;
 
 const LINKS: usize = 16;
 
@@ -813,17 +815,23 @@ fn ids(table: &[u64], at: usize)
     each_word(table, at + 1, at + 1 + n);
 }
 
-// Id | predecessors | successors of each lane.
+// A lane: id | predecessors | successors.
+fn lane_left(lanes: &[u64], i: usize)
+    requires { ⌜ i < 64 ⌝ }
+{
+    let at = 1 + i * LANE;
+    write(b"  lane");
+    next(word(lanes, at));
+    ids(lanes, at + PREDECESSORS);
+    ids(lanes, at + SUCCESSORS);
+    write(b"\n");
+}
+
 fn each_lane(lanes: &[u64]) {
     let n = least(word(lanes, 0) as usize, ROWS);
     let mut i = 0;
     while i < n {
-        let at = 1 + i * LANE;
-        write(b"  lane");
-        next(word(lanes, at));
-        ids(lanes, at + PREDECESSORS);
-        ids(lanes, at + SUCCESSORS);
-        write(b"\n");
+        lane_left(lanes, i);
         i += 1;
     }
 }
@@ -834,7 +842,7 @@ fn tenths(x: f64) {
     if t > -1.0 {
         if t < 18446744073709551616.0 {
             let n = std::num::truncating_f64_to_u64(t);
-            next(n / 10);
+            number(n / 10);
             write(b".");
             number(n % 10);
         }
@@ -849,6 +857,7 @@ fn along(coordinates: &[f64], at: usize) {
             tenths(-x);
             return;
         }
+        write(b" ");
         tenths(x);
     }
 }
@@ -864,21 +873,25 @@ fn each_point(coordinates: &[f64], start: usize, size: usize)
     }
 }
 
-// Id | points of each boundary.
+// A boundary: id | points.
+fn boundary_left(boundaries: &[u64], coordinates: &[f64], i: usize)
+    requires { ⌜ i < 64 ⌝ }
+{
+    let at = 1 + i * BOUNDARY;
+    let start = least(word(boundaries, at + BOUNDARY_START) as usize, MOST);
+    let size = least(word(boundaries, at + BOUNDARY_SIZE) as usize, MOST);
+    write(b"  boundary");
+    next(word(boundaries, at));
+    write(b" |");
+    each_point(coordinates, start, size);
+    write(b"\n");
+}
+
 fn each_boundary(boundaries: &[u64], coordinates: &[f64]) {
     let n = least(word(boundaries, 0) as usize, ROWS);
     let mut i = 0;
     while i < n {
-        let at = 1 + i * BOUNDARY;
-        write(b"  boundary");
-        next(word(boundaries, at));
-        write(b" |");
-        each_point(
-            coordinates,
-            least(word(boundaries, at + BOUNDARY_START) as usize, 65536),
-            least(word(boundaries, at + BOUNDARY_SIZE) as usize, 65536),
-        );
-        write(b"\n");
+        boundary_left(boundaries, coordinates, i);
         i += 1;
     }
 }
@@ -895,13 +908,16 @@ fn rule(rules: &[u64]) {
 }
 
 // The map that a change of a case has left.
-fn left(map: usize, changed: bool, lanes: &[u64], boundaries: &[u64], rules: &[u64], coordinates: &[f64]) {
-    if map < OTHERS {
-        if changed {
-            each_lane(lanes);
-            each_boundary(boundaries, coordinates);
-            rule(rules);
-        }
+fn left(map: usize, m: Made, lanes: &[u64], boundaries: &[u64], rules: &[u64], coordinates: &[f64]) {
+    if OTHERS <= map {
+        return;
+    }
+    if m.relinked {
+        each_lane(lanes);
+        rule(rules);
+    }
+    if m.redrawn {
+        each_boundary(boundaries, coordinates);
     }
 }
 
@@ -914,16 +930,18 @@ fn end(map: usize, lanes: &[u64]) {
 
 // ---- the yard
 
-// The counter behind a call, and whether the map is another.
+// The counter behind a call, and what is worth showing then: lanes where something was modified, lines too where something came or went.
 struct Made {
     counter: u64,
-    changed: bool,
+    relinked: bool,
+    redrawn: bool,
 }
 
-fn made(counter: u64, n: Counts) -> Made {
+fn behind_call(counter: u64, n: Counts) -> Made {
     Made {
         counter,
-        changed: 0 < n.modified,
+        relinked: 0 < n.modified,
+        redrawn: 0 < n.created || 0 < n.deleted,
     }
 }
 
@@ -967,7 +985,7 @@ fn make(
         &mut warnings,
     );
     answer(a, &created, &modified, &deleted, &warnings);
-    made(a.counter(counter), a.counts())
+    behind_call(a.counter(counter), a.counts())
 }
 
 fn first_counter(map: usize) -> u64 {
@@ -1006,7 +1024,7 @@ fn each_call(
             crosswalks,
             coordinates,
         );
-        left(map, m.changed, lanes, boundaries, rules, coordinates);
+        left(map, m, lanes, boundaries, rules, coordinates);
         counter = m.counter;
         seed = after(seed);
         i += 1;
@@ -1044,9 +1062,16 @@ fn run(map: usize) {
 }
 
 fn main() {
-    let mut map = 0;
-    while map <= LONG {
-        run(map);
-        map += 1;
-    }
+    write(b"command: answer | created | modified | deleted ! warning, an entity by kind and id\n");
+    run(CASE_1);
+    run(CASE_3);
+    run(CASE_4);
+    run(CASE_5);
+    run(CASE_6);
+    run(CASE_7);
+    run(CASE_8);
+    run(CASE_9);
+    run(CASE_10);
+    run(OTHERS);
+    run(LONG);
 }
