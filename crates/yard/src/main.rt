@@ -780,7 +780,13 @@ fn each_pair(list: &[u64], n: usize) {
     each_word(list, 0, pairs * ENTITY);
 }
 
-fn answer(a: Answer, created: &[u64], modified: &[u64], deleted: &[u64], warnings: &[u64]) {
+fn answer(
+    a: Answer,
+    created: &[u64; ROOM],
+    modified: &[u64; ROOM],
+    deleted: &[u64; ROOM],
+    warnings: &[u64; 320],
+) {
     let n = a.counts();
     number(a.number());
     match a {
