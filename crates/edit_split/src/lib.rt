@@ -432,7 +432,7 @@ fn split_stationed(
     requires { ⌜ P.MayCross tolerance counter (S.tablesOf (now lanes) (now boundaries) (now roads) (now junctions) (now rules) (now «stop_lines») (now crosswalks) (now coordinates)) own point (now seen) (now cut) (now stations) ⌝ }
     ensures { λ r. ⌜ S.ended (S.lentOf (counterBehind counter r) (now (lanes .exit)) (now (boundaries .exit)) (now (roads .exit)) (now (junctions .exit)) (now (rules .exit)) (now («stop_lines» .exit)) (now (crosswalks .exit)) (now (coordinates .exit)) (now (created .exit)) (now (modified .exit)) (now (deleted .exit)) (now (warnings .exit))) r ≡ P.stationEnds tolerance own point (now (seen .entry)) (now (cut .entry)) (now (stations .entry)) (S.lentOf counter (now (lanes .entry)) (now (boundaries .entry)) (now (roads .entry)) (now (junctions .entry)) (now (rules .entry)) (now («stop_lines» .entry)) (now (crosswalks .entry)) (now (coordinates .entry)) (now (created .entry)) (now (modified .entry)) (now (deleted .entry)) (now (warnings .entry))) ⌝ }
 {
-    let crossed = split_plan::cross_all(lanes, boundaries, coordinates, point, seen);
+    let crossed = split_cross::cross_all(lanes, boundaries, coordinates, point, seen);
     match crossed {
         Crossed::Refused(refusal) => Answer::Refused(refusal),
         Crossed::All => split_planned(
@@ -486,8 +486,8 @@ fn split_group(
     let mut seen = [false; MAX_LANES];
     let mut ids = [0; MAX_LANES];
     let mut stations = [0.0; MAX_LANES];
-    split_plan::choose(lanes, i, neighbors, &mut seen);
-    let planned = split_plan::plan_lanes(
+    split_stations::choose(lanes, i, neighbors, &mut seen);
+    let planned = split_stations::plan_lanes(
         tolerance.piece,
         own,
         lanes,

@@ -914,7 +914,14 @@ fn rule(rules: &[u64]) {
 }
 
 // The map that a change of a case has left.
-fn left(map: usize, m: Made, lanes: &[u64], boundaries: &[u64], rules: &[u64], coordinates: &[f64]) {
+fn left(
+    map: usize,
+    m: Made,
+    lanes: &[u64],
+    boundaries: &[u64],
+    rules: &[u64],
+    coordinates: &[f64],
+) {
     if OTHERS <= map {
         return;
     }
