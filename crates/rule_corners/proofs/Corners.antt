@@ -13,7 +13,7 @@ use Rattle.rules.specs.Sound.{Room, Lists}
 use Rattle.rules.specs.Ops.{SplitLane, MergeLanes, ConnectLanes, DisconnectLanes, RemoveLane}
 use Rattle.rules.proofs.Opened.{opened}
 use Rattle.rules.proofs.Cases.{Case, Holds, AllHold, theLane, theBoundary, warns, nothing-done, ample, lists, refusing, changing, changes, f, -n2, n0, n0·5, n10, n2, n5, at, from, edge, plain, beside, linked, yard, e101, e102, e103, one, halvedAt, halving}
-use Rattle.rules.proofs.Turned.{n6, n20, counting, turned}
+use Rattle.rules.proofs.Turned.{n6, n8, n14, n20, counting, turned, centred, ruleOf, rule, stopping, crossing, stop, walk, furnished, ruleEntity}
 
 -- ---- what the corners need beside the helpers of Cases
 
@@ -23,37 +23,12 @@ abbrev -n4 : Float
 abbrev n4 : Float
 n4 = f 0x4010000000000000
 
-abbrev n8 : Float
-n8 = f 0x4020000000000000
-
 abbrev n10·5 : Float
 n10·5 = f 0x4025000000000000
-
-abbrev n14 : Float
-n14 = f 0x402C000000000000
 
 -- the same row with other room and other lists lent
 abbrev lending : Room → Lists → Case → Case
 lending room ls c = record { before = c .before; room = room; call = record { command = c .call .command; lists = ls }; outcome = c .outcome }
-
--- a lane with a centreline of its own, with a speed limit, and with its references reversed
-abbrev centred : Line → Lane → Lane
-centred c l =
-    record {
-      id = l .id;
-      kind = l .kind;
-      left = l .left;
-      right = l .right;
-      centerline = some c;
-      speed-limit = l .speed-limit;
-      one-way = l .one-way;
-      turn-direction = l .turn-direction;
-      attributes = l .attributes;
-      left-neighbor = l .left-neighbor;
-      right-neighbor = l .right-neighbor;
-      predecessors = l .predecessors;
-      successors = l .successors;
-    }
 
 abbrev limited : ℕ → Lane → Lane
 limited bits l =
@@ -76,49 +51,11 @@ limited bits l =
 abbrev road : ℕ → List ℕ → Road
 road i ls = record { id = i; name = 0; attributes = 0; lanes = ls }
 
--- a rule by its kind and lanes; with stop lines, a crosswalk, priority and yielding lanes
-abbrev ruleOf : ℕ → ℕ → Option ℕ → List ℕ → List ℕ → List ℕ → List ℕ → Rule
-ruleOf i k cross ls stops priority yielding =
-    record {
-      id = i;
-      kind = k;
-      content = 0;
-      attributes = 0;
-      crosswalk = cross;
-      lanes = ls;
-      controlled-crosswalks = [];
-      stop-lines = stops;
-      priority = priority;
-      yielding = yielding;
-    }
-
-abbrev rule : ℕ → ℕ → List ℕ → Rule
-rule i k ls = ruleOf i k none ls [] [] []
-
-abbrev stopping : List ℕ → Rule → Rule
-stopping stops r = ruleOf (r .id) (r .kind) (r .crosswalk) (r .lanes) stops (r .priority) (r .yielding)
-
-abbrev crossing : ℕ → Rule → Rule
-crossing c r = ruleOf (r .id) (r .kind) (some c) (r .lanes) (r .stop-lines) (r .priority) (r .yielding)
-
 abbrev ranking : List ℕ → List ℕ → Rule → Rule
 ranking priority yielding r = ruleOf (r .id) (r .kind) (r .crosswalk) (r .lanes) (r .stop-lines) priority yielding
 
-abbrev stop : ℕ → Line → StopLine
-stop i c = record { id = i; geometry = c; attributes = 0 }
-
-abbrev walk : ℕ → Line → Line → Crosswalk
-walk i l r = record { id = i; left-edge = l; right-edge = r; outline = 0; attributes = 0 }
-
-abbrev furnished : List Road → List Rule → List StopLine → List Crosswalk → Map → Map
-furnished roads rules stops walks m =
-    record { lanes = m .lanes; boundaries = m .boundaries; roads = roads; junctions = []; rules = rules; stop-lines = stops; crosswalks = walks }
-
 abbrev roadEntity : ℕ → EntityRef
 roadEntity i = record { kind = RoadKind; id = i }
-
-abbrev ruleEntity : ℕ → EntityRef
-ruleEntity i = record { kind = RuleKind; id = i }
 
 -- the warning of a rule left without lanes, with the mark for the removal fix
 abbrev orphaning : ℕ → Issue
@@ -226,21 +163,6 @@ unfolding opened
 counter-kept-holds = refl
 
 -- ---- split: lines
-
--- "An explicit centreline, the split lane's own too, is cut at its nearest station, not at the given one": at 6, not at 14.
-abbrev nearest-station : Case
-nearest-station =
-    changing (counting 103 (yard (centred (at n0 n0 ∷ at n10 n0 ∷ at n2 n0 ∷ []) (plain 1 101 102) ∷ []) (e101 ∷ e102 ∷ [])))
-    (SplitLane 1 (Station n14) true)
-    (yard (linked [] (105 ∷ []) (centred (from n0 n6 n0) (plain 1 101 102)) ∷
-    linked (1 ∷ []) [] (centred (at n6 n0 ∷ at n10 n0 ∷ at n2 n0 ∷ []) (plain 105 103 104)) ∷ [])
-    (edge 101 (from n0 n6 n2) ∷ edge 102 (from n0 n6 -n2) ∷ edge 103 (from n6 n10 n2) ∷ edge 104 (from n6 n10 -n2) ∷ []))
-    106 (some 105)
-    halving
-
-nearest-station-holds : Holds nearest-station
-unfolding opened
-nearest-station-holds = refl
 
 -- "Where a neighbour has an explicit empty centreline the Rust panics; here it is refusal 7".
 abbrev neighbour-empty : Case
@@ -408,24 +330,6 @@ anchor-before =
 anchor-before-holds : Holds anchor-before
 unfolding opened
 anchor-before-holds = refl
-
--- "A rule whose first stop line is missing has no anchor, and a crosswalk is not tried": the second half is added.
-abbrev stop-missing : Case
-stop-missing =
-    changing (counting 302 (furnished [] (crossing 203 (stopping (201 ∷ 202 ∷ []) (rule 301 4 (1 ∷ []))) ∷ [])
-    (stop 202 (at n8 n2 ∷ at n8 -n2 ∷ []) ∷ []) (walk 203 (at n8 n2 ∷ at n8 -n2 ∷ []) (at n8 n2 ∷ at n8 -n2 ∷ []) ∷ [])
-    (yard (plain 1 101 102 ∷ []) (e101 ∷ e102 ∷ [])))) (SplitLane 1 (Station n5) true)
-    (furnished [] (crossing 203 (stopping (201 ∷ 202 ∷ []) (rule 301 4 (1 ∷ 304 ∷ []))) ∷ []) (stop 202 (at n8 n2 ∷ at n8 -n2 ∷ []) ∷ [])
-    (walk 203 (at n8 n2 ∷ at n8 -n2 ∷ []) (at n8 n2 ∷ at n8 -n2 ∷ []) ∷ [])
-    (yard (linked [] (304 ∷ []) (plain 1 101 102) ∷ linked (1 ∷ []) [] (plain 304 302 303) ∷ [])
-    (edge 101 (from n0 n5 n2) ∷ edge 102 (from n0 n5 -n2) ∷ edge 302 (from n5 n10 n2) ∷ edge 303 (from n5 n10 -n2) ∷ [])))
-    305 (some 304)
-    (changes (theLane 304 ∷ theBoundary 302 ∷ theBoundary 303 ∷ [])
-    (theLane 1 ∷ theBoundary 101 ∷ theBoundary 102 ∷ ruleEntity 301 ∷ []) [] [])
-
-stop-missing-holds : Holds stop-missing
-unfolding opened
-stop-missing-holds = refl
 
 -- a crosswalk's anchor is half way between its edges: at 7 here.
 abbrev crosswalk-past : Case
@@ -689,7 +593,7 @@ missing-unlisted-holds = refl
 -- ---- the table
 
 abbrev pub corners : List Case
-corners = one-sided ∷ created-short ∷ created-exact ∷ lanes-short ∷ ids-short ∷ ids-exact ∷ spent ∷ counter-zero ∷ counter-kept ∷ nearest-station ∷ neighbour-empty ∷ neighbour-point ∷ boundary-missing ∷ boundary-empty ∷ boundary-short ∷ line-missing ∷ line-before-fraction ∷ own-empty ∷ reversed ∷ both-sides ∷ self-link ∷ self-beside ∷ anchor-past ∷ anchor-before ∷ stop-missing ∷ crosswalk-past ∷ crosswalk-before ∷ own-twice ∷ road-twice ∷ rights ∷ shared-kept ∷ in-place-reversed ∷ fresh-forward ∷ both-in-place ∷ apart-joined ∷ nan-limits ∷ zero-limits ∷ one-centreline ∷ same-lane ∷ absent-left-first ∷ orphan ∷ orphan-before ∷ missing-unlisted ∷ []
+corners = one-sided ∷ created-short ∷ created-exact ∷ lanes-short ∷ ids-short ∷ ids-exact ∷ spent ∷ counter-zero ∷ counter-kept ∷ neighbour-empty ∷ neighbour-point ∷ boundary-missing ∷ boundary-empty ∷ boundary-short ∷ line-missing ∷ line-before-fraction ∷ own-empty ∷ reversed ∷ both-sides ∷ self-link ∷ self-beside ∷ anchor-past ∷ anchor-before ∷ crosswalk-past ∷ crosswalk-before ∷ own-twice ∷ road-twice ∷ rights ∷ shared-kept ∷ in-place-reversed ∷ fresh-forward ∷ both-in-place ∷ apart-joined ∷ nan-limits ∷ zero-limits ∷ one-centreline ∷ same-lane ∷ absent-left-first ∷ orphan ∷ orphan-before ∷ missing-unlisted ∷ []
 
 pub corners-hold : AllHold corners
-corners-hold = (one-sided-holds, (created-short-holds, (created-exact-holds, (lanes-short-holds, (ids-short-holds, (ids-exact-holds, (spent-holds, (counter-zero-holds, (counter-kept-holds, (nearest-station-holds, (neighbour-empty-holds, (neighbour-point-holds, (boundary-missing-holds, (boundary-empty-holds, (boundary-short-holds, (line-missing-holds, (line-before-fraction-holds, (own-empty-holds, (reversed-holds, (both-sides-holds, (self-link-holds, (self-beside-holds, (anchor-past-holds, (anchor-before-holds, (stop-missing-holds, (crosswalk-past-holds, (crosswalk-before-holds, (own-twice-holds, (road-twice-holds, (rights-holds, (shared-kept-holds, (in-place-reversed-holds, (fresh-forward-holds, (both-in-place-holds, (apart-joined-holds, (nan-limits-holds, (zero-limits-holds, (one-centreline-holds, (same-lane-holds, (absent-left-first-holds, (orphan-holds, (orphan-before-holds, (missing-unlisted-holds, tt)))))))))))))))))))))))))))))))))))))))))))
+corners-hold = (one-sided-holds, (created-short-holds, (created-exact-holds, (lanes-short-holds, (ids-short-holds, (ids-exact-holds, (spent-holds, (counter-zero-holds, (counter-kept-holds, (neighbour-empty-holds, (neighbour-point-holds, (boundary-missing-holds, (boundary-empty-holds, (boundary-short-holds, (line-missing-holds, (line-before-fraction-holds, (own-empty-holds, (reversed-holds, (both-sides-holds, (self-link-holds, (self-beside-holds, (anchor-past-holds, (anchor-before-holds, (crosswalk-past-holds, (crosswalk-before-holds, (own-twice-holds, (road-twice-holds, (rights-holds, (shared-kept-holds, (in-place-reversed-holds, (fresh-forward-holds, (both-in-place-holds, (apart-joined-holds, (nan-limits-holds, (zero-limits-holds, (one-centreline-holds, (same-lane-holds, (absent-left-first-holds, (orphan-holds, (orphan-before-holds, (missing-unlisted-holds, tt)))))))))))))))))))))))))))))))))))))))))

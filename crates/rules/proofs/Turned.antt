@@ -2,17 +2,17 @@
 use mathlib.Core.Path.{refl}
 use mathlib.Core.Bool.{Bool, true}
 use mathlib.Core.List.{List, [], _∷_}
-use mathlib.Core.Option.{none, some}
+use mathlib.Core.Option.{Option, none, some}
 use Prim.{tt}
 use Prim.Native.Nat.{ℕ}
 use lib.Ieee.{Float}
 use Rattle.entities.specs.declared.OptionNeighbor.the-variants.{Some as ANeighbor}
 use Rattle.entities.specs.Types.{same, opposing}
-use Rattle.entities.specs.Records.{Lane, Map}
-use Rattle.rules.specs.Names.{Fraction, Right, BoundaryUnshared, LaneAbsent}
+use Rattle.entities.specs.Records.{Line, Lane, Road, Rule, StopLine, Crosswalk, Map}
+use Rattle.rules.specs.Names.{Fraction, Station, Right, EntityRef, RuleKind, BoundaryUnshared, LaneAbsent}
 use Rattle.rules.specs.Ops.{SplitLane, MergeLanes, ConnectLanes, SetNeighbor, RemoveLane, State}
 use Rattle.rules.proofs.Opened.{opened}
-use Rattle.rules.proofs.Cases.{Case, Holds, AllHold, theLane, theBoundary, warns, refusing, changing, changes, f, -n2, n0, n0·5, n10, n2, n5, at, from, edge, plain, beside, linked, yard, e101, e102, e103, one}
+use Rattle.rules.proofs.Cases.{Case, Holds, AllHold, theLane, theBoundary, warns, refusing, changing, changes, f, -n2, n0, n0·5, n10, n2, n5, at, from, edge, plain, beside, linked, yard, e101, e102, e103, one, halving}
 
 abbrev pub n6 : Float
 n6 = f 0x4018000000000000
@@ -123,10 +123,108 @@ absent-itself-holds : Holds absent-itself
 unfolding opened
 absent-itself-holds = refl
 
+abbrev pub n8 : Float
+n8 = f 0x4020000000000000
+
+abbrev pub n14 : Float
+n14 = f 0x402C000000000000
+
+-- a lane with a centreline of its own, with a speed limit, and with its references reversed
+abbrev pub centred : Line → Lane → Lane
+centred c l =
+    record {
+      id = l .id;
+      kind = l .kind;
+      left = l .left;
+      right = l .right;
+      centerline = some c;
+      speed-limit = l .speed-limit;
+      one-way = l .one-way;
+      turn-direction = l .turn-direction;
+      attributes = l .attributes;
+      left-neighbor = l .left-neighbor;
+      right-neighbor = l .right-neighbor;
+      predecessors = l .predecessors;
+      successors = l .successors;
+    }
+
+-- a rule by its kind and lanes; with stop lines, a crosswalk, priority and yielding lanes
+abbrev pub ruleOf : ℕ → ℕ → Option ℕ → List ℕ → List ℕ → List ℕ → List ℕ → Rule
+ruleOf i k cross ls stops priority yielding =
+    record {
+      id = i;
+      kind = k;
+      content = 0;
+      attributes = 0;
+      crosswalk = cross;
+      lanes = ls;
+      controlled-crosswalks = [];
+      stop-lines = stops;
+      priority = priority;
+      yielding = yielding;
+    }
+
+abbrev pub rule : ℕ → ℕ → List ℕ → Rule
+rule i k ls = ruleOf i k none ls [] [] []
+
+abbrev pub stopping : List ℕ → Rule → Rule
+stopping stops r = ruleOf (r .id) (r .kind) (r .crosswalk) (r .lanes) stops (r .priority) (r .yielding)
+
+abbrev pub crossing : ℕ → Rule → Rule
+crossing c r = ruleOf (r .id) (r .kind) (some c) (r .lanes) (r .stop-lines) (r .priority) (r .yielding)
+
+abbrev pub stop : ℕ → Line → StopLine
+stop i c = record { id = i; geometry = c; attributes = 0 }
+
+abbrev pub walk : ℕ → Line → Line → Crosswalk
+walk i l r = record { id = i; left-edge = l; right-edge = r; outline = 0; attributes = 0 }
+
+abbrev pub furnished : List Road → List Rule → List StopLine → List Crosswalk → Map → Map
+furnished roads rules stops walks m =
+    record { lanes = m .lanes; boundaries = m .boundaries; roads = roads; junctions = []; rules = rules; stop-lines = stops; crosswalks = walks }
+
+abbrev pub ruleEntity : ℕ → EntityRef
+ruleEntity i = record { kind = RuleKind; id = i }
+
+-- ---- split: lines and anchors
+
+-- "An explicit centreline, the split lane's own too, is cut at its nearest station, not at the given one": at 6, not at 14.
+abbrev nearest-station : Case
+nearest-station =
+    changing (counting 103 (yard (centred (at n0 n0 ∷ at n10 n0 ∷ at n2 n0 ∷ []) (plain 1 101 102) ∷ []) (e101 ∷ e102 ∷ [])))
+    (SplitLane 1 (Station n14) true)
+    (yard (linked [] (105 ∷ []) (centred (from n0 n6 n0) (plain 1 101 102)) ∷
+    linked (1 ∷ []) [] (centred (at n6 n0 ∷ at n10 n0 ∷ at n2 n0 ∷ []) (plain 105 103 104)) ∷ [])
+    (edge 101 (from n0 n6 n2) ∷ edge 102 (from n0 n6 -n2) ∷ edge 103 (from n6 n10 n2) ∷ edge 104 (from n6 n10 -n2) ∷ []))
+    106 (some 105)
+    halving
+
+nearest-station-holds : Holds nearest-station
+unfolding opened
+nearest-station-holds = refl
+
+-- "A rule whose first stop line is missing has no anchor, and a crosswalk is not tried": the second half is added.
+abbrev stop-missing : Case
+stop-missing =
+    changing (counting 302 (furnished [] (crossing 203 (stopping (201 ∷ 202 ∷ []) (rule 301 4 (1 ∷ []))) ∷ [])
+    (stop 202 (at n8 n2 ∷ at n8 -n2 ∷ []) ∷ []) (walk 203 (at n8 n2 ∷ at n8 -n2 ∷ []) (at n8 n2 ∷ at n8 -n2 ∷ []) ∷ [])
+    (yard (plain 1 101 102 ∷ []) (e101 ∷ e102 ∷ [])))) (SplitLane 1 (Station n5) true)
+    (furnished [] (crossing 203 (stopping (201 ∷ 202 ∷ []) (rule 301 4 (1 ∷ 304 ∷ []))) ∷ []) (stop 202 (at n8 n2 ∷ at n8 -n2 ∷ []) ∷ [])
+    (walk 203 (at n8 n2 ∷ at n8 -n2 ∷ []) (at n8 n2 ∷ at n8 -n2 ∷ []) ∷ [])
+    (yard (linked [] (304 ∷ []) (plain 1 101 102) ∷ linked (1 ∷ []) [] (plain 304 302 303) ∷ [])
+    (edge 101 (from n0 n5 n2) ∷ edge 102 (from n0 n5 -n2) ∷ edge 302 (from n5 n10 n2) ∷ edge 303 (from n5 n10 -n2) ∷ [])))
+    305 (some 304)
+    (changes (theLane 304 ∷ theBoundary 302 ∷ theBoundary 303 ∷ [])
+    (theLane 1 ∷ theBoundary 101 ∷ theBoundary 102 ∷ ruleEntity 301 ∷ []) [] [])
+
+stop-missing-holds : Holds stop-missing
+unfolding opened
+stop-missing-holds = refl
+
 -- ---- the table
 
 abbrev pub turns : List Case
-turns = merge-directions ∷ opposite-halves ∷ freed-reported ∷ removed-unlinked ∷ both-absent ∷ absent-itself ∷ []
+turns = merge-directions ∷ opposite-halves ∷ freed-reported ∷ removed-unlinked ∷ both-absent ∷ absent-itself ∷ nearest-station ∷ stop-missing ∷ []
 
 pub turns-hold : AllHold turns
-turns-hold = (merge-directions-holds, (opposite-halves-holds, (freed-reported-holds, (removed-unlinked-holds, (both-absent-holds, (absent-itself-holds, tt))))))
+turns-hold = (merge-directions-holds, (opposite-halves-holds, (freed-reported-holds, (removed-unlinked-holds, (both-absent-holds, (absent-itself-holds, (nearest-station-holds, (stop-missing-holds, tt))))))))
