@@ -3,6 +3,7 @@
 // entity, if it has one, and of a change the created, the modified and the deleted, each an entity's kind and id, and the warnings.
 ghost use Prim.Native.Nat.{_+_, _≤_, _<_};
 ghost use lib.ListN.{length};
+ghost use mathlib.Core.Path.{_≡_};
 use entities::OptionEntity;
 use entities::Tolerance;
 use libc::STDOUT_FILENO;
@@ -13,6 +14,7 @@ use report::WARNING;
 use tables::BOUNDARY;
 use tables::BOUNDARY_SIZE;
 use tables::BOUNDARY_START;
+use tables::FIRST_PREDECESSOR;
 use tables::FIRST_SUCCESSOR;
 use tables::LANE;
 use tables::LANE_LEFT;
@@ -57,14 +59,12 @@ const STATION: u64 = 1;
 
 const ALONE: u64 = 0;
 
-const WITH_NEIGHBORS: u64 = 1;
-
 // Places of a split, as the bits of a double.
 const ZERO: u64 = 0;
 
 const TENTH: u64 = 0x3FB9_9999_9999_999A;
 
-const QUARTER: u64 = 0x3FD0_0000_0000_0000;
+const FIFTH: u64 = 0x3FC9_9999_9999_999A;
 
 const HALF: u64 = 0x3FE0_0000_0000_0000;
 
@@ -122,43 +122,41 @@ fn neighbor_row(side: u64, mark: u64, other: u64) -> [u64; COMMAND] {
 
 // ---- the cases
 
-// The maps, each with its calls.
-const CASE_1: usize = 0;
+// The maps, each with its calls; those of the cases have the case's number, and case 2 is the second call of case 1.
+const CASE_1: usize = 1;
 
-const CASE_3: usize = 1;
+const CASE_3: usize = 3;
 
-const CASE_4: usize = 2;
+const CASE_4: usize = 4;
 
-const CASE_5: usize = 3;
+const CASE_5: usize = 5;
 
-const CASE_6: usize = 4;
+const CASE_6: usize = 6;
 
-const CASE_7: usize = 5;
+const CASE_7: usize = 7;
 
-const CASE_8: usize = 6;
+const CASE_8: usize = 8;
 
-const CASE_9: usize = 7;
+const CASE_9: usize = 9;
 
-const CASE_10: usize = 8;
+const CASE_10: usize = 10;
 
-const OTHERS: usize = 9;
+const OTHERS: usize = 11;
 
-const LONG: usize = 10;
+const LITTLE_ROOM: usize = 12;
+
+const LOW_COUNTER: usize = 13;
+
+const LONG: usize = 14;
 
 // How many calls each map gets.
 fn calls(map: usize) -> usize {
     match map {
-        CASE_1 => 2,
-        CASE_3 => 3,
-        CASE_4 => 3,
-        CASE_5 => 1,
-        CASE_6 => 1,
-        CASE_7 => 2,
-        CASE_8 => 3,
-        CASE_9 => 2,
-        CASE_10 => 1,
-        OTHERS => 17,
-        _ => 160,
+        CASE_5 | CASE_6 | CASE_10 | LOW_COUNTER => 1,
+        CASE_1 | CASE_7 | CASE_9 | LITTLE_ROOM => 2,
+        CASE_3 | CASE_4 | CASE_8 => 3,
+        OTHERS => 14,
+        _ => 128,
     }
 }
 
@@ -238,22 +236,26 @@ fn other_row(i: usize) -> [u64; COMMAND] {
         9 => neighbor_row(RIGHT, SAME, 9),
         10 => pair_row(MERGE, 1, 1),
         11 => pair_row(MERGE, 1, 2),
-        12 => pair_row(CONNECT, 2, 1),
-        16 => pair_row(CONNECT, 1, 2),
         _ => pair_row(REMOVE, 2, 0),
     }
 }
 
-// The removal with too little room is made again with enough, and once more: lane 2 is absent then.
-fn other_call(i: usize, counter: u64) -> Call {
-    let mut call = plain(counter, other_row(i));
+// No room for the modified, and room for one of the two deleted.
+fn little_room(i: usize, counter: u64) -> Call {
     match i {
-        12 => call.modified = 0,
-        13 => call.deleted = ENTITY,
-        16 => call.counter = TOO_LOW,
-        _ => {}
+        0 => Call {
+            row: pair_row(CONNECT, 2, 1),
+            counter,
+            modified: 0,
+            deleted: ROOM,
+        },
+        _ => Call {
+            row: pair_row(REMOVE, 2, 0),
+            counter,
+            modified: ROOM,
+            deleted: ENTITY,
+        },
     }
-    call
 }
 
 // ---- drawn calls
@@ -304,7 +306,7 @@ fn any_lane(lanes: &[u64], counter: u64, seed: u64) -> u64 {
 fn drawn_split(lane: u64, seed: u64) -> [u64; COMMAND] {
     let neighbors = draw(after(seed), 2);
     match draw(seed, 8) {
-        0 => [SPLIT, lane, FRACTION, QUARTER, neighbors],
+        0 => [SPLIT, lane, FRACTION, FIFTH, neighbors],
         1 => [SPLIT, lane, STATION, FIVE, neighbors],
         2 => [SPLIT, lane, STATION, TWENTY, neighbors],
         3 => [SPLIT, lane, FRACTION, WHOLE, neighbors],
@@ -321,9 +323,9 @@ fn drawn_row(lanes: &[u64], counter: u64, seed: u64) -> [u64; COMMAND] {
     let other = any_lane(lanes, counter, b);
     match draw(seed, 16) {
         0 | 1 | 2 | 3 => drawn_split(other, a),
-        4 | 5 | 6 => [MERGE, lane, behind, 0, 0],
-        7 => [MERGE, lane, other, 0, 0],
-        8 | 9 | 10 => [CONNECT, lane, other, 0, 0],
+        4 | 5 => [MERGE, lane, behind, 0, 0],
+        6 => [MERGE, lane, other, 0, 0],
+        7 | 8 | 9 | 10 => [CONNECT, lane, other, 0, 0],
         11 | 12 => [DISCONNECT, lane, behind, 0, 0],
         13 | 14 => [SET_NEIGHBOR, lane, draw(a, 2), draw(b, 3), other],
         _ => [REMOVE, other, 0, 0, 0],
@@ -332,7 +334,9 @@ fn drawn_row(lanes: &[u64], counter: u64, seed: u64) -> [u64; COMMAND] {
 
 fn listed(map: usize, i: usize, counter: u64, seed: u64, lanes: &[u64]) -> Call {
     match map {
-        OTHERS => other_call(i, counter),
+        OTHERS => plain(counter, other_row(i)),
+        LITTLE_ROOM => little_room(i, counter),
+        LOW_COUNTER => plain(TOO_LOW, pair_row(CONNECT, 1, 2)),
         LONG => plain(counter, drawn_row(lanes, counter, seed)),
         _ => plain(counter, case_row(map, i)),
     }
@@ -361,42 +365,176 @@ fn place(floats: &mut [f64], at: usize, value: f64) {
     }
 }
 
-// A lane in row i, with its boundaries.
-fn lane(lanes: &mut [u64], i: usize, id: u64, left: u64, right: u64)
+// How many lanes a map has.
+fn lane_count(map: usize) -> usize
+    ensures { λ r. ⌜ r ≤ 8 ⌝ }
+{
+    match map {
+        CASE_1 | CASE_3 | CASE_4 | CASE_7 | CASE_10 => 1,
+        CASE_9 => 3,
+        LONG => 8,
+        _ => 2,
+    }
+}
+
+// A lane with its boundaries and, where they are not 0, its neighbours to the left and to the right, its predecessor and its successor.
+struct LaneRow {
+    id: u64,
+    left: u64,
+    right: u64,
+    beside_left: u64,
+    beside_right: u64,
+    before: u64,
+    behind: u64,
+}
+
+// A lane with no links.
+fn unlinked(id: u64, left: u64, right: u64, beside_left: u64, beside_right: u64) -> LaneRow {
+    LaneRow {
+        id,
+        left,
+        right,
+        beside_left,
+        beside_right,
+        before: 0,
+        behind: 0,
+    }
+}
+
+// Document 01's lane 1, alone or with lane 2 right of it.
+fn case_lane(i: usize, lanes: usize) -> LaneRow {
+    if i == 1 {
+        return unlinked(2, 102, 103, 1, 0);
+    }
+    if lanes == 2 {
+        return unlinked(1, 101, 102, 0, 2);
+    }
+    unlinked(1, 101, 102, 0, 0)
+}
+
+// One that ends at 0 along, and two that start at 0.1 and at 0.2.
+fn apart_lane(i: usize) -> LaneRow {
+    match i {
+        0 => unlinked(1, 101, 102, 0, 0),
+        1 => unlinked(2, 103, 104, 0, 0),
+        _ => unlinked(3, 105, 106, 0, 0),
+    }
+}
+
+// The long list's map: two rows of four lanes beside each other, a hundred metres long, each of the second row behind one of the first.
+fn long_lane(i: u64) -> LaneRow {
+    match i {
+        0 => long_row(1, 9, 0, 2, 0, 5),
+        1 => long_row(2, 10, 1, 3, 0, 6),
+        2 => long_row(3, 11, 2, 4, 0, 7),
+        3 => long_row(4, 12, 3, 0, 0, 8),
+        4 => long_row(5, 14, 0, 6, 1, 0),
+        5 => long_row(6, 15, 5, 7, 2, 0),
+        6 => long_row(7, 16, 6, 8, 3, 0),
+        _ => long_row(8, 17, 7, 0, 4, 0),
+    }
+}
+
+fn long_row(
+    id: u64,
+    left: u64,
+    beside_left: u64,
+    beside_right: u64,
+    before: u64,
+    behind: u64,
+) -> LaneRow
+    requires { ⌜ left < 1000 ⌝ }
+{
+    LaneRow {
+        id,
+        left,
+        right: left + 1,
+        beside_left,
+        beside_right,
+        before,
+        behind,
+    }
+}
+
+fn lane_of(map: usize, i: usize) -> LaneRow {
+    match map {
+        CASE_9 => apart_lane(i),
+        LONG => long_lane(i as u64),
+        _ => case_lane(i, lane_count(map)),
+    }
+}
+
+// A slot's mark or a list's count: whether there is a lane.
+fn mark(lane: u64) -> u64 {
+    if lane == 0 {
+        return 0;
+    }
+    1
+}
+
+fn put_neighbors(lanes: &mut [u64], at: usize, left: u64, right: u64)
+    requires { ⌜ at < 100000 ⌝ }
+{
+    put(lanes, at + LEFT_SLOT, mark(left));
+    put(lanes, at + LEFT_LANE, left);
+    put(lanes, at + RIGHT_SLOT, mark(right));
+    put(lanes, at + RIGHT_LANE, right);
+}
+
+fn put_links(lanes: &mut [u64], at: usize, before: u64, behind: u64)
+    requires { ⌜ at < 100000 ⌝ }
+{
+    put(lanes, at + PREDECESSORS, mark(before));
+    put(lanes, at + FIRST_PREDECESSOR, before);
+    put(lanes, at + SUCCESSORS, mark(behind));
+    put(lanes, at + FIRST_SUCCESSOR, behind);
+}
+
+// A lane in row i.
+fn put_lane(lanes: &mut [u64], i: usize, l: LaneRow)
     requires { ⌜ i < 1024 ⌝ }
 {
     let at = 1 + i * LANE;
-    put(lanes, at, id);
-    put(lanes, at + LANE_LEFT, left);
-    put(lanes, at + LANE_RIGHT, right);
+    put(lanes, at, l.id);
+    put(lanes, at + LANE_LEFT, l.left);
+    put(lanes, at + LANE_RIGHT, l.right);
+    put_neighbors(lanes, at, l.beside_left, l.beside_right);
+    put_links(lanes, at, l.before, l.behind);
 }
 
-// The lane in row i + 1 is right of the one in row i.
-fn beside(lanes: &mut [u64], i: usize, left: u64, right: u64)
-    requires { ⌜ i < 1023 ⌝ }
-{
-    let at = 1 + i * LANE;
-    let next = at + LANE;
-    put(lanes, at + RIGHT_SLOT, tables::SAME);
-    put(lanes, at + RIGHT_LANE, right);
-    put(lanes, next + LEFT_SLOT, tables::SAME);
-    put(lanes, next + LEFT_LANE, left);
+fn lay_lanes(lanes: &mut [u64], map: usize) {
+    let n = lane_count(map);
+    let mut i = 0;
+    while i < n {
+        put_lane(lanes, i, lane_of(map, i));
+        i += 1;
+    }
+    put(lanes, 0, n as u64);
 }
 
-// The lane in row j follows the one in row i.
-fn behind(lanes: &mut [u64], i: usize, first: u64, j: usize, second: u64)
-    requires { ⌜ (i < 1024) × (j < 1024) ⌝ }
+// How many boundaries a map has, and the first's id.
+fn boundary_count(map: usize) -> usize
+    ensures { λ r. ⌜ r ≤ 10 ⌝ }
 {
-    let at = 1 + i * LANE;
-    let next = 1 + j * LANE;
-    put(lanes, at + SUCCESSORS, 1);
-    put(lanes, at + SUCCESSORS + 1, second);
-    put(lanes, next + PREDECESSORS, 1);
-    put(lanes, next + PREDECESSORS + 1, first);
+    match lane_count(map) {
+        1 => 2,
+        2 => 3,
+        3 => 6,
+        _ => 10,
+    }
+}
+
+fn first_boundary(map: usize) -> u64
+    ensures { λ r. ⌜ r ≤ 101 ⌝ }
+{
+    match map {
+        LONG => 9,
+        _ => 101,
+    }
 }
 
 // A boundary in row i, whose line is that of points 2i and 2i + 1.
-fn boundary(boundaries: &mut [u64], i: usize, id: u64)
+fn put_boundary(boundaries: &mut [u64], i: usize, id: u64)
     requires { ⌜ i < 4096 ⌝ }
 {
     let at = 1 + i * BOUNDARY;
@@ -405,144 +543,102 @@ fn boundary(boundaries: &mut [u64], i: usize, id: u64)
     put(boundaries, at + BOUNDARY_SIZE, POINTS);
 }
 
-// A line of points 2i and 2i + 1.
-fn line(coordinates: &mut [f64], i: usize, a: f64, b: f64, y: f64, z: f64)
-    requires { ⌜ i < 4096 ⌝ }
-{
-    let from = i * 2 * POINT;
-    let to = from + POINT;
-    place(coordinates, from, a);
-    place(coordinates, from + Y, y);
-    place(coordinates, to, b);
-    place(coordinates, to + Y, z);
-}
-
-// Document 01's lane 1, ten metres long.
-fn one_lane(lanes: &mut [u64]) {
-    put(lanes, 0, 1);
-    lane(lanes, 0, 1, 101, 102);
-}
-
-// Right of it lane 2.
-fn two_lanes(lanes: &mut [u64]) {
-    put(lanes, 0, 2);
-    lane(lanes, 0, 1, 101, 102);
-    lane(lanes, 1, 2, 102, 103);
-    beside(lanes, 0, 1, 2);
-}
-
-// One that ends at 0 along, and two that start at 0.1 and at 0.2.
-fn apart_lanes(lanes: &mut [u64]) {
-    put(lanes, 0, 3);
-    lane(lanes, 0, 1, 101, 102);
-    lane(lanes, 1, 2, 103, 104);
-    lane(lanes, 2, 3, 105, 106);
-}
-
-// Four lanes beside each other, from row i on.
-fn lane_row(lanes: &mut [u64], i: usize, id: u64, left: u64)
-    requires { ⌜ (i < 1000) × ((id < 1000) × (left < 1000)) ⌝ }
-{
-    lane(lanes, i, id, left, left + 1);
-    lane(lanes, i + 1, id + 1, left + 1, left + 2);
-    lane(lanes, i + 2, id + 2, left + 2, left + 3);
-    lane(lanes, i + 3, id + 3, left + 3, left + 4);
-    beside(lanes, i, id, id + 1);
-    beside(lanes, i + 1, id + 1, id + 2);
-    beside(lanes, i + 2, id + 2, id + 3);
-}
-
-// The long list's map: two rows of four lanes, each of the second behind one of the first, a hundred metres long; the boundaries are 9 to 18.
-fn eight_lanes(lanes: &mut [u64]) {
-    put(lanes, 0, 8);
-    lane_row(lanes, 0, 1, 9);
-    lane_row(lanes, 4, 5, 14);
-    behind(lanes, 0, 1, 4, 5);
-    behind(lanes, 1, 2, 5, 6);
-    behind(lanes, 2, 3, 6, 7);
-    behind(lanes, 3, 4, 7, 8);
-}
-
-fn lay_lanes(lanes: &mut [u64], map: usize) {
-    match map {
-        CASE_5 | CASE_6 | CASE_8 | OTHERS => two_lanes(lanes),
-        CASE_9 => apart_lanes(lanes),
-        LONG => eight_lanes(lanes),
-        _ => one_lane(lanes),
-    }
-}
-
-fn five_boundaries(boundaries: &mut [u64], i: usize, id: u64)
-    requires { ⌜ (i < 1000) × (id < 1000) ⌝ }
-{
-    boundary(boundaries, i, id);
-    boundary(boundaries, i + 1, id + 1);
-    boundary(boundaries, i + 2, id + 2);
-    boundary(boundaries, i + 3, id + 3);
-    boundary(boundaries, i + 4, id + 4);
-}
-
-// Rows behind the count are not read.
 fn lay_boundaries(boundaries: &mut [u64], map: usize) {
-    if map == LONG {
-        put(boundaries, 0, 10);
-        five_boundaries(boundaries, 0, 9);
-        five_boundaries(boundaries, 5, 14);
-        return;
+    let n = boundary_count(map);
+    let first = first_boundary(map);
+    let mut i = 0;
+    while i < n {
+        put_boundary(boundaries, i, first + i as u64);
+        i += 1;
     }
-    five_boundaries(boundaries, 0, 101);
-    boundary(boundaries, 5, 106);
-    put(boundaries, 0, bounds(map));
+    put(boundaries, 0, n as u64);
 }
 
-fn bounds(map: usize) -> u64 {
-    match map {
-        CASE_5 | CASE_6 | CASE_8 | OTHERS => 3,
-        CASE_9 => 6,
-        _ => 2,
+// A line of two points.
+struct Ends {
+    from: f64,
+    to: f64,
+    from_y: f64,
+    to_y: f64,
+}
+
+fn line_along(from: f64, to: f64, y: f64) -> Ends {
+    Ends {
+        from,
+        to,
+        from_y: y,
+        to_y: y,
     }
 }
 
 // The third line is boundary 103, or in case 10 the stop line.
-fn case_lines(coordinates: &mut [f64], map: usize) {
-    line(coordinates, 0, 0.0, 10.0, 2.0, 2.0);
-    line(coordinates, 1, 0.0, 10.0, -2.0, -2.0);
-    if map == CASE_10 {
-        line(coordinates, 2, 8.0, 8.0, 2.0, -2.0);
-        return;
+fn case_line(map: usize, i: usize) -> Ends {
+    match i {
+        0 => line_along(0.0, 10.0, 2.0),
+        1 => line_along(0.0, 10.0, -2.0),
+        _ => match map {
+            CASE_10 => Ends {
+                from: 8.0,
+                to: 8.0,
+                from_y: 2.0,
+                to_y: -2.0,
+            },
+            _ => line_along(0.0, 10.0, -6.0),
+        },
     }
-    line(coordinates, 2, 0.0, 10.0, -6.0, -6.0);
 }
 
-fn apart_lines(coordinates: &mut [f64]) {
-    line(coordinates, 0, -10.0, 0.0, 2.0, 2.0);
-    line(coordinates, 1, -10.0, 0.0, -2.0, -2.0);
-    line(coordinates, 2, 0.1, 10.0, 2.0, 2.0);
-    line(coordinates, 3, 0.1, 10.0, -2.0, -2.0);
-    line(coordinates, 4, 0.2, 10.0, 2.0, 2.0);
-    line(coordinates, 5, 0.2, 10.0, -2.0, -2.0);
+fn apart_line(i: usize) -> Ends {
+    match i {
+        0 => line_along(-10.0, 0.0, 2.0),
+        1 => line_along(-10.0, 0.0, -2.0),
+        2 => line_along(0.1, 10.0, 2.0),
+        3 => line_along(0.1, 10.0, -2.0),
+        4 => line_along(0.2, 10.0, 2.0),
+        _ => line_along(0.2, 10.0, -2.0),
+    }
 }
 
-fn five_lines(coordinates: &mut [f64], i: usize, a: f64, b: f64)
-    requires { ⌜ i < 1000 ⌝ }
-{
-    line(coordinates, i, a, b, 8.0, 8.0);
-    line(coordinates, i + 1, a, b, 4.0, 4.0);
-    line(coordinates, i + 2, a, b, 0.0, 0.0);
-    line(coordinates, i + 3, a, b, -4.0, -4.0);
-    line(coordinates, i + 4, a, b, -8.0, -8.0);
+fn long_line(i: usize) -> Ends {
+    match i {
+        0 => line_along(0.0, 100.0, 8.0),
+        1 => line_along(0.0, 100.0, 4.0),
+        2 => line_along(0.0, 100.0, 0.0),
+        3 => line_along(0.0, 100.0, -4.0),
+        4 => line_along(0.0, 100.0, -8.0),
+        5 => line_along(100.0, 200.0, 8.0),
+        6 => line_along(100.0, 200.0, 4.0),
+        7 => line_along(100.0, 200.0, 0.0),
+        8 => line_along(100.0, 200.0, -4.0),
+        _ => line_along(100.0, 200.0, -8.0),
+    }
 }
 
-fn eight_lines(coordinates: &mut [f64]) {
-    five_lines(coordinates, 0, 0.0, 100.0);
-    five_lines(coordinates, 5, 100.0, 200.0);
-}
-
-fn lay_lines(coordinates: &mut [f64], map: usize) {
+fn line_of(map: usize, i: usize) -> Ends {
     match map {
-        CASE_9 => apart_lines(coordinates),
-        LONG => eight_lines(coordinates),
-        _ => case_lines(coordinates, map),
+        CASE_9 => apart_line(i),
+        LONG => long_line(i),
+        _ => case_line(map, i),
+    }
+}
+
+fn put_line(coordinates: &mut [f64], i: usize, l: Ends)
+    requires { ⌜ i < 4096 ⌝ }
+{
+    let from = i * 2 * POINT;
+    let to = from + POINT;
+    place(coordinates, from, l.from);
+    place(coordinates, from + Y, l.from_y);
+    place(coordinates, to, l.to);
+    place(coordinates, to + Y, l.to_y);
+}
+
+// Points that no line has are not read.
+fn lay_lines(coordinates: &mut [f64], map: usize) {
+    let mut i = 0;
+    while i < 10 {
+        put_line(coordinates, i, line_of(map, i));
+        i += 1;
     }
 }
 
@@ -613,109 +709,99 @@ fn least(a: usize, b: usize) -> usize
 
 // ---- what is asked
 
-fn heading(map: usize, i: usize) {
-    if i == 0 {
-        match map {
-            CASE_1 => write(b"case 1\n"),
-            CASE_3 => write(b"case 3\n"),
-            CASE_4 => write(b"case 4\n"),
-            CASE_5 => write(b"case 5\n"),
-            CASE_6 => write(b"case 6\n"),
-            CASE_7 => write(b"case 7\n"),
-            CASE_8 => write(b"case 8\n"),
-            CASE_9 => write(b"case 9\n"),
-            CASE_10 => write(b"case 10\n"),
-            OTHERS => write(b"other answers\n"),
-            _ => write(b"long list\n"),
-        }
-        return;
-    }
-    further_heading(map, i);
-}
-
-// Headings among the calls of a map.
-fn further_heading(map: usize, i: usize) {
+// The case that begins with a call, or 0.
+fn case_of(map: usize, i: usize) -> u64 {
     if map == CASE_1 {
         if i == 1 {
-            write(b"case 2\n");
+            return 2;
         }
     }
-    if map == OTHERS {
-        match i {
-            12 => write(b"no room for the modified\n"),
-            13 => write(b"room for one deleted\n"),
-            14 => write(b"room for all\n"),
-            16 => write(b"a counter below the map's ids\n"),
-            _ => {}
+    if i == 0 {
+        if map < OTHERS {
+            return map as u64;
         }
+    }
+    0
+}
+
+fn heading(n: u64) {
+    if n != 0 {
+        write(b"case ");
+        number(n);
+        write(b"\n");
     }
 }
 
-fn position(bits: u64) {
-    match bits {
-        ZERO => write(b" 0"),
-        TENTH => write(b" 0.1"),
-        QUARTER => write(b" 0.25"),
-        HALF => write(b" 0.5"),
-        WHOLE => write(b" 1"),
-        FIVE => write(b" 5"),
-        NEAR_END => write(b" 9.8"),
-        AT_END => write(b" 9.9"),
-        TWENTY => write(b" 20"),
-        _ => write(b" nan"),
+// The words of commands, ten letters each: first the commands by their numbers, then what follows in a row.
+const TERM: usize = 10;
+
+const PLACES: usize = 6;
+
+const GROUPS: usize = 8;
+
+const SIDES: usize = 10;
+
+const MARKS: usize = 12;
+
+// The letters before the first space.
+fn trimmed(text: &[u8]) {
+    let mut n = 0;
+    while n < text.len() {
+        if text[n] == b' ' {
+            write(&text[..n]);
+            return;
+        }
+        n += 1;
     }
+    write(text);
+}
+
+fn piece(text: &[u8], k: usize)
+    requires { ⌜ (k < 15) × (length (now text) ≡ 150) ⌝ }
+{
+    let at = k * TERM;
+    let to = at + TERM;
+    trimmed(&text[at..to]);
+}
+
+fn term(k: usize)
+    requires { ⌜ k < 15 ⌝ }
+{
+    piece(
+        b"split     merge     connect   disconnectneighbor  remove    fraction  station   alone     beside    left      right     none      same      opposite  ",
+        k,
+    );
+}
+
+// A further word of a line: the n-th of so many from a place on.
+fn next_term(first: usize, n: u64, last: usize)
+    requires { ⌜ first + last < 15 ⌝ }
+{
+    write(b" ");
+    term(first + least(n as usize, last));
 }
 
 fn asked_split(row: [u64; COMMAND]) {
-    write(b"split");
-    next(row[1]);
-    match row[2] {
-        FRACTION => write(b" fraction"),
-        _ => write(b" station"),
-    }
-    position(row[3]);
-    match row[4] {
-        ALONE => write(b" alone"),
-        _ => write(b" with neighbors"),
-    }
+    next_term(PLACES, row[2], 1);
+    write(b" ");
+    tenths(bits::double(row[3]));
+    next_term(GROUPS, row[4], 1);
 }
 
 fn asked_neighbor(row: [u64; COMMAND]) {
-    write(b"neighbor");
-    next(row[1]);
-    match row[2] {
-        LEFT => write(b" left"),
-        _ => write(b" right"),
-    }
-    match row[3] {
-        NOTHING => write(b" none"),
-        SAME => write(b" same"),
-        _ => write(b" opposite"),
-    }
-    if row[3] != NOTHING {
-        next(row[4]);
-    }
-}
-
-fn asked_pair(row: [u64; COMMAND]) {
-    match row[0] {
-        MERGE => write(b"merge"),
-        CONNECT => write(b"connect"),
-        _ => write(b"disconnect"),
-    }
-    next(row[1]);
-    next(row[2]);
+    next_term(SIDES, row[2], 1);
+    next_term(MARKS, row[3], 2);
+    next(row[4]);
 }
 
 fn asked(row: [u64; COMMAND]) {
+    term(least(row[0] as usize, 5));
+    next(row[1]);
     match row[0] {
         SPLIT => asked_split(row),
         SET_NEIGHBOR => asked_neighbor(row),
-        REMOVE => {
-            write(b"remove");
-            next(row[1]);
-        }
-        _ => asked_pair(row),
+        REMOVE => {}
+        _ => next(row[2]),
     }
     write(b": ");
 }
@@ -851,8 +937,10 @@ fn tenths(x: f64) {
             number(n / 10);
             write(b".");
             number(n % 10);
+            return;
         }
     }
+    write(b"nan");
 }
 
 fn along(coordinates: &[f64], at: usize) {
@@ -1024,7 +1112,7 @@ fn each_call(
     let mut seed = 7;
     let mut i = 0;
     while i < n {
-        heading(map, i);
+        heading(case_of(map, i));
         let c = listed(map, i, counter, seed, lanes);
         let m = make(
             c,
@@ -1039,7 +1127,7 @@ fn each_call(
         );
         left(map, m, lanes, boundaries, rules, coordinates);
         counter = m.counter;
-        seed = after(seed);
+        seed = after(after(after(seed)));
         i += 1;
     }
     end(map, lanes);
@@ -1085,6 +1173,12 @@ fn main() {
     run(CASE_8);
     run(CASE_9);
     run(CASE_10);
+    write(b"other answers\n");
     run(OTHERS);
+    write(b"too little room\n");
+    run(LITTLE_ROOM);
+    write(b"a counter below the map's ids\n");
+    run(LOW_COUNTER);
+    write(b"long list\n");
     run(LONG);
 }

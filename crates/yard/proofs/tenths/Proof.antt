@@ -25,11 +25,14 @@ number-requires-2 c κs = search needs
 returns : tie.Need-returns
 returns c = search needs
 
+slice-aggregate-write-2 : tie.Need-slice-aggregate-write-2
+slice-aggregate-write-2 c = search needs
+
+write-requires-2 : tie.Need-write-requires-2
+write-requires-2 c κs = search needs
+
 returns-2 : tie.Need-returns-2
 returns-2 c = search needs
-
-returns-3 : tie.Need-returns-3
-returns-3 c = search needs
 
 pub tenths-spec : {M : Type 1} → statement M
 tenths-spec =
@@ -41,5 +44,6 @@ tenths-spec =
     write-requires
     number-requires-2
     returns
-    returns-2
-    returns-3)
+    slice-aggregate-write-2
+    write-requires-2
+    returns-2)
