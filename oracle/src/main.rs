@@ -19,6 +19,7 @@ mod sound;
 mod step;
 mod tables;
 mod tally;
+mod yard;
 
 use std::io::{self, Write};
 
@@ -143,6 +144,7 @@ fn main() {
     let good = match words[..] {
         ["cases"] => cases::run(),
         ["bench"] => bench::run(),
+        ["yard"] => yard::run(),
         ["calls", seed, count, names] => {
             calls(number(seed), number(count) as usize, &edits(names)).expect("standard output")
         }
