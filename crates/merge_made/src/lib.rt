@@ -1,4 +1,4 @@
-// edit/merge.rs: merge_lanes. Refusals and plans first, then ids and room, then the lists are written, then the tables.
+// edit/merge.rs: a merge whose sides are planned: ids and room, then the lists are written, then the tables.
 ghost use mathlib.Core.Path.{_≡_};
 ghost use Prim.Native.Nat.{_+_, _*_, _≤_};
 ghost use lib.ListN.{length};

@@ -1,4 +1,4 @@
-// edit/merge.rs, MapParts::check_limits: how many points the finished map has.
+// How many points the map has after a merge. The Rust counts none: room is lent here.
 ghost use mathlib.Core.Path.{_≡_};
 ghost use mathlib.Core.Bool.{true};
 ghost use Prim.Native.Nat.{_+_, _*_, _≤_, _<_};

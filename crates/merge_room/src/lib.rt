@@ -1,4 +1,4 @@
-// edit/merge.rs, MapParts::check_limits: whether the finished map keeps the limits and the lent lengths.
+// Whether the map after a merge keeps the limits and the lent lengths. The Rust asks for none of it: its memory grows.
 ghost use mathlib.Core.Path.{_≡_};
 ghost use mathlib.Core.Bool.{true};
 ghost use Prim.Native.Nat.{_+_, _<_};

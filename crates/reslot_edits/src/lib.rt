@@ -1,4 +1,4 @@
-// edit/neighbors.rs: a neighbour freed, and one set.
+// edit/mod.rs: the two ends of set_neighbor, a slot freed and a slot set.
 ghost use mathlib.Core.Path.{_≡_};
 ghost use mathlib.Core.Bool.{true, not, cond};
 ghost use Prim.Native.Nat.{_<_};
