@@ -128,7 +128,7 @@ fn make(
     let b = r.modified;
     let c = r.deleted;
     let d = r.warnings;
-    let told = exports::voldrekka_apply(
+    let told = voldrekka::voldrekka_apply(
         counter,
         lanes,
         boundaries,

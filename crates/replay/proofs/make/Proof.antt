@@ -3,7 +3,7 @@ use Rattle.replay.proofs.make.Statement.{statement}
 use Rattle.replay.proofs.make.Tie as tie
 use Rattle.replay.proofs.make.Reads as reads
 use Rattle.replay.proofs.make.Lts as lts
-use Rattle.exports.proofs.voldrekka_apply.Reads as voldrekka-apply-reads
+use Rattle.voldrekka.proofs.voldrekka_apply.Reads as voldrekka-apply-reads
 use Rattle.replay.proofs.digest_of.Reads as digest-of-reads
 use Rattle.replay.proofs.print.Reads as print-reads
 use Rattle.replay.proofs.room.Reads as room-reads

@@ -1,12 +1,12 @@
-// What a host in Rust or C may call: `rt staticlib exports`. A line is passed as the place of its coordinates, three a point, and how many
+// What a host in Rust or C may call: `rt staticlib voldrekka`. A line is passed as the place of its coordinates, three a point, and how many
 // coordinates there are.
 ghost use mathlib.Core.Path.{_≡_};
 ghost use mathlib.Core.List.{_++_};
 ghost use mathlib.Core.Bool.{cond};
 ghost use lib.Dec.{leb};
 ghost use lib.ListN.{length};
-ghost use Rattle.exports.specs.Nearest.{nearest, answered, floats, segmentOf};
-ghost use Rattle.exports.specs.Split.{piecesFit};
+ghost use Rattle.voldrekka.specs.Nearest.{nearest, answered, floats, segmentOf};
+ghost use Rattle.voldrekka.specs.Split.{piecesFit};
 ghost use Rattle.lists.specs.Rows.{over};
 ghost use Rattle.polyline.specs.Polyline as L;
 ghost use Rattle.polyline.specs.Polyline.{points, flat};
@@ -14,7 +14,7 @@ ghost use Rattle.root.specs.Root.{root};
 ghost use Rattle.tables.specs.Formed.{soundTables};
 ghost use Rattle.step.specs.Step.{tablesOf, lentOf};
 ghost use Rattle.words.specs.Words.{commandOf};
-ghost use Rattle.exports.specs.Edits.{called, calling};
+ghost use Rattle.voldrekka.specs.Edits.{called, calling};
 use entities::Tolerance;
 use geometry::Point2;
 use polyline::OptionNearest;

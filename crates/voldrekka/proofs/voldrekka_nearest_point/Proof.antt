@@ -1,7 +1,7 @@
--- `exports::voldrekka_nearest_point` meets its contract: a point and two floats behind it are the five floats of the answer. Assumes nothing.
+-- `voldrekka::voldrekka_nearest_point` meets its contract: a point and two floats behind it are the five floats of the answer. Assumes nothing.
 use borrow.Author.Needs.{needs}
-use Rattle.exports.proofs.voldrekka_nearest_point.Statement.{statement}
-use Rattle.exports.proofs.voldrekka_nearest_point.Tie as tie
+use Rattle.voldrekka.proofs.voldrekka_nearest_point.Statement.{statement}
+use Rattle.voldrekka.proofs.voldrekka_nearest_point.Tie as tie
 use mathlib.Core.Path.{_≡_, refl, sym, ap, _∙_}
 use mathlib.Core.List.{List, [], _∷_, _++_}
 use Prim.Native.Nat.{ℕ, _≤_}
@@ -14,7 +14,7 @@ use Rattle.polyline.specs.Polyline.{flat}
 use Rattle.polyline.specs.declared.NearestPoint.{NearestPoint}
 use Rattle.polyline.specs.declared.OptionNearest.{OptionNearest}
 use Rattle.polyline.specs.declared.OptionNearest.the-variants as N
-use Rattle.exports.specs.Nearest.{floats, segmentOf}
+use Rattle.voldrekka.specs.Nearest.{floats, segmentOf}
 use borrow.Author.Tests.{le-leb, lt-leb}
 
 none : (w : List Float) (o : OptionNearest) → o ≡ N.None → (_≡_ {A = ℕ} 0 (segmentOf o)) × (w ≡ over w 0 (floats o))

@@ -1,14 +1,14 @@
--- `exports::voldrekka_split_at` meets its contract: both pieces are written only where they fit. Assumes nothing.
+-- `voldrekka::voldrekka_split_at` meets its contract: both pieces are written only where they fit. Assumes nothing.
 use borrow.Author.Needs.{needs}
-use Rattle.exports.proofs.voldrekka_split_at.Statement.{statement}
-use Rattle.exports.proofs.voldrekka_split_at.Tie as tie
+use Rattle.voldrekka.proofs.voldrekka_split_at.Statement.{statement}
+use Rattle.voldrekka.proofs.voldrekka_split_at.Tie as tie
 use mathlib.Core.Path.{_≡_, refl, sym, _∙_}
 use borrow.Author.Tests.{leb-true}
 use mathlib.Core.Bool.{Bool, true, false, not}
 use lib.ListN.{length}
 use Prim.Native.Nat.{_+_, _*_}
 use Rattle.polyline.specs.Polyline.{points, firstPiece, secondPiece}
-use Rattle.exports.specs.Split.{piecesFit}
+use Rattle.voldrekka.specs.Split.{piecesFit}
 
 is-false : (b : Bool) → not b ≡ true → b ≡ false
 is-false true h = sym h

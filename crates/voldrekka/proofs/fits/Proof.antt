@@ -1,7 +1,7 @@
--- `exports::fits` meets its contract: a piece has at most one point more than the line. Assumes nothing.
+-- `voldrekka::fits` meets its contract: a piece has at most one point more than the line. Assumes nothing.
 use borrow.Author.Needs.{needs}
-use Rattle.exports.proofs.fits.Statement.{statement}
-use Rattle.exports.proofs.fits.Tie as tie
+use Rattle.voldrekka.proofs.fits.Statement.{statement}
+use Rattle.voldrekka.proofs.fits.Tie as tie
 use mathlib.Core.Path.{_≡_, refl, sym, ap}
 use mathlib.Core.Bool.{Bool, true, false}
 use mathlib.Core.List.{List, [], _∷_}
@@ -16,7 +16,7 @@ use Rattle.geometry.specs.declared.Point3.{Point3}
 use Rattle.polyline.specs.Polyline.{points, lineLength, slice, between, point-at, firstPiece, secondPiece}
 use Rattle.polyline.proofs.Lines.{length-inner, optional-few, slice-short}
 use Rattle.polyline.proofs.Counts.{held-to, length-slice, slice-one-empty}
-use Rattle.exports.specs.Split.{piecesFit}
+use Rattle.voldrekka.specs.Split.{piecesFit}
 
 module _ (from to : Float) where
   -- the first point is never between

@@ -10,7 +10,7 @@ use Rattle.words.specs.Words.{told}
 use Rattle.words.specs.declared.Told.{Told}
 use Rattle.step.specs.Step.{Lent, Ended, ended, step}
 use Rattle.step.proofs.Counter.{withCounter}
-use Rattle.exports.specs.Edits.{Called, called, calling}
+use Rattle.voldrekka.specs.Edits.{Called, called, calling}
 
 -- what an end is told as
 abbrev telling : Lent → Ended → Called

@@ -1,8 +1,8 @@
 use borrow.Author.Needs.{needs}
-use Rattle.exports.proofs.voldrekka_apply.Statement.{statement}
-use Rattle.exports.proofs.voldrekka_apply.Tie as tie
-use Rattle.exports.proofs.voldrekka_apply.Reads as reads
-use Rattle.exports.proofs.voldrekka_apply.Lts as lts
+use Rattle.voldrekka.proofs.voldrekka_apply.Statement.{statement}
+use Rattle.voldrekka.proofs.voldrekka_apply.Tie as tie
+use Rattle.voldrekka.proofs.voldrekka_apply.Reads as reads
+use Rattle.voldrekka.proofs.voldrekka_apply.Lts as lts
 use Rattle.entities.proofs.Tolerance.preset.Reads as preset-reads
 use Rattle.ops.proofs.apply.Reads as apply-reads
 use Rattle.words.proofs.command_of.Reads as command-of-reads
@@ -12,7 +12,7 @@ use native.Mathlib.Omega.{arith}
 use Rattle.step.specs.Step.{Lent, lentOf}
 use Rattle.words.specs.Words.{commandOf}
 use Rattle.ops.proofs.Counters.{counter-word}
-use Rattle.exports.proofs.Calls.{all-called}
+use Rattle.voldrekka.proofs.Calls.{all-called}
 
 -- what is lent
 abbrev lent : tie.Start → Lent
