@@ -1,5 +1,6 @@
 //! The editor under test, as the comparison sees it, and the library's functions behind that.
 
+use crate::memory::Memory;
 use crate::step::{Call, Entity};
 use crate::tables::Tables;
 
@@ -23,7 +24,13 @@ pub struct Raw {
 }
 
 pub trait Editor {
-    fn call(&mut self, call: &Call, lent: &mut Lent) -> Raw;
+    /// A call between guards, the row as it stands there.
+    fn on(&mut self, memory: &mut Memory) -> Raw;
+
+    /// A call for a benchmark, with nothing beside it.
+    fn call(&mut self, _call: &Call, _lent: &mut Lent) -> Raw {
+        unreachable!("the library alone is timed")
+    }
 }
 
 /// The library of `rt staticlib`, if this program was built with it.
@@ -47,7 +54,7 @@ pub fn sound(t: &Tables, counter: u64) -> Option<bool> {
 
 #[cfg(feature = "against")]
 mod linked {
-    use super::{Call, Editor, Lent, Raw, Tables};
+    use super::{Call, Editor, Lent, Memory, Raw, Tables};
 
     /// `Told` of crates/words.
     #[repr(C)]
@@ -140,13 +147,19 @@ mod linked {
         }
     }
 
-    fn apply(row: &[u64], lent: &mut Lent) -> Told {
-        let [l, b, r, j, u, s, c] = &mut lent.tables.words;
-        let xyz = &mut lent.tables.xyz;
-        let [created, modified, deleted, warnings] = &mut lent.lists;
+    /// A call on slices, wherever they lie.
+    fn apply(
+        counter: u64,
+        words: [&mut [u64]; 7],
+        xyz: &mut [f64],
+        row: &[u64],
+        lists: [&mut [u64]; 4],
+    ) -> Told {
+        let [l, b, r, j, u, s, c] = words;
+        let [created, modified, deleted, warnings] = lists;
         unsafe {
             voldrekka_apply(
-                lent.counter,
+                counter,
                 l.as_mut_ptr(),
                 l.len(),
                 b.as_mut_ptr(),
@@ -180,8 +193,26 @@ mod linked {
     pub struct Library;
 
     impl Editor for Library {
+        fn on(&mut self, memory: &mut Memory) -> Raw {
+            let told = apply(
+                memory.counter,
+                memory.words.each_mut().map(|s| s.get_mut()),
+                memory.xyz.get_mut(),
+                memory.row.get(),
+                memory.lists.each_mut().map(|s| s.get_mut()),
+            );
+            memory.counter = told.counter;
+            raw(told)
+        }
+
         fn call(&mut self, call: &Call, lent: &mut Lent) -> Raw {
-            let told = apply(&call.row(), lent);
+            let told = apply(
+                lent.counter,
+                lent.tables.words.each_mut().map(|w| &mut w[..]),
+                &mut lent.tables.xyz,
+                &call.row(),
+                lent.lists.each_mut().map(|l| &mut l[..]),
+            );
             lent.counter = told.counter;
             raw(told)
         }
