@@ -63,6 +63,12 @@ mod linked {
         counter: u64,
     }
 
+    /// `Counter` of crates/entities.
+    #[repr(C)]
+    struct Counter {
+        next: u64,
+    }
+
     unsafe extern "C" {
         fn voldrekka_sound(
             counter: u64,
@@ -85,7 +91,7 @@ mod linked {
         ) -> bool;
 
         fn voldrekka_apply(
-            counter: u64,
+            counter: *mut Counter,
             lanes: *mut u64,
             lanes_len: usize,
             boundaries: *mut u64,
@@ -144,9 +150,10 @@ mod linked {
         let [l, b, r, j, u, s, c] = &mut lent.tables.words;
         let xyz = &mut lent.tables.xyz;
         let [created, modified, deleted, warnings] = &mut lent.lists;
-        unsafe {
+        let mut counter = Counter { next: lent.counter };
+        let told = unsafe {
             voldrekka_apply(
-                lent.counter,
+                &mut counter,
                 l.as_mut_ptr(),
                 l.len(),
                 b.as_mut_ptr(),
@@ -174,16 +181,17 @@ mod linked {
                 warnings.as_mut_ptr(),
                 warnings.len(),
             )
-        }
+        };
+        assert_eq!(told.counter, counter.next, "the counter told and the counter left");
+        lent.counter = counter.next;
+        told
     }
 
     pub struct Library;
 
     impl Editor for Library {
         fn call(&mut self, call: &Call, lent: &mut Lent) -> Raw {
-            let told = apply(&call.row(), lent);
-            lent.counter = told.counter;
-            raw(told)
+            raw(apply(&call.row(), lent))
         }
     }
 
