@@ -159,6 +159,12 @@ impl Tolerance {
 
 // ---- id.rs
 
+// The counter of ids: the next to be allocated; 0 counts as 1. A host keeps one beside its tables.
+#[repr(C)]
+pub struct Counter {
+    pub next: u64,
+}
+
 pub enum EntityKind {
     Lane,
     Boundary,

@@ -1,4 +1,6 @@
--- Demand 3 of the calls of `apply`: its contract says of each call what `Applied` says, and the claim is about every list of such calls.
+-- Demand 3 of the calls of `apply`: its contract says of each call what `Applied` says, and the claim is about every list of such calls. `apply` of `ops` has
+-- the counter by value, `apply` of `allocator` is lent it; the two promise the same `Applied`, so that the claim is about lists of calls of the second as it
+-- stands: each call is lent the counter as the last one left it.
 use mathlib.Core.Path.{_≡_}
 use mathlib.Core.Bool.{true}
 use mathlib.Core.List.{List, [], _∷_, map}
@@ -15,13 +17,14 @@ use Rattle.step.specs.Run.{Held, Lending, callOn, closings, heldIn, lend, lengt
 
 -- ---- one call
 
--- The contract of `apply`: made with a tolerance and a command on what is lent, a call leaves and answers this.
+-- The contract of `apply`: made with a tolerance and a command on what is lent, a call leaves and answers this. The counter is part of what is lent and left:
+-- a counter that is lent has its closing value there.
 abbrev pub Applied : Tolerance → O.Command → Lent → Ended → Type 0
 Applied tol c l e = e ≡ step tol c l
 
 -- ---- a list of calls
 
--- Each gets "the map's same slices and the counter as the last call left them", and lists of its own.
+-- Each gets "the map's same slices and the counter as the last call left them", a refused one too, and lists of its own.
 unfoldable pub Calls : Tolerance → List Lending → Held → List Ended → Type 0
 Calls tol [] h [] = _≡_ {A = ℕ} 0 0
 Calls tol [] h (e ∷ es) = ⊥

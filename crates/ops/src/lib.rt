@@ -6,6 +6,7 @@ ghost use Rattle.report.specs.Report.{counterBehind};
 ghost use Rattle.step.specs.Step as S;
 ghost use Rattle.ops.specs.Calls.{Applied};
 use entities::Command;
+use entities::Counter;
 use entities::Refusal;
 use entities::Tolerance;
 use report::Answer;
@@ -154,7 +155,7 @@ fn dispatch(
 
 // Map::apply: makes a command on the map that is lent, or refuses it. Every list of contents, whatever its length, has its answer.
 pub fn apply(
-    counter: u64,
+    counter: Counter,
     tolerance: Tolerance,
     lanes: &mut [u64],
     boundaries: &mut [u64],
@@ -170,10 +171,11 @@ pub fn apply(
     deleted: &mut [u64],
     warnings: &mut [u64],
 ) -> Answer
-    ensures { λ r. ⌜ Applied tolerance command (S.lentOf counter (now (lanes .entry)) (now (boundaries .entry)) (now (roads .entry)) (now (junctions .entry)) (now (rules .entry)) (now («stop_lines» .entry)) (now (crosswalks .entry)) (now (coordinates .entry)) (now (created .entry)) (now (modified .entry)) (now (deleted .entry)) (now (warnings .entry))) (S.ended (S.lentOf (counterBehind counter r) (now (lanes .exit)) (now (boundaries .exit)) (now (roads .exit)) (now (junctions .exit)) (now (rules .exit)) (now («stop_lines» .exit)) (now (crosswalks .exit)) (now (coordinates .exit)) (now (created .exit)) (now (modified .exit)) (now (deleted .exit)) (now (warnings .exit))) r) ⌝ }
+    ensures { λ r. ⌜ Applied tolerance command (S.lentOf (counter .next) (now (lanes .entry)) (now (boundaries .entry)) (now (roads .entry)) (now (junctions .entry)) (now (rules .entry)) (now («stop_lines» .entry)) (now (crosswalks .entry)) (now (coordinates .entry)) (now (created .entry)) (now (modified .entry)) (now (deleted .entry)) (now (warnings .entry))) (S.ended (S.lentOf (counterBehind (counter .next) r) (now (lanes .exit)) (now (boundaries .exit)) (now (roads .exit)) (now (junctions .exit)) (now (rules .exit)) (now («stop_lines» .exit)) (now (crosswalks .exit)) (now (coordinates .exit)) (now (created .exit)) (now (modified .exit)) (now (deleted .exit)) (now (warnings .exit))) r) ⌝ }
 {
+    let next = counter.next;
     if sound_map::sound(
-        counter,
+        next,
         lanes,
         boundaries,
         roads,
@@ -184,7 +186,7 @@ pub fn apply(
         coordinates,
     ) {
         return dispatch(
-            counter,
+            next,
             tolerance,
             lanes,
             boundaries,

@@ -1,6 +1,7 @@
 // Replays stored calls on stored maps (data/calls.bin; oracle/FORMAT.md, "Calls"), each as a host makes it, and writes for each the answer's numbers and a
 // digest of all that was lent. What it must write, `stdout`, is the oracle's, made of the Rust's answers.
 ghost use Prim.Native.Nat.{_≤_};
+use entities::Counter;
 use libc::STDOUT_FILENO;
 use report::ENTITY;
 use report::WARNING;
@@ -103,7 +104,53 @@ fn print(t: Told, digest: u64) {
     io::write_all(STDOUT_FILENO, b"\n");
 }
 
-// Makes the call at a place of the stream as a host makes it, with the room for its lists that the stream gives, and writes its line.
+// What a call answers, and the counter as it was left.
+struct Heard {
+    told: Told,
+    counter: u64,
+}
+
+// The call as a host makes it, with a counter of its own that it lends.
+fn call(
+    counter: u64,
+    lanes: &mut [u64],
+    boundaries: &mut [u64],
+    roads: &mut [u64],
+    junctions: &mut [u64],
+    rules: &mut [u64],
+    stop_lines: &mut [u64],
+    crosswalks: &mut [u64],
+    coordinates: &mut [f64],
+    command: &[u64],
+    created: &mut [u64],
+    modified: &mut [u64],
+    deleted: &mut [u64],
+    warnings: &mut [u64],
+) -> Heard {
+    let mut own = Counter { next: counter };
+    let told = voldrekka::voldrekka_apply(
+        &mut own,
+        lanes,
+        boundaries,
+        roads,
+        junctions,
+        rules,
+        stop_lines,
+        crosswalks,
+        coordinates,
+        command,
+        created,
+        modified,
+        deleted,
+        warnings,
+    );
+    Heard {
+        told,
+        counter: own.next,
+    }
+}
+
+// Makes the call at a place of the stream, with the room for its lists that the stream gives, and writes its line.
 fn make(
     s: &[u8],
     at: usize,
@@ -128,7 +175,7 @@ fn make(
     let b = r.modified;
     let c = r.deleted;
     let d = r.warnings;
-    let told = voldrekka::voldrekka_apply(
+    let heard = call(
         counter,
         lanes,
         boundaries,
@@ -158,9 +205,10 @@ fn make(
         &deleted,
         &warnings,
     );
+    let told = heard.told;
     print(told, digest);
     Behind {
-        counter: told.counter,
+        counter: heard.counter,
         next,
     }
 }

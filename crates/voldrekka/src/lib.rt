@@ -15,6 +15,7 @@ ghost use Rattle.tables.specs.Formed.{soundTables};
 ghost use Rattle.step.specs.Step.{tablesOf, lentOf};
 ghost use Rattle.words.specs.Words.{commandOf};
 ghost use Rattle.voldrekka.specs.Edits.{called, calling};
+use entities::Counter;
 use entities::Tolerance;
 use geometry::Point2;
 use polyline::OptionNearest;
@@ -124,11 +125,11 @@ pub extern "C" fn voldrekka_sound(
 
 // ---- the edits
 
-// Makes the command that a row of words is (crates/words) on the map that is lent, or refuses it, and answers by value: number, entity, counts, second half and
-// the next call's counter. A refused call writes nothing. The tolerances are document 01's, and are filled in here alone.
+// Makes the command that a row of words is (crates/words) on the map that is lent, or refuses it, advances the counter that is lent, and answers by value: number,
+// entity, counts, second half and the counter again. A refused call writes nothing. The tolerances are document 01's, and are filled in here alone.
 #[no_mangle]
 pub extern "C" fn voldrekka_apply(
-    counter: u64,
+    counter: &mut Counter,
     lanes: &mut [u64],
     boundaries: &mut [u64],
     roads: &mut [u64],
@@ -143,11 +144,12 @@ pub extern "C" fn voldrekka_apply(
     deleted: &mut [u64],
     warnings: &mut [u64],
 ) -> Told
-    ensures { λ r. ⌜ called (lentOf (r .counter) (now (lanes .exit)) (now (boundaries .exit)) (now (roads .exit)) (now (junctions .exit)) (now (rules .exit)) (now («stop_lines» .exit)) (now (crosswalks .exit)) (now (coordinates .exit)) (now (created .exit)) (now (modified .exit)) (now (deleted .exit)) (now (warnings .exit))) r ≡ calling (commandOf (now (command .entry))) (lentOf counter (now (lanes .entry)) (now (boundaries .entry)) (now (roads .entry)) (now (junctions .entry)) (now (rules .entry)) (now («stop_lines» .entry)) (now (crosswalks .entry)) (now (coordinates .entry)) (now (created .entry)) (now (modified .entry)) (now (deleted .entry)) (now (warnings .entry))) ⌝ }
+    ensures { λ r. ⌜ called (lentOf (now (counter .exit) .next) (now (lanes .exit)) (now (boundaries .exit)) (now (roads .exit)) (now (junctions .exit)) (now (rules .exit)) (now («stop_lines» .exit)) (now (crosswalks .exit)) (now (coordinates .exit)) (now (created .exit)) (now (modified .exit)) (now (deleted .exit)) (now (warnings .exit))) r ≡ calling (commandOf (now (command .entry))) (lentOf (now (counter .entry) .next) (now (lanes .entry)) (now (boundaries .entry)) (now (roads .entry)) (now (junctions .entry)) (now (rules .entry)) (now («stop_lines» .entry)) (now (crosswalks .entry)) (now (coordinates .entry)) (now (created .entry)) (now (modified .entry)) (now (deleted .entry)) (now (warnings .entry))) ⌝ }
 {
+    let before = counter.next;
     let made = words::command_of(command);
     let tolerance = Tolerance::preset();
-    let answer = ops::apply(
+    let answer = allocator::apply(
         counter,
         tolerance,
         lanes,
@@ -164,5 +166,5 @@ pub extern "C" fn voldrekka_apply(
         deleted,
         warnings,
     );
-    words::tell(counter, answer)
+    words::tell(before, answer)
 }

@@ -4,6 +4,7 @@
 ghost use Prim.Native.Nat.{_+_, _≤_, _<_};
 ghost use lib.ListN.{length};
 ghost use mathlib.Core.Path.{_≡_};
+use entities::Counter;
 use entities::OptionEntity;
 use entities::Tolerance;
 use libc::STDOUT_FILENO;
@@ -1069,7 +1070,7 @@ fn make(
     asked(row);
     let command = words::command_of(&row);
     let a = ops::apply(
-        counter,
+        Counter { next: counter },
         Tolerance::preset(),
         lanes,
         boundaries,

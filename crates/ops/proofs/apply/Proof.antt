@@ -12,7 +12,7 @@ use mathlib.Core.Path.{_≡_, refl, sym, ap, _∙_}
 -- what is lent
 abbrev lent : tie.Start → Lent
 lent s =
-    lentOf (s .args .counter) (s .args .lanes .now) (s .args .boundaries .now) (s .args .roads .now) (s .args .junctions .now) (s .args .rules .now) (s .args .stop-lines .now)
+    lentOf (s .args .counter .next) (s .args .lanes .now) (s .args .boundaries .now) (s .args .roads .now) (s .args .junctions .now) (s .args .rules .now) (s .args .stop-lines .now)
     (s .args .crosswalks .now) (s .args .coordinates .now) (s .args .created .now) (s .args .modified .now) (s .args .deleted .now) (s .args .warnings .now)
 
 -- src/lib.rt:143:8

@@ -3,7 +3,7 @@ use Rattle.replay.proofs.make.Statement.{statement}
 use Rattle.replay.proofs.make.Tie as tie
 use Rattle.replay.proofs.make.Reads as reads
 use Rattle.replay.proofs.make.Lts as lts
-use Rattle.voldrekka.proofs.voldrekka_apply.Reads as voldrekka-apply-reads
+use Rattle.replay.proofs.call.Reads as call-reads
 use Rattle.replay.proofs.digest_of.Reads as digest-of-reads
 use Rattle.replay.proofs.print.Reads as print-reads
 use Rattle.replay.proofs.room.Reads as room-reads
@@ -20,35 +20,35 @@ fill-requires c κs = search needs
 room-requires : tie.Need-room-requires
 room-requires c κs = search needs
 
-slice-aggregate-voldrekka-apply : tie.Need-slice-aggregate-voldrekka-apply
-slice-aggregate-voldrekka-apply c = search needs
+slice-aggregate-call : tie.Need-slice-aggregate-call
+slice-aggregate-call c = search needs
 
 array-borrow-prefix-created : tie.Need-array-borrow-prefix-created
 array-borrow-prefix-created c = search needs
 
-slice-aggregate-voldrekka-apply-2 : tie.Need-slice-aggregate-voldrekka-apply-2
-slice-aggregate-voldrekka-apply-2 c = sym (length-take-le _ _ (c .before .before .before .before .before .before .before .before .before .before .room .ensures .0))
+slice-aggregate-call-2 : tie.Need-slice-aggregate-call-2
+slice-aggregate-call-2 c = sym (length-take-le _ _ (c .before .before .before .before .before .before .before .before .before .before .room .ensures .0))
 
 array-borrow-prefix-modified : tie.Need-array-borrow-prefix-modified
 array-borrow-prefix-modified c = search needs
 
-slice-aggregate-voldrekka-apply-3 : tie.Need-slice-aggregate-voldrekka-apply-3
-slice-aggregate-voldrekka-apply-3 c = sym (length-take-le _ _ (c .before .before .before .before .before .before .before .before .before .before .before .room .ensures .1 .0))
+slice-aggregate-call-3 : tie.Need-slice-aggregate-call-3
+slice-aggregate-call-3 c = sym (length-take-le _ _ (c .before .before .before .before .before .before .before .before .before .before .before .room .ensures .1 .0))
 
 array-borrow-prefix-deleted : tie.Need-array-borrow-prefix-deleted
 array-borrow-prefix-deleted c = search needs
 
-slice-aggregate-voldrekka-apply-4 : tie.Need-slice-aggregate-voldrekka-apply-4
-slice-aggregate-voldrekka-apply-4 c = sym (length-take-le _ _ (c .before .before .before .before .before .before .before .before .before .before .before .before .room .ensures .1 .1 .0))
+slice-aggregate-call-4 : tie.Need-slice-aggregate-call-4
+slice-aggregate-call-4 c = sym (length-take-le _ _ (c .before .before .before .before .before .before .before .before .before .before .before .before .room .ensures .1 .1 .0))
 
 array-borrow-prefix-warnings : tie.Need-array-borrow-prefix-warnings
 array-borrow-prefix-warnings c = search needs
 
-slice-aggregate-voldrekka-apply-5 : tie.Need-slice-aggregate-voldrekka-apply-5
-slice-aggregate-voldrekka-apply-5 c = sym (length-take-le _ _ (c .before .before .before .before .before .before .before .before .before .before .before .before .before .room .ensures .1 .1 .1))
+slice-aggregate-call-5 : tie.Need-slice-aggregate-call-5
+slice-aggregate-call-5 c = sym (length-take-le _ _ (c .before .before .before .before .before .before .before .before .before .before .before .before .before .room .ensures .1 .1 .1))
 
-voldrekka-apply-requires : tie.Need-voldrekka-apply-requires
-voldrekka-apply-requires c κs = search needs
+call-requires : tie.Need-call-requires
+call-requires c κs = search needs
 
 digest-of-requires : tie.Need-digest-of-requires
 digest-of-requires c κs = search needs
@@ -57,28 +57,28 @@ print-requires : tie.Need-print-requires
 print-requires c κs = search needs
 
 same-length : tie.Need-same-length
-same-length c = c .before .before .before .before .before .before .before .before .before .before .before .before .before .before .before .before .before .before .before .before .before .before .before .before .before .before .before .before .before .before .before .before .before .before .voldrekka-apply .kept .1 .0
+same-length c = c .before .before .before .before .before .before .before .before .before .before .before .before .before .before .before .before .before .before .before .before .before .before .before .before .before .before .before .before .before .before .before .before .before .before .before .call .kept .1 .0
 
 same-length-2 : tie.Need-same-length-2
-same-length-2 c = c .before .before .before .before .before .before .before .before .before .before .before .before .before .before .before .before .before .before .before .before .before .before .before .before .before .before .before .before .before .before .before .before .before .before .voldrekka-apply .kept .1 .1 .0
+same-length-2 c = c .before .before .before .before .before .before .before .before .before .before .before .before .before .before .before .before .before .before .before .before .before .before .before .before .before .before .before .before .before .before .before .before .before .before .before .call .kept .1 .1 .0
 
 same-length-3 : tie.Need-same-length-3
-same-length-3 c = c .before .before .before .before .before .before .before .before .before .before .before .before .before .before .before .before .before .before .before .before .before .before .before .before .before .before .before .before .before .before .before .before .before .before .voldrekka-apply .kept .1 .1 .1 .0
+same-length-3 c = c .before .before .before .before .before .before .before .before .before .before .before .before .before .before .before .before .before .before .before .before .before .before .before .before .before .before .before .before .before .before .before .before .before .before .before .call .kept .1 .1 .1 .0
 
 same-length-4 : tie.Need-same-length-4
-same-length-4 c = c .before .before .before .before .before .before .before .before .before .before .before .before .before .before .before .before .before .before .before .before .before .before .before .before .before .before .before .before .before .before .before .before .before .before .voldrekka-apply .kept .1 .1 .1 .1 .0
+same-length-4 c = c .before .before .before .before .before .before .before .before .before .before .before .before .before .before .before .before .before .before .before .before .before .before .before .before .before .before .before .before .before .before .before .before .before .before .before .call .kept .1 .1 .1 .1 .0
 
 same-length-5 : tie.Need-same-length-5
-same-length-5 c = c .before .before .before .before .before .before .before .before .before .before .before .before .before .before .before .before .before .before .before .before .before .before .before .before .before .before .before .before .before .before .before .before .before .before .voldrekka-apply .kept .1 .1 .1 .1 .1 .0
+same-length-5 c = c .before .before .before .before .before .before .before .before .before .before .before .before .before .before .before .before .before .before .before .before .before .before .before .before .before .before .before .before .before .before .before .before .before .before .before .call .kept .1 .1 .1 .1 .1 .0
 
 same-length-6 : tie.Need-same-length-6
-same-length-6 c = c .before .before .before .before .before .before .before .before .before .before .before .before .before .before .before .before .before .before .before .before .before .before .before .before .before .before .before .before .before .before .before .before .before .before .voldrekka-apply .kept .1 .1 .1 .1 .1 .1 .0
+same-length-6 c = c .before .before .before .before .before .before .before .before .before .before .before .before .before .before .before .before .before .before .before .before .before .before .before .before .before .before .before .before .before .before .before .before .before .before .before .call .kept .1 .1 .1 .1 .1 .1 .0
 
 same-length-7 : tie.Need-same-length-7
-same-length-7 c = c .before .before .before .before .before .before .before .before .before .before .before .before .before .before .before .before .before .before .before .before .before .before .before .before .before .before .before .before .before .before .before .before .before .before .voldrekka-apply .kept .1 .1 .1 .1 .1 .1 .1 .0
+same-length-7 c = c .before .before .before .before .before .before .before .before .before .before .before .before .before .before .before .before .before .before .before .before .before .before .before .before .before .before .before .before .before .before .before .before .before .before .before .call .kept .1 .1 .1 .1 .1 .1 .1 .0
 
 same-length-8 : tie.Need-same-length-8
-same-length-8 c = c .before .before .before .before .before .before .before .before .before .before .before .before .before .before .before .before .before .before .before .before .before .before .before .before .before .before .before .before .before .before .before .before .before .before .voldrekka-apply .kept .1 .1 .1 .1 .1 .1 .1 .1 .0
+same-length-8 c = c .before .before .before .before .before .before .before .before .before .before .before .before .before .before .before .before .before .before .before .before .before .before .before .before .before .before .before .before .before .before .before .before .before .before .before .call .kept .1 .1 .1 .1 .1 .1 .1 .1 .0
 
 returns : tie.Need-returns
 returns c = search needs
@@ -90,16 +90,16 @@ make-spec =
     slice-aggregate-fill
     fill-requires
     room-requires
-    slice-aggregate-voldrekka-apply
+    slice-aggregate-call
     array-borrow-prefix-created
-    slice-aggregate-voldrekka-apply-2
+    slice-aggregate-call-2
     array-borrow-prefix-modified
-    slice-aggregate-voldrekka-apply-3
+    slice-aggregate-call-3
     array-borrow-prefix-deleted
-    slice-aggregate-voldrekka-apply-4
+    slice-aggregate-call-4
     array-borrow-prefix-warnings
-    slice-aggregate-voldrekka-apply-5
-    voldrekka-apply-requires
+    slice-aggregate-call-5
+    call-requires
     digest-of-requires
     print-requires
     same-length
