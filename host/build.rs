@@ -1,0 +1,24 @@
+//! Links libvoldrekka.a from the folder that VOLDREKKA_LIB names, else from target/staticlib, where `rt staticlib voldrekka` writes it.
+
+use std::env::var;
+use std::path::PathBuf;
+
+/// EDITOR_LIB is the oracle's name for the same folder.
+const FOLDERS: [&str; 2] = ["VOLDREKKA_LIB", "EDITOR_LIB"];
+
+fn main() {
+    for name in FOLDERS {
+        println!("cargo:rerun-if-env-changed={name}");
+    }
+    let folder = FOLDERS
+        .iter()
+        .find_map(|name| var(name).ok())
+        .unwrap_or_else(|| format!("{}/../target/staticlib", env!("CARGO_MANIFEST_DIR")));
+    let library = PathBuf::from(&folder).join("libvoldrekka.a");
+    println!("cargo:rerun-if-changed={}", library.display());
+    if !library.exists() {
+        println!("cargo:warning={} is not there: `rt staticlib voldrekka` makes it", library.display());
+    }
+    println!("cargo:rustc-link-search=native={folder}");
+    println!("cargo:rustc-link-lib=static=voldrekka");
+}
