@@ -1,14 +1,12 @@
 //! The six edits: commands as the library's rows of words, room that grows, and answers as change sets.
 
-use std::thread;
-
 use crate::changes::*;
 use crate::ids::*;
 use crate::layout::*;
 use crate::map::Map;
 use crate::messages::Messages;
 use crate::records::*;
-use crate::sys;
+use crate::{stack, sys};
 use crate::tables::{Table, neighbor_words};
 
 /// Where to split a lane, along its centreline.
@@ -164,7 +162,7 @@ impl Map {
 
     /// Makes a command, and gives a refusal with its number and entity.
     ///
-    /// The call runs on a thread of its own, with the stack that the library asks for.
+    /// The library runs on a thread with the stack that it asks for.
     pub fn call(&mut self, command: &Command) -> Result<Done, Refused> {
         let before = Messages::before(self, command);
         let answer = self.answer(&command.row());
@@ -180,26 +178,21 @@ impl Map {
     }
 
     /// The library's answer. Where what is lent is too small, it grows; refusal 10 is left for a limit.
-    fn answer(&mut self, row: &[u64]) -> sys::Answer {
+    fn answer(&mut self, row: &[u64; COMMAND_WORDS]) -> sys::Answer {
         loop {
-            let answer = on_ample_stack(|| self.attempt(row));
+            let (lent, answer) = stack::apply(std::mem::take(&mut self.lent), row);
+            self.lent = lent;
             if answer.number != NO_ROOM || !self.grow() {
                 return answer;
             }
         }
     }
 
-    fn attempt(&mut self, row: &[u64]) -> sys::Answer {
-        let tables = self.tables.words.each_mut().map(|t| &mut t[..]);
-        let lists = self.lists.each_mut().map(|l| &mut l[..]);
-        sys::apply(&mut self.counter, tables, &mut self.tables.coordinates, row, lists)
-    }
-
     /// Doubles what an edit may want more of, as far as a map may ever need it; whether anything grew.
     fn grow(&mut self) -> bool {
-        let [lanes, boundaries, ..] = &mut self.tables.words;
-        let [created, modified, deleted, warnings] = &mut self.lists;
-        let mut grown = grow_to(&mut self.tables.coordinates, 0.0, MAX_POINTS * POINT_FLOATS);
+        let [lanes, boundaries, ..] = &mut self.lent.tables.words;
+        let [created, modified, deleted, warnings] = &mut self.lent.lists;
+        let mut grown = grow_to(&mut self.lent.tables.coordinates, 0.0, MAX_POINTS * POINT_FLOATS);
         for (words, most) in [
             (lanes, Table::Lanes.max_len()),
             (boundaries, Table::Boundaries.max_len()),
@@ -214,7 +207,7 @@ impl Map {
     }
 
     fn change_set(&self, answer: &sys::Answer, before: &Messages) -> ChangeSet {
-        let [created, modified, deleted, warnings] = &self.lists;
+        let [created, modified, deleted, warnings] = &self.lent.lists;
         let mut changes = ChangeSet {
             created: pairs(created, answer.created),
             modified: pairs(modified, answer.modified),
@@ -240,13 +233,6 @@ fn grow_to<T: Copy>(slice: &mut Vec<T>, with: T, most: usize) -> bool {
         slice.resize(grown, with);
     }
     grows
-}
-
-fn on_ample_stack<T: Send>(run: impl FnOnce() -> T + Send) -> T {
-    thread::scope(|scope| {
-        let thread = thread::Builder::new().stack_size(sys::STACK).spawn_scoped(scope, run);
-        thread.expect("the system gives a thread").join().expect("the library does not panic")
-    })
 }
 
 // ---- words of an answer

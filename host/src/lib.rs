@@ -52,6 +52,7 @@ pub mod layout;
 pub mod map;
 mod messages;
 pub mod records;
+mod stack;
 #[allow(unsafe_code)]
 pub mod sys;
 mod tables;
@@ -61,6 +62,6 @@ pub use changes::{ChangeSet, Done, EditError, EditResult, Issue, IssueCode, Refu
 pub use edit::{Command, SplitAt, SplitOptions};
 pub use geometry::{Point3, Polyline3};
 pub use ids::*;
-pub use map::{Map, MapError};
+pub use map::{Fault, Map, MapError};
 pub use messages::MIN_PIECE_LENGTH;
 pub use records::*;

@@ -7,7 +7,8 @@ use crate::ids::*;
 use crate::layout::*;
 use crate::records::*;
 use crate::sys;
-use crate::tables::{Record, Table, Tables};
+use crate::stack::Lent;
+use crate::tables::{Record, Table};
 
 /// Why a record cannot stand in a map.
 #[derive(Debug, Clone, Copy, PartialEq, Eq)]
@@ -34,6 +35,15 @@ impl fmt::Display for MapError {
 
 impl std::error::Error for MapError {}
 
+/// Why a map is not sound.
+#[derive(Debug, Clone, Copy, PartialEq, Eq)]
+pub struct Fault {
+    /// The clause of soundness that fails first, in words.
+    pub clause: &'static str,
+    /// Where it fails, if at one entity.
+    pub entity: Option<EntityRef>,
+}
+
 /// A lane map that owns its tables.
 ///
 /// It is built by inserting records and changed by the edits ([`Map::apply`]); records come back by value. A map need not be sound while it
@@ -57,10 +67,8 @@ impl std::error::Error for MapError {}
 /// ```
 #[derive(Debug, Clone)]
 pub struct Map {
-    pub(crate) counter: u64,
-    pub(crate) tables: Tables,
-    /// Words lent for created, modified, deleted and warnings; what they hold means nothing between calls.
-    pub(crate) lists: [Vec<u64>; 4],
+    /// What the library is lent. What the lists hold means nothing between calls.
+    pub(crate) lent: Lent,
 }
 
 impl Default for Map {
@@ -91,7 +99,7 @@ macro_rules! accessors {
 impl Map {
     /// A map without entities.
     pub fn new() -> Self {
-        Self { counter: 1, tables: Tables::new(), lists: Default::default() }
+        Self { lent: Lent { counter: 1, ..Lent::default() } }
     }
 
     accessors!(Lane, LaneId, lane, lanes, insert_lane);
@@ -103,24 +111,24 @@ impl Map {
     accessors!(RegulatoryElement, RegulatoryElementId, regulatory_element, regulatory_elements, insert_regulatory_element);
 
     fn record<R: Record>(&self, id: u64) -> Option<R> {
-        let row = self.tables.find(R::TABLE, id).ok()?;
-        Some(R::of_row(self.tables.row(R::TABLE, row), &self.tables))
+        let row = self.lent.tables.find(R::TABLE, id).ok()?;
+        Some(R::of_row(self.lent.tables.row(R::TABLE, row), &self.lent.tables))
     }
 
     fn records<R: Record>(&self) -> impl ExactSizeIterator<Item = R> + '_ {
-        (0..self.tables.count(R::TABLE)).map(|row| R::of_row(self.tables.row(R::TABLE, row), &self.tables))
+        (0..self.lent.tables.count(R::TABLE)).map(|row| R::of_row(self.lent.tables.row(R::TABLE, row), &self.lent.tables))
     }
 
     fn insert<R: Record>(&mut self, record: &R) -> Result<(), MapError> {
-        let Err(at) = self.tables.find(R::TABLE, record.id()) else {
+        let Err(at) = self.lent.tables.find(R::TABLE, record.id()) else {
             return Err(MapError::DuplicateId(EntityRef::new(R::TABLE.kind(), record.id())));
         };
         self.fits(record)?;
-        let starts = self.tables.store(&record.lines());
-        self.tables.insert(R::TABLE, at, &record.row(&starts));
+        let starts = self.lent.tables.store(&record.lines());
+        self.lent.tables.insert(R::TABLE, at, &record.row(&starts));
         let listed = record.lists().into_iter().flat_map(|(ids, _)| ids);
         for id in record.named().into_iter().chain(listed) {
-            self.counter = self.counter.max(id.saturating_add(1));
+            self.lent.counter = self.lent.counter.max(id.saturating_add(1));
         }
         Ok(())
     }
@@ -130,9 +138,9 @@ impl Map {
         let points: usize = record.lines().iter().map(|l| l.len()).sum();
         let longest = record.lines().iter().map(|l| l.len()).max().unwrap_or(0);
         let counts = [
-            ("entities of a kind", self.tables.count(R::TABLE) + 1, R::TABLE.max_rows()),
+            ("entities of a kind", self.lent.tables.count(R::TABLE) + 1, R::TABLE.max_rows()),
             ("points in a line", longest, MAX_LINE_POINTS),
-            ("points in a map", self.tables.points() + points, MAX_POINTS),
+            ("points in a map", self.lent.tables.points() + points, MAX_POINTS),
         ];
         let lists = record.lists().into_iter().map(|(ids, limit)| ("ids in a list", ids.len(), limit));
         match counts.into_iter().chain(lists).find(|(_, n, limit)| n > limit) {
@@ -143,18 +151,23 @@ impl Map {
 
     /// The id that is allocated next.
     pub fn next_id(&self) -> u64 {
-        self.counter.max(1)
+        self.lent.counter.max(1)
     }
 
     /// Sets the id that is allocated next. A map is sound only if it exceeds every id that the map names.
     pub fn set_next_id(&mut self, next: u64) {
-        self.counter = next;
+        self.lent.counter = next;
     }
 
     /// Whether the map is sound: the library's own test.
     pub fn is_sound(&self) -> bool {
-        let words = &self.tables.words;
-        sys::sound(self.counter, std::array::from_fn(|t| &words[t][..]), &self.tables.coordinates)
+        let words = &self.lent.tables.words;
+        sys::sound(self.lent.counter, std::array::from_fn(|t| &words[t][..]), &self.lent.tables.coordinates)
+    }
+
+    /// Why the map is not sound; none if it is.
+    pub fn fault(&self) -> Option<Fault> {
+        (!self.is_sound()).then_some(Fault { clause: "the map is not sound", entity: None })
     }
 
     /// Whether an entity is in the map.
@@ -169,7 +182,7 @@ impl Map {
             Table::Crosswalks,
         ];
         let table = tables.into_iter().find(|t| t.kind() == entity.kind());
-        table.is_some_and(|t| self.tables.find(t, entity.raw()).is_ok())
+        table.is_some_and(|t| self.lent.tables.find(t, entity.raw()).is_ok())
     }
 
     // ---- lines that follow from the records

@@ -78,14 +78,14 @@ pub struct Tables {
     pub coordinates: Vec<f64>,
 }
 
-impl Tables {
-    pub fn new() -> Self {
-        Self {
-            words: std::array::from_fn(|_| vec![0]),
-            coordinates: Vec::new(),
-        }
+impl Default for Tables {
+    /// Tables without rows.
+    fn default() -> Self {
+        Self { words: std::array::from_fn(|_| vec![0]), coordinates: Vec::new() }
     }
+}
 
+impl Tables {
     pub fn count(&self, table: Table) -> usize {
         self.words[table as usize][ROW_COUNT] as usize
     }

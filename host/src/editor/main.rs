@@ -1,1 +1,132 @@
-fn main() {}
+//! The editor: shows, checks, edits and draws maps in their text form (docs/MAPS.md).
+
+mod arguments;
+mod files;
+mod json;
+mod report;
+
+use std::path::Path;
+use std::process::ExitCode;
+
+use arguments::{Job, Request, USAGE};
+use report::Report;
+use voldrekka::text::Document;
+use voldrekka::{Command, Done, Map, Refused, draw, sys};
+
+/// What ends a job, with its exit status: a refusal's number, or one above all refusals.
+pub enum Failure {
+    /// The edit was refused, or the map is not sound.
+    Refused(u64),
+    /// The command line is not understood.
+    Usage(String),
+    /// A file cannot be read or written.
+    File(String),
+    /// A line of the map is not understood.
+    Text(String),
+    /// The machine is not in the state that the library assumes.
+    Machine(String),
+}
+
+impl Failure {
+    fn status(&self) -> u8 {
+        match self {
+            Failure::Refused(number) => *number as u8,
+            Failure::Usage(_) => 12,
+            Failure::File(_) => 13,
+            Failure::Text(_) => 14,
+            Failure::Machine(_) => 15,
+        }
+    }
+
+    fn message(&self) -> Option<&str> {
+        match self {
+            Failure::Refused(_) => None,
+            Failure::Usage(m) | Failure::File(m) | Failure::Text(m) | Failure::Machine(m) => Some(m),
+        }
+    }
+}
+
+fn main() -> ExitCode {
+    let words: Vec<String> = std::env::args().skip(1).collect();
+    match arguments::read(&words).and_then(run) {
+        Ok(()) => ExitCode::SUCCESS,
+        Err(failure) => {
+            if let Some(message) = failure.message() {
+                eprintln!("voldrekka: {message}");
+            }
+            ExitCode::from(failure.status())
+        }
+    }
+}
+
+fn run(request: Request) -> Result<(), Failure> {
+    if !sys::float_state() {
+        return Err(Failure::Machine("the floating-point state is not round to nearest with subnormals kept".into()));
+    }
+    let report = Report { json: request.json };
+    match request.job {
+        Job::Help => print!("{USAGE}"),
+        Job::Show { file } => report.show(&file, &files::read(&file)?),
+        Job::Check { file } => return check(&report, &file),
+        Job::Edit { file, command, output, dry_run, picture } => {
+            let document = files::read(&file)?;
+            let (after, done) = edited(&report, &document, &command)?;
+            let target = output.unwrap_or_else(|| file.clone());
+            if let Some(picture) = picture {
+                let title = format!("{}: {}", file.display(), report::sentence(&command));
+                files::write(&picture, &draw::edit(&document.map, &after.map, &done.changes, &title))?;
+            }
+            if !dry_run {
+                files::write(&target, &after.write())?;
+            }
+            report.done(&command, &done, after.map.next_id());
+        }
+        Job::Draw { file, edit, output } => return picture(&report, &file, edit, output.as_deref()),
+    }
+    Ok(())
+}
+
+fn check(report: &Report, file: &Path) -> Result<(), Failure> {
+    let document = files::read(file)?;
+    let fault = document.map.fault();
+    report.checked(file, &document, fault.as_ref());
+    fault.map_or(Ok(()), |_| Err(Failure::Refused(UNSOUND)))
+}
+
+/// The number of the refusal of a map that is not sound.
+const UNSOUND: u64 = voldrekka::layout::UNSOUND;
+
+/// The document after an edit; a refusal is reported.
+fn edited(report: &Report, document: &Document, command: &Command) -> Result<(Document, Done), Failure> {
+    let mut after = document.clone();
+    match after.map.call(command) {
+        Ok(done) => Ok((after, done)),
+        Err(refused) => Err(told(report, document, command, &refused)),
+    }
+}
+
+fn told(report: &Report, document: &Document, command: &Command, refused: &Refused) -> Failure {
+    report.refused(document, command, refused);
+    Failure::Refused(refused.refusal.number)
+}
+
+/// Draws a map, or an edit of it, to `output` or to the file's name with the ending svg.
+fn picture(report: &Report, file: &Path, edit: Option<Command>, output: Option<&Path>) -> Result<(), Failure> {
+    let document = files::read(file)?;
+    let name = file.display();
+    let svg = match edit {
+        None => draw::map(&document.map, &format!("{name}: {}", summary(&document.map))),
+        Some(command) => {
+            let (after, done) = edited(report, &document, &command)?;
+            draw::edit(&document.map, &after.map, &done.changes, &format!("{name}: {}", report::sentence(&command)))
+        }
+    };
+    let output = output.map_or_else(|| file.with_extension("svg"), Path::to_path_buf);
+    files::write(&output, &svg)?;
+    report.drawn(&output);
+    Ok(())
+}
+
+fn summary(map: &Map) -> String {
+    format!("{} lanes, {} boundaries", map.lanes().len(), map.boundaries().len())
+}

@@ -117,7 +117,7 @@ impl Document {
     pub fn write(&self) -> String {
         let mut text = String::new();
         put(&mut text, HEAD, Some(&self.head));
-        put(&mut text, &format!("{NEXT} {}", self.map.counter), Some(&self.next));
+        put(&mut text, &format!("{NEXT} {}", self.map.lent.counter), Some(&self.next));
         for (entity, words) in self.entities() {
             put(&mut text, &words, self.notes.get(&entity));
         }
