@@ -92,6 +92,9 @@ const SURROUNDINGS: (f64, f64) = (10.0, 0.3);
 /// A picture is so many pixels wide at least, for its title.
 const LEAST_WIDTH: f64 = 640.0;
 
+/// The width of a letter, in pixels.
+const LETTER: f64 = 7.5;
+
 /// Lines of text above a picture, and below it, in pixels.
 const TEXT: f64 = 22.0;
 
@@ -163,7 +166,7 @@ pub fn edit(before: &Map, after: &Map, changes: &ChangeSet, title: &str) -> Stri
     let (dx, dy) = if wide { (0.0, panel.height() + TEXT) } else { (panel.width() + TEXT, 0.0) };
     let bottom = panel.height() + dy + 2.0 * TEXT;
     let key_height = TEXT * (changes.warnings.len() as f64 + 1.5);
-    let mut svg = Svg::new((panel.width() + dx).max(LEAST_WIDTH), bottom + key_height);
+    let mut svg = Svg::new((panel.width() + dx).max(key_width(changes)), bottom + key_height);
     svg.text(8.0, 16.0, "title", &escaped(title));
     svg.text(8.0, 16.0 + TEXT, "caption", "before");
     panel.draw(&mut svg, before, &old, 0.0, 2.0 * TEXT);
@@ -171,6 +174,12 @@ pub fn edit(before: &Map, after: &Map, changes: &ChangeSet, title: &str) -> Stri
     panel.draw(&mut svg, after, &new, dx, 2.0 * TEXT + dy);
     key(&mut svg, bottom + TEXT, changes);
     svg.finish()
+}
+
+/// The width of the longest warning, and of a title.
+fn key_width(changes: &ChangeSet) -> f64 {
+    let longest = changes.warnings.iter().map(|w| w.to_string().chars().count()).max().unwrap_or(0);
+    (longest as f64 * LETTER).max(LEAST_WIDTH)
 }
 
 /// The colours and the warnings, below the pictures.
@@ -190,7 +199,7 @@ fn key(svg: &mut Svg, y: f64, changes: &ChangeSet) {
             status.line()
         ));
         svg.text(x + 20.0, y, "caption", &label);
-        x += 40.0 + 8.0 * label.len() as f64;
+        x += 40.0 + LETTER * label.len() as f64;
     }
     for (i, issue) in changes.warnings.iter().enumerate() {
         svg.text(8.0, y + TEXT * (i + 1) as f64, "caption", &escaped(&issue.to_string()));
