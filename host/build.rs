@@ -1,6 +1,7 @@
 //! Links libvoldrekka.a from the folder that VOLDREKKA_LIB names, else from target/staticlib, where `rt staticlib voldrekka` writes it.
 
 use std::env::var;
+use std::fs::canonicalize;
 use std::path::PathBuf;
 
 /// EDITOR_LIB is the oracle's name for the same folder.
@@ -14,11 +15,12 @@ fn main() {
         .iter()
         .find_map(|name| var(name).ok())
         .unwrap_or_else(|| format!("{}/../target/staticlib", env!("CARGO_MANIFEST_DIR")));
-    let library = PathBuf::from(&folder).join("libvoldrekka.a");
+    let folder = canonicalize(&folder).unwrap_or(PathBuf::from(folder));
+    let library = folder.join("libvoldrekka.a");
     println!("cargo:rerun-if-changed={}", library.display());
     if !library.exists() {
         println!("cargo:warning={} is not there: `rt staticlib voldrekka` makes it", library.display());
     }
-    println!("cargo:rustc-link-search=native={folder}");
+    println!("cargo:rustc-link-search=native={}", folder.display());
     println!("cargo:rustc-link-lib=static=voldrekka");
 }

@@ -37,7 +37,8 @@ pub struct Answer {
 }
 
 unsafe extern "C" {
-    safe fn voldrekka_sqrt(x: f64) -> f64;
+    /// The IEEE 754-2019 square root of any double.
+    pub safe fn voldrekka_sqrt(x: f64) -> f64;
 
     fn voldrekka_length(line: *const f64, line_len: usize) -> f64;
 
@@ -110,29 +111,28 @@ unsafe extern "C" {
     ) -> Answer;
 }
 
-/// The IEEE 754-2019 square root of any double.
-pub fn sqrt(x: f64) -> f64 {
-    voldrekka_sqrt(x)
-}
-
 /// The length of a line of three coordinates a point.
+#[inline]
 pub fn length(line: &[f64]) -> f64 {
     unsafe { voldrekka_length(line.as_ptr(), line.len()) }
 }
 
 /// The segment of the point nearest (x, y) in the plane; its x, y, z, distance and station go to `out`, if there are five places and
 /// the line has a point.
+#[inline]
 pub fn nearest_point(line: &[f64], x: f64, y: f64, out: &mut [f64]) -> usize {
     unsafe { voldrekka_nearest_point(line.as_ptr(), line.len(), x, y, out.as_mut_ptr(), out.len()) }
 }
 
 /// Both pieces of a line cut at a station, one behind the other in `out`; how many points the first has, and in `second` how many the
 /// second has. Without room for both it answers 0 and writes nothing.
+#[inline]
 pub fn split_at(line: &[f64], station: f64, out: &mut [f64], second: &mut usize) -> usize {
     unsafe { voldrekka_split_at(line.as_ptr(), line.len(), station, out.as_mut_ptr(), out.len(), second) }
 }
 
 /// Whether a map is sound: its next id, its tables (lanes, boundaries, roads, junctions, rules, stop lines, crosswalks) and its coordinates.
+#[inline]
 pub fn sound(counter: u64, tables: [&[u64]; TABLES], coordinates: &[f64]) -> bool {
     let [lanes, boundaries, roads, junctions, rules, stop_lines, crosswalks] = tables;
     unsafe {
@@ -160,6 +160,7 @@ pub fn sound(counter: u64, tables: [&[u64]; TABLES], coordinates: &[f64]) -> boo
 
 /// Makes a command on a map, or refuses it and leaves all that is lent alone. The lists are created, modified, deleted and warnings. The thread needs
 /// [`STACK`] bytes of stack.
+#[inline]
 pub fn apply(
     counter: &mut u64,
     tables: [&mut [u64]; TABLES],

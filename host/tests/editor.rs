@@ -189,9 +189,3 @@ fn pictures_show_everything() {
     assert!(folder.text("removed.svg").contains("deleted 2"));
     assert!(Path::new(&folder.0.join("gate.yard")).exists());
 }
-
-#[test]
-fn the_terminal_is_what_its_generator_writes() {
-    let written = Command::new(env!("CARGO_BIN_EXE_make_yard")).output().expect("make_yard runs").stdout;
-    assert_eq!(String::from_utf8_lossy(&written), Folder::new("generated").text("terminal.yard"));
-}
