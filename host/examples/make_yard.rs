@@ -91,8 +91,12 @@ impl Stretch {
             let reference = |i| BoundaryRef::backward(self.boundary(i));
             Lane::new(self.lane(lane), reference(left), reference(right))
         };
-        let mut lanes =
-            [along(LOADING_NORTH, 3, 4), along(PASSING_NORTH, 2, 3), against(PASSING_SOUTH, 2, 1), against(LOADING_SOUTH, 1, 0)];
+        let mut lanes = [
+            along(LOADING_NORTH, 3, 4),
+            along(PASSING_NORTH, 2, 3),
+            against(PASSING_SOUTH, 2, 1),
+            against(LOADING_SOUTH, 1, 0),
+        ];
         lanes[0].left_neighbor = Some(Neighbor::same(self.lane(PASSING_NORTH)));
         lanes[1].right_neighbor = Some(Neighbor::same(self.lane(LOADING_NORTH)));
         lanes[1].left_neighbor = Some(Neighbor::opposite(self.lane(PASSING_SOUTH)));

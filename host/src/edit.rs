@@ -6,8 +6,8 @@ use crate::layout::*;
 use crate::map::Map;
 use crate::messages::Messages;
 use crate::records::*;
-use crate::{stack, sys};
 use crate::tables::{Table, neighbor_words};
+use crate::{stack, sys};
 
 /// Where to split a lane, along its centreline.
 #[derive(Debug, Clone, Copy, PartialEq)]

@@ -25,11 +25,7 @@ impl Point3 {
 
     /// The point a part `t` of the way to another.
     pub fn lerp(self, other: Point3, t: f64) -> Point3 {
-        Point3::new(
-            self.x + (other.x - self.x) * t,
-            self.y + (other.y - self.y) * t,
-            self.z + (other.z - self.z) * t,
-        )
+        Point3::new(self.x + (other.x - self.x) * t, self.y + (other.y - self.y) * t, self.z + (other.z - self.z) * t)
     }
 }
 

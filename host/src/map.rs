@@ -6,9 +6,9 @@ use crate::geometry::Polyline3;
 use crate::ids::*;
 use crate::layout::*;
 use crate::records::*;
-use crate::sys;
 use crate::stack::Lent;
-use crate::tables::{Record, Table};
+use crate::sys::{self, TABLES};
+use crate::tables::{Record, Table, Tables};
 
 /// Why a record cannot stand in a map.
 #[derive(Debug, Clone, Copy, PartialEq, Eq)]
@@ -102,13 +102,40 @@ impl Map {
         Self { lent: Lent { counter: 1, ..Lent::default() } }
     }
 
+    /// A map from tables that a host kept itself (lanes, boundaries, roads, junctions, rules, stop lines, crosswalks), its coordinates and the next id;
+    /// none if it is not sound.
+    ///
+    /// ```
+    /// use voldrekka::Map;
+    ///
+    /// let empty = std::array::from_fn(|_| vec![0]);
+    /// assert_eq!(Map::from_tables(1, empty, Vec::new()).unwrap().lanes().len(), 0);
+    /// assert!(Map::from_tables(1, Default::default(), Vec::new()).is_none(), "a table has its count");
+    /// ```
+    pub fn from_tables(next: u64, words: [Vec<u64>; TABLES], coordinates: Vec<f64>) -> Option<Map> {
+        let tables = Tables { words, coordinates };
+        let map = Self { lent: Lent { counter: next, tables, ..Lent::default() } };
+        map.is_sound().then_some(map)
+    }
+
+    /// Its tables, in the order of [`Map::from_tables`], and its coordinates.
+    pub fn tables(&self) -> (&[Vec<u64>; TABLES], &[f64]) {
+        (&self.lent.tables.words, &self.lent.tables.coordinates)
+    }
+
     accessors!(Lane, LaneId, lane, lanes, insert_lane);
     accessors!(Boundary, BoundaryId, boundary, boundaries, insert_boundary);
     accessors!(Road, RoadId, road, roads, insert_road);
     accessors!(Junction, JunctionId, junction, junctions, insert_junction);
     accessors!(StopLine, StopLineId, stop_line, stop_lines, insert_stop_line);
     accessors!(Crosswalk, CrosswalkId, crosswalk, crosswalks, insert_crosswalk);
-    accessors!(RegulatoryElement, RegulatoryElementId, regulatory_element, regulatory_elements, insert_regulatory_element);
+    accessors!(
+        RegulatoryElement,
+        RegulatoryElementId,
+        regulatory_element,
+        regulatory_elements,
+        insert_regulatory_element
+    );
 
     fn record<R: Record>(&self, id: u64) -> Option<R> {
         let row = self.lent.tables.find(R::TABLE, id).ok()?;
@@ -116,7 +143,8 @@ impl Map {
     }
 
     fn records<R: Record>(&self) -> impl ExactSizeIterator<Item = R> + '_ {
-        (0..self.lent.tables.count(R::TABLE)).map(|row| R::of_row(self.lent.tables.row(R::TABLE, row), &self.lent.tables))
+        (0..self.lent.tables.count(R::TABLE))
+            .map(|row| R::of_row(self.lent.tables.row(R::TABLE, row), &self.lent.tables))
     }
 
     fn insert<R: Record>(&mut self, record: &R) -> Result<(), MapError> {
@@ -199,10 +227,7 @@ impl Map {
         if lane.centerline.is_some() {
             return lane.centerline.clone();
         }
-        Polyline3::centerline(
-            &self.oriented_boundary(lane, Side::Left)?,
-            &self.oriented_boundary(lane, Side::Right)?,
-        )
+        Polyline3::centerline(&self.oriented_boundary(lane, Side::Left)?, &self.oriented_boundary(lane, Side::Right)?)
     }
 
     /// How far the end of one lane is from the start of another: the larger distance of their left and of their right ends.

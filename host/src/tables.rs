@@ -304,10 +304,8 @@ impl Record for Lane {
     }
 
     fn of_row(row: &[u64], tables: &Tables) -> Self {
-        let reference = |column: usize| BoundaryRef {
-            boundary: BoundaryId(row[column]),
-            reversed: row[column + 1] != 0,
-        };
+        let reference =
+            |column: usize| BoundaryRef { boundary: BoundaryId(row[column]), reversed: row[column + 1] != 0 };
         Self {
             id: LaneId(row[ROW_ID]),
             kind: kind(row, LANE_KIND),
@@ -352,11 +350,7 @@ impl Record for Boundary {
     fn row(&self, starts: &[u64]) -> Vec<u64> {
         let mut row = row_of(
             BOUNDARY_WORDS,
-            &[
-                (ROW_ID, self.id.0),
-                (BOUNDARY_KIND, self.kind.number()),
-                (BOUNDARY_ATTRIBUTES, self.attributes.into()),
-            ],
+            &[(ROW_ID, self.id.0), (BOUNDARY_KIND, self.kind.number()), (BOUNDARY_ATTRIBUTES, self.attributes.into())],
         );
         put_line(&mut row, BOUNDARY_START, starts[0], &self.geometry);
         row
@@ -390,11 +384,7 @@ impl Record for Road {
     fn row(&self, _: &[u64]) -> Vec<u64> {
         let mut row = row_of(
             ROAD_WORDS,
-            &[
-                (ROW_ID, self.id.0),
-                (ROAD_NAME, self.name.into()),
-                (ROAD_ATTRIBUTES, self.attributes.into()),
-            ],
+            &[(ROW_ID, self.id.0), (ROAD_NAME, self.name.into()), (ROAD_ATTRIBUTES, self.attributes.into())],
         );
         put_list(&mut row, ROAD_LANES_AT, &raw(&self.lanes));
         row
@@ -466,10 +456,7 @@ impl Record for StopLine {
     }
 
     fn row(&self, starts: &[u64]) -> Vec<u64> {
-        let mut row = row_of(
-            STOP_LINE_WORDS,
-            &[(ROW_ID, self.id.0), (STOP_LINE_ATTRIBUTES, self.attributes.into())],
-        );
+        let mut row = row_of(STOP_LINE_WORDS, &[(ROW_ID, self.id.0), (STOP_LINE_ATTRIBUTES, self.attributes.into())]);
         put_line(&mut row, STOP_LINE_START, starts[0], &self.geometry);
         row
     }

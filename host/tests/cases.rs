@@ -139,7 +139,9 @@ lane 2 left=103 right=104
     assert_eq!(texts(&ahead(0.1).connect(LaneId(1), LaneId(2)).unwrap()), Vec::<String>::new());
     assert_eq!(
         texts(&ahead(0.2).connect(LaneId(1), LaneId(2)).unwrap()),
-        ["warning [geometric_gap] lane:1: lane:2 starts 0.200 m away from the end of lane:1; formats with implicit topology (Lanelet2) will not preserve this link"]
+        [
+            "warning [geometric_gap] lane:1: lane:2 starts 0.200 m away from the end of lane:1; formats with implicit topology (Lanelet2) will not preserve this link"
+        ]
     );
 }
 
@@ -184,7 +186,8 @@ fn refusals_in_words() {
 #[test]
 fn unsound_maps_and_spent_ids_are_refused() {
     let mut half = one();
-    half.insert_lane(Lane { successors: vec![LaneId(1)], ..Lane::new(LaneId(2), BoundaryId(101), BoundaryId(102)) }).unwrap();
+    half.insert_lane(Lane { successors: vec![LaneId(1)], ..Lane::new(LaneId(2), BoundaryId(101), BoundaryId(102)) })
+        .unwrap();
     assert!(!half.is_sound());
     assert_eq!(number(&mut half, Command::RemoveLane { lane: LaneId(1) }), 9);
     let mut spent = one();
@@ -200,7 +203,9 @@ fn room_grows_up_to_the_limits() {
     let mut map = one();
     let mut last = LaneId(1);
     for _ in 1..1024 {
-        last = map.split_lane(last, SplitAt::Station(0.2), SplitOptions::default()).map_or_else(|_| longer(&mut map), |s| s.0);
+        last = map
+            .split_lane(last, SplitAt::Station(0.2), SplitOptions::default())
+            .map_or_else(|_| longer(&mut map), |s| s.0);
     }
     assert_eq!(map.lanes().len(), 1024);
     assert!(map.is_sound());

@@ -153,13 +153,15 @@ fn rust_functions(text: &str) -> Declared {
 /// The fields of a struct of Rattle or Rust.
 fn fields(text: &str, name: &str) -> Parts {
     let text = bare(text);
-    let (body, _) = between(&text, &format!("pub struct {name} {{"), "}").unwrap_or_else(|| panic!("the struct {name}"));
+    let (body, _) =
+        between(&text, &format!("pub struct {name} {{"), "}").unwrap_or_else(|| panic!("the struct {name}"));
     listed(body).map(|p| (named(&p).0.into(), named(&p).1.into())).collect()
 }
 
 fn c_fields(text: &str, name: &str) -> Parts {
     let text = bare(text);
-    let (body, _) = between(&text, &format!("typedef struct {name} {{"), "}").unwrap_or_else(|| panic!("the struct {name}"));
+    let (body, _) =
+        between(&text, &format!("typedef struct {name} {{"), "}").unwrap_or_else(|| panic!("the struct {name}"));
     body.split(';').map(str::trim).filter(|f| !f.is_empty()).map(c_part).collect()
 }
 
@@ -248,7 +250,9 @@ fn in_header(name: &str) -> String {
     let exact = |to: &str| to.to_string();
     match name {
         "LANES" | "BOUNDARIES" | "ROADS" | "JUNCTIONS" | "RULES" | "STOP_LINES" | "CROSSWALKS" => format!("MAX_{name}"),
-        "LANE" | "BOUNDARY" | "ROAD" | "JUNCTION" | "RULE" | "STOP_LINE" | "CROSSWALK" | "COMMAND" => format!("{name}_WORDS"),
+        "LANE" | "BOUNDARY" | "ROAD" | "JUNCTION" | "RULE" | "STOP_LINE" | "CROSSWALK" | "COMMAND" => {
+            format!("{name}_WORDS")
+        }
         "PREDECESSORS" | "SUCCESSORS" | "ROAD_LANES" | "JUNCTION_LANES" | "RULE_LANES" | "RULE_CONTROLLED"
         | "RULE_STOP_LINES" | "RULE_PRIORITY" | "RULE_YIELDING" => format!("{name}_AT"),
         "NONE" | "SAME" | "OPPOSITE" => format!("NEIGHBOR_{name}"),
@@ -351,12 +355,9 @@ impl Texts {
             let used = constants(&file(path)).into_iter().map(|(name, n)| (in_header(&name), n)).collect();
             all.extend(missing(&used, &header));
         }
-        for numbers in [
-            kinds::<LaneKind>("LANE"),
-            kinds::<Turn>("TURN"),
-            kinds::<BoundaryKind>("BOUNDARY"),
-            entity_kinds(),
-        ] {
+        for numbers in
+            [kinds::<LaneKind>("LANE"), kinds::<Turn>("TURN"), kinds::<BoundaryKind>("BOUNDARY"), entity_kinds()]
+        {
             all.extend(missing(&numbers, &header));
         }
         all
@@ -395,7 +396,9 @@ fn planted_functions_are_found() {
     found(|t| swap(&mut t.header, "double voldrekka_sqrt(double x)", "double voldrekka_root(double x)"));
     found(|t| swap(&mut t.header, "const uint64_t *roads, size_t roads_len", "uint64_t *roads, size_t roads_len"));
     found(|t| swap(&mut t.header, "double x, double y, double *out", "double y, double x, double *out"));
-    found(|t| swap(&mut t.exports, "    roads: &[u64],\n    junctions: &[u64],", "    junctions: &[u64],\n    roads: &[u64],"));
+    found(|t| {
+        swap(&mut t.exports, "    roads: &[u64],\n    junctions: &[u64],", "    junctions: &[u64],\n    roads: &[u64],")
+    });
     found(|t| swap(&mut t.exports, "    station: f64,\n", "    station: u64,\n"));
     found(|t| swap(&mut t.sys, "second: *mut usize,", "second: *mut u64,"));
     found(|t| swap(&mut t.sys, "    ) -> bool;", "    ) -> u64;"));
@@ -403,7 +406,13 @@ fn planted_functions_are_found() {
 
 #[test]
 fn planted_fields_and_numbers_are_found() {
-    found(|t| swap(&mut t.header, "    uint64_t modified;\n    uint64_t deleted;", "    uint64_t deleted;\n    uint64_t modified;"));
+    found(|t| {
+        swap(
+            &mut t.header,
+            "    uint64_t modified;\n    uint64_t deleted;",
+            "    uint64_t deleted;\n    uint64_t modified;",
+        )
+    });
     found(|t| swap(&mut t.sys, "    pub second: u64,", "    pub second: u32,"));
     found(|t| swap(&mut t.header, "VOLDREKKA_LANE_TURN = 12", "VOLDREKKA_LANE_TURN = 11"));
     found(|t| swap(&mut t.header, "VOLDREKKA_MAX_IDS = 64", "VOLDREKKA_MAX_IDS = 65"));
@@ -411,7 +420,9 @@ fn planted_fields_and_numbers_are_found() {
     found(|t| swap(&mut t.header, "VOLDREKKA_BOUNDARY_CURB = 11", "VOLDREKKA_BOUNDARY_CURB = 12"));
     found(|t| swap(&mut t.header, "VOLDREKKA_CODE_ORPHAN_RULE = 5", "VOLDREKKA_CODE_ORPHAN_RULE = 6"));
     found(|t| swap(&mut t.header, "VOLDREKKA_MERGE = 1", "VOLDREKKA_MERGE = 2"));
-    found(|t| swap(&mut t.layout, "pub const RULE_PRIORITY_AT: usize = 200", "pub const RULE_PRIORITY_AT: usize = 201"));
+    found(|t| {
+        swap(&mut t.layout, "pub const RULE_PRIORITY_AT: usize = 200", "pub const RULE_PRIORITY_AT: usize = 201")
+    });
     found(|t| swap(&mut t.layout, "pub const MAX_DELETED: usize = 5", "pub const MAX_DELETED: usize = 4"));
 }
 

@@ -168,11 +168,19 @@ fn other_places_to_write() {
 fn programs_read_json() {
     let folder = Folder::new("json");
     let told = folder.told("split gate.yard 1 --station 15 --alone --dry-run --json", 0);
-    assert!(told.starts_with("{\"op\":\"split_lane\",\"number\":0,\"second\":207,\"created\":[{\"kind\":\"lane\",\"id\":207},"), "{told}");
+    assert!(
+        told.starts_with(
+            "{\"op\":\"split_lane\",\"number\":0,\"second\":207,\"created\":[{\"kind\":\"lane\",\"id\":207},"
+        ),
+        "{told}"
+    );
     assert!(told.ends_with("\"next\":208}\n"), "{told}");
     let told = folder.told("split gate.yard 1 --station 0 --json", 3);
     assert!(told.starts_with("{\"op\":\"split_lane\",\"number\":3,\"refusal\":\"position outside the lane\",\"entity\":{\"kind\":\"lane\",\"id\":1},\"line\":6,"), "{told}");
-    assert_eq!(folder.told("check gate.yard --json", 0), "{\"sound\":true,\"clause\":null,\"entity\":null,\"line\":null}\n");
+    assert_eq!(
+        folder.told("check gate.yard --json", 0),
+        "{\"sound\":true,\"clause\":null,\"entity\":null,\"line\":null}\n"
+    );
     let shown = folder.told("show crane.yard --json", 0);
     assert!(shown.contains("\"left_neighbor\":{\"lane\":3,\"direction\":\"opposite\"}"), "{shown}");
 }

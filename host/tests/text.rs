@@ -67,7 +67,8 @@ fn doubles_are_exact() {
 
 #[test]
 fn speed_limits_keep_every_bit() {
-    let patterns = [0, 1 << 63, 0x7FF0_0000_0000_0000, 0xFFF0_0000_0000_0000, 0x7FF8_0000_0000_0001, 0xFFF0_0000_0000_0ABC, 1];
+    let patterns =
+        [0, 1 << 63, 0x7FF0_0000_0000_0000, 0xFFF0_0000_0000_0000, 0x7FF8_0000_0000_0001, 0xFFF0_0000_0000_0ABC, 1];
     let mut map = Map::new();
     for (id, bits) in (1..).zip(patterns) {
         let speed_limit = Some(SpeedLimit { kmh: f64::from_bits(bits) });
@@ -153,14 +154,22 @@ fn what_is_wrong_is_told_with_its_line() {
         ("", 1, "expected `voldrekka 1`"),
         ("# a\nlane 1 left=1 right=2", 2, "expected `voldrekka 1`"),
         ("voldrekka 2", 1, "found `voldrekka 2`"),
-        ("voldrekka 1\nlain 1 left=1", 2, "expected next, lane, boundary, road, junction, stop-line, crosswalk, rule, found `lain`"),
+        (
+            "voldrekka 1\nlain 1 left=1",
+            2,
+            "expected next, lane, boundary, road, junction, stop-line, crosswalk, rule, found `lain`",
+        ),
         ("voldrekka 1\nlane", 2, "expected the id of the lane"),
         ("voldrekka 1\nlane one left=1 right=2", 2, "expected an id from 0 to 18446744073709551615, found `one`"),
         ("voldrekka 1\nlane 18446744073709551616 left=1 right=2", 2, "expected an id"),
         ("voldrekka 1\nlane -1 left=1 right=2", 2, "found `-1`"),
         ("voldrekka 1\nlane +1 left=1 right=2", 2, "found `+1`"),
         ("voldrekka 1\n\nlane 7 left=1", 3, "lane 7: expected a field right="),
-        ("voldrekka 1\nlane 7 left=1 right=2 speeed=3", 2, "lane 7: `speeed` is no field here; expected one of kind, left"),
+        (
+            "voldrekka 1\nlane 7 left=1 right=2 speeed=3",
+            2,
+            "lane 7: `speeed` is no field here; expected one of kind, left",
+        ),
         ("voldrekka 1\nlane 7 left=1 right=2 left=3", 2, "`left` is given twice"),
         ("voldrekka 1\nlane 7 left=1 right=2 fast", 2, "expected name=value, found `fast`"),
         ("voldrekka 1\nlane 7 left=1 right=2 kind=train", 2, "kind: expected one of driving, shoulder"),
@@ -170,11 +179,23 @@ fn what_is_wrong_is_told_with_its_line() {
         ("voldrekka 1\nlane 7 left=1 right=2 speed=nan:7ff0000000000000", 2, "expected a number of km/h"),
         ("voldrekka 1\nlane 7 left=1 right=2 one-way=maybe", 2, "expected yes or no"),
         ("voldrekka 1\nlane 7 left=1 right=2 attributes=65536", 2, "expected a handle from 0 to 65535"),
-        ("voldrekka 1\nlane 7 left=1 right=2 left-neighbor=3", 2, "expected none, or a lane and `:same` or `:opposite`"),
+        (
+            "voldrekka 1\nlane 7 left=1 right=2 left-neighbor=3",
+            2,
+            "expected none, or a lane and `:same` or `:opposite`",
+        ),
         ("voldrekka 1\nlane 7 left=1 right=2 successors=3,,4", 2, "expected an id"),
-        ("voldrekka 1\nlane 7 left=1 right=2 successors=1,2,3,4,5,6,7,8,9,10,11,12,13,14,15,16,17", 2, "expected at most 16 ids in a list"),
+        (
+            "voldrekka 1\nlane 7 left=1 right=2 successors=1,2,3,4,5,6,7,8,9,10,11,12,13,14,15,16,17",
+            2,
+            "expected at most 16 ids in a list",
+        ),
         ("voldrekka 1\nboundary 1 line=0,0;1", 2, "line: expected a point x,y or x,y,z, found `1`"),
-        ("voldrekka 1\nboundary 1 line=0,16777217", 2, "expected a coordinate from -16777216 to 16777216, found `16777217`"),
+        (
+            "voldrekka 1\nboundary 1 line=0,16777217",
+            2,
+            "expected a coordinate from -16777216 to 16777216, found `16777217`",
+        ),
         ("voldrekka 1\nboundary 1 line=0,nan", 2, "expected a coordinate"),
         ("voldrekka 1\nboundary 1 line=0,inf", 2, "expected a coordinate"),
         ("voldrekka 1\nboundary 1 line=0,0\nboundary 1 line=1,1", 3, "the id is taken already, on line 2"),
@@ -200,4 +221,41 @@ fn limits_are_told_with_their_line() {
     let roads: String = (0..257).map(|i| format!("road {i}\n")).collect();
     let error = Document::read(&format!("voldrekka 1\n{roads}")).unwrap_err();
     assert_eq!(error.to_string(), "line 258: road 256: expected at most 256 entities of a kind");
+}
+
+/// Texts with a few bytes changed: read or told, never anything else, and what is read is written and read again.
+#[test]
+fn damaged_texts_are_read_or_told() {
+    let mut random = Random(2026);
+    let whole = [sample("gate"), sample("crane"), ALL.to_string()];
+    let (mut readable, mut told) = (0, 0);
+    for turn in 0..6000 {
+        let mut bytes = whole[turn % whole.len()].clone().into_bytes();
+        for _ in 0..1 + random.next() % 3 {
+            let at = random.next() as usize % bytes.len();
+            let other = bytes[random.next() as usize % bytes.len()];
+            match random.next() % 3 {
+                0 => bytes[at] = other,
+                1 => bytes.insert(at, other),
+                _ => drop(bytes.remove(at)),
+            }
+        }
+        match Document::read(&String::from_utf8_lossy(&bytes)) {
+            Ok(document) => {
+                readable += 1;
+                let written = document.write();
+                assert_eq!(read(&written).write(), written);
+            }
+            Err(error) => {
+                told += 1;
+                assert!(
+                    error.line >= 1 && error.message.contains("expected")
+                        || error.message.contains("twice")
+                        || error.message.contains("taken"),
+                    "{error}"
+                );
+            }
+        }
+    }
+    assert!(readable > 500 && told > 500, "{readable} read, {told} told");
 }

@@ -76,11 +76,8 @@ impl Panel {
     pub fn draw(&self, svg: &mut Svg, map: &Map, statuses: &Statuses, x: f64, y: f64) {
         let (w, h) = (self.width(), self.height());
         svg.push(&format!("<svg x='{x:.1}' y='{y:.1}' width='{w:.1}' height='{h:.1}'>"));
-        let lanes: Vec<(Lane, Polyline3)> = map
-            .lanes()
-            .filter_map(|l| map.centerline(&l).map(|c| (l, c)))
-            .filter(|(_, c)| self.shows(c))
-            .collect();
+        let lanes: Vec<(Lane, Polyline3)> =
+            map.lanes().filter_map(|l| map.centerline(&l).map(|c| (l, c))).filter(|(_, c)| self.shows(c)).collect();
         for (lane, _) in &lanes {
             self.surface(svg, map, lane, statuses.get(&lane.id.into()));
         }
@@ -160,7 +157,11 @@ impl Panel {
     fn head(&self, svg: &mut Svg, p: Point3, angle: f64, colour: &str, size: f64) {
         let corner = |along: f64, left: f64| {
             let (sin, cos) = angle.sin_cos();
-            self.place(Point3::new(p.x + size * (along * cos - left * sin), p.y + size * (along * sin + left * cos), 0.0))
+            self.place(Point3::new(
+                p.x + size * (along * cos - left * sin),
+                p.y + size * (along * sin + left * cos),
+                0.0,
+            ))
         };
         let corners = [corner(1.6, 0.0), corner(0.0, 0.9), corner(0.4, 0.0), corner(0.0, -0.9)];
         svg.push(&format!("<polygon points='{}' fill='{colour}'/>", points(&corners)));

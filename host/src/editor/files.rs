@@ -15,7 +15,8 @@ pub fn read(file: &Path) -> Result<Document, Failure> {
 /// Replaces a file by text. Where that fails, the file is as it was.
 pub fn write(file: &Path, text: &str) -> Result<(), Failure> {
     let beside = beside(file);
-    let written = fs::write(&beside, text).and_then(|()| keep_mode(file, &beside)).and_then(|()| fs::rename(&beside, file));
+    let written =
+        fs::write(&beside, text).and_then(|()| keep_mode(file, &beside)).and_then(|()| fs::rename(&beside, file));
     written.map_err(|e| {
         let _ = fs::remove_file(&beside);
         failed(file, "cannot be written", e)

@@ -254,9 +254,8 @@ fn lane_json(map: &Map, lane: &Lane) -> Json {
     let reference = |r: BoundaryRef| {
         Json::Object(vec![("boundary", Json::number(r.boundary.0)), ("reversed", Json::Bool(r.reversed))])
     };
-    let slot = |n: Neighbor| {
-        Json::Object(vec![("lane", Json::number(n.lane.0)), ("direction", Json::text(n.direction))])
-    };
+    let slot =
+        |n: Neighbor| Json::Object(vec![("lane", Json::number(n.lane.0)), ("direction", Json::text(n.direction))]);
     Json::Object(vec![
         ("id", Json::number(lane.id.0)),
         ("kind", Json::text(lane.kind)),
@@ -325,24 +324,19 @@ fn crosswalk_json(crosswalk: Crosswalk) -> Json {
 fn rule_fields(rule: &Rule) -> Vec<(&'static str, Json)> {
     let stops = |list: &[StopLineId]| Json::list(list, |s| Json::number(s.0));
     match rule {
-        Rule::TrafficLight { signals, stop_line } => vec![
-            ("signals", Json::number((*signals).into())),
-            ("stop_lines", stops(stop_line.as_slice())),
-        ],
-        Rule::TrafficSign { sign, stop_line } => vec![
-            ("sign", Json::number((*sign).into())),
-            ("stop_lines", stops(stop_line.as_slice())),
-        ],
+        Rule::TrafficLight { signals, stop_line } => {
+            vec![("signals", Json::number((*signals).into())), ("stop_lines", stops(stop_line.as_slice()))]
+        }
+        Rule::TrafficSign { sign, stop_line } => {
+            vec![("sign", Json::number((*sign).into())), ("stop_lines", stops(stop_line.as_slice()))]
+        }
         Rule::StopLine { stop_line } => vec![("stop_lines", stops(&[*stop_line]))],
-        Rule::RightOfWay { priority, yielding, stop_lines } => vec![
-            ("priority", lane_ids(priority)),
-            ("yielding", lane_ids(yielding)),
-            ("stop_lines", stops(stop_lines)),
-        ],
-        Rule::Crosswalk { crosswalk, stop_lines } => vec![
-            ("crosswalk", Json::number(crosswalk.0)),
-            ("stop_lines", stops(stop_lines)),
-        ],
+        Rule::RightOfWay { priority, yielding, stop_lines } => {
+            vec![("priority", lane_ids(priority)), ("yielding", lane_ids(yielding)), ("stop_lines", stops(stop_lines))]
+        }
+        Rule::Crosswalk { crosswalk, stop_lines } => {
+            vec![("crosswalk", Json::number(crosswalk.0)), ("stop_lines", stops(stop_lines))]
+        }
         Rule::Other { kind } => vec![("other", Json::number((*kind).into()))],
     }
 }

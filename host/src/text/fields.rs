@@ -1,5 +1,7 @@
 //! The fields of a line: `name=value`, each at most once.
 
+use std::str::FromStr;
+
 use crate::geometry::{Point3, Polyline3};
 use crate::ids::*;
 use crate::layout::MAX_COORDINATE;
@@ -66,14 +68,18 @@ impl<'a> Fields<'a> {
 
 // ---- values
 
+/// A number without a sign.
+fn digits<N: FromStr>(value: &str) -> Option<N> {
+    let plain = !value.is_empty() && value.bytes().all(|b| b.is_ascii_digit());
+    plain.then(|| value.parse().ok()).flatten()
+}
+
 pub fn id(value: &str) -> Told<u64> {
-    let digits = !value.is_empty() && value.bytes().all(|b| b.is_ascii_digit());
-    let number = digits.then(|| value.parse().ok()).flatten();
-    number.ok_or_else(|| format!("expected an id from 0 to {}, found `{value}`", u64::MAX))
+    digits(value).ok_or_else(|| format!("expected an id from 0 to {}, found `{value}`", u64::MAX))
 }
 
 fn handle(value: &str) -> Told<Handle> {
-    value.parse().map_err(|_| format!("expected a handle from 0 to {}, found `{value}`", Handle::MAX))
+    digits(value).ok_or_else(|| format!("expected a handle from 0 to {}, found `{value}`", Handle::MAX))
 }
 
 /// Ids with commas between them; no id at all is an empty list.

@@ -143,10 +143,9 @@ fn rule_of(kind: &str, fields: &Fields) -> Told<Rule> {
             signals: fields.handle("signals")?,
             stop_line: fields.optional("stop-line", stop_line)?,
         },
-        "traffic-sign" => Rule::TrafficSign {
-            sign: fields.handle("sign")?,
-            stop_line: fields.optional("stop-line", stop_line)?,
-        },
+        "traffic-sign" => {
+            Rule::TrafficSign { sign: fields.handle("sign")?, stop_line: fields.optional("stop-line", stop_line)? }
+        }
         "stop-line" => Rule::StopLine { stop_line: fields.required("stop-line", stop_line)? },
         "right-of-way" => Rule::RightOfWay {
             priority: fields.ids("priority", LaneId)?,
@@ -205,17 +204,21 @@ impl Reader {
             return self.head(content, notes);
         }
         let mut words = content.split_whitespace();
-        let first = words.next().unwrap_or("");
-        if first == NEXT {
-            return self.next_id(words, notes);
+        match words.next() {
+            Some(NEXT) => self.next_id(words, notes),
+            Some(word) => self.entity_line(number, word, words, notes),
+            None => Ok(()),
         }
-        let Some((_, kind)) = ENTITIES.iter().find(|(word, _)| *word == first) else {
-            let known: Vec<&str> = ENTITIES.iter().map(|(word, _)| *word).collect();
-            return Err(format!("expected {NEXT}, {}, found `{first}`", known.join(", ")));
+    }
+
+    fn entity_line(&mut self, number: usize, word: &str, mut words: Words, notes: Notes) -> Told<()> {
+        let Some((_, kind)) = ENTITIES.iter().find(|(known, _)| *known == word) else {
+            let known: Vec<&str> = ENTITIES.iter().map(|(known, _)| *known).collect();
+            return Err(format!("expected {NEXT}, {}, found `{word}`", known.join(", ")));
         };
-        let id = words.next().ok_or_else(|| format!("expected the id of the {first}"));
-        let entity = EntityRef::new(*kind, id.and_then(|i| super::fields::id(i))?);
-        self.entity(entity, words).map_err(|e| format!("{first} {}: {e}", entity.raw()))?;
+        let given = words.next().ok_or_else(|| format!("expected the id of the {word}"))?;
+        let entity = EntityRef::new(*kind, id(given)?);
+        self.entity(entity, words).map_err(|e| format!("{word} {}: {e}", entity.raw()))?;
         self.document.notes.insert(entity, notes);
         self.document.lines.insert(entity, number);
         Ok(())
@@ -318,7 +321,8 @@ pub(super) fn completed(map: &Map) -> BTreeMap<u64, Lane> {
         .lanes()
         .map(|lane| {
             let slots_given = [lane.left_neighbor.is_some(), lane.right_neighbor.is_some()];
-            let draft = Draft { lane: Lane { predecessors: Vec::new(), ..lane }, predecessors_given: false, slots_given };
+            let draft =
+                Draft { lane: Lane { predecessors: Vec::new(), ..lane }, predecessors_given: false, slots_given };
             (draft.lane.id.0, draft)
         })
         .collect();
