@@ -200,16 +200,7 @@ impl Map {
 
     /// Whether an entity is in the map.
     pub fn contains(&self, entity: EntityRef) -> bool {
-        let tables = [
-            Table::Lanes,
-            Table::Boundaries,
-            Table::Roads,
-            Table::Junctions,
-            Table::Rules,
-            Table::StopLines,
-            Table::Crosswalks,
-        ];
-        let table = tables.into_iter().find(|t| t.kind() == entity.kind());
+        let table = Table::ALL.into_iter().find(|t| t.kind() == entity.kind());
         table.is_some_and(|t| self.lent.tables.find(t, entity.raw()).is_ok())
     }
 

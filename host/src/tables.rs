@@ -19,6 +19,17 @@ pub enum Table {
 }
 
 impl Table {
+    /// Every table, in the order in which they are lent.
+    pub const ALL: [Table; TABLES] = [
+        Table::Lanes,
+        Table::Boundaries,
+        Table::Roads,
+        Table::Junctions,
+        Table::Rules,
+        Table::StopLines,
+        Table::Crosswalks,
+    ];
+
     /// Words of a row, rows at most, and the kind of its entities.
     const fn shape(self) -> (usize, usize, EntityKind) {
         match self {
