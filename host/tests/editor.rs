@@ -164,6 +164,26 @@ fn other_places_to_write() {
     assert!(folder.text("edit.svg").contains(">207</text>"));
 }
 
+/// A text that cannot be written leaves the others alone.
+#[test]
+fn all_files_or_none() {
+    let folder = Folder::new("all");
+    let before = folder.text("gate.yard");
+    folder.told("split gate.yard 1 --fraction 0.5 --draw nowhere/edit.svg", 13);
+    folder.told("split gate.yard 1 --fraction 0.5 --output nowhere/x.yard --draw edit.svg", 13);
+    assert_eq!(folder.text("gate.yard"), before);
+    assert_eq!(folder.files(), ["crane.yard", "gate.yard", "terminal.yard"]);
+}
+
+#[test]
+fn links_stay_links() {
+    let folder = Folder::new("links");
+    std::os::unix::fs::symlink("gate.yard", folder.0.join("link.yard")).unwrap();
+    folder.told("remove link.yard 2", 0);
+    assert!(fs::symlink_metadata(folder.0.join("link.yard")).unwrap().is_symlink());
+    assert!(!folder.text("gate.yard").contains("lane 2 "));
+}
+
 #[test]
 fn programs_read_json() {
     let folder = Folder::new("json");
@@ -181,6 +201,8 @@ fn programs_read_json() {
         folder.told("check gate.yard --json", 0),
         "{\"sound\":true,\"clause\":null,\"entity\":null,\"line\":null}\n"
     );
+    let told = folder.told("show nowhere.yard --json", 13);
+    assert!(told.starts_with("{\"status\":13,\"message\":\"nowhere.yard cannot be read"), "{told}");
     let shown = folder.told("show crane.yard --json", 0);
     assert!(shown.contains("\"left_neighbor\":{\"lane\":3,\"direction\":\"opposite\"}"), "{shown}");
 }

@@ -36,8 +36,19 @@ pub enum Job {
     Help,
     Show { file: PathBuf },
     Check { file: PathBuf },
-    Edit { file: PathBuf, command: Command, output: Option<PathBuf>, dry_run: bool, picture: Option<PathBuf> },
+    Edit(Edit),
     Draw { file: PathBuf, edit: Option<Command>, output: Option<PathBuf> },
+}
+
+/// An edit, and where to write.
+pub struct Edit {
+    pub file: PathBuf,
+    pub command: Command,
+    /// Where the map goes, if not to its own file.
+    pub output: Option<PathBuf>,
+    pub dry_run: bool,
+    /// Where a picture of the edit goes.
+    pub picture: Option<PathBuf>,
 }
 
 type Told<T> = Result<T, String>;
@@ -107,13 +118,13 @@ fn job(words: &Words) -> Told<Job> {
         ["draw", file, edit, ref rest @ ..] => {
             Ok(Job::Draw { file: file.into(), edit: Some(command(edit, rest, words)?), output })
         }
-        [edit, file, ref rest @ ..] => Ok(Job::Edit {
+        [edit, file, ref rest @ ..] => Ok(Job::Edit(Edit {
             file: file.into(),
             command: command(edit, rest, words)?,
             output,
             dry_run: words.flag("--dry-run"),
             picture: words.path("--draw"),
-        }),
+        })),
         _ => Err("expected a command and a file".into()),
     }
 }

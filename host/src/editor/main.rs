@@ -8,7 +8,7 @@ mod report;
 use std::path::Path;
 use std::process::ExitCode;
 
-use arguments::{Job, Request, USAGE};
+use arguments::{Edit, Job, Request, USAGE};
 use report::Report;
 use voldrekka::text::Document;
 use voldrekka::{Command, Done, Map, Refused, draw, sys};
@@ -51,8 +51,9 @@ fn main() -> ExitCode {
     match arguments::read(&words).and_then(run) {
         Ok(()) => ExitCode::SUCCESS,
         Err(failure) => {
+            let json = words.iter().any(|word| word == "--json");
             if let Some(message) = failure.message() {
-                eprintln!("voldrekka: {message}");
+                Report { json }.failed(failure.status(), message);
             }
             ExitCode::from(failure.status())
         }
@@ -68,22 +69,31 @@ fn run(request: Request) -> Result<(), Failure> {
         Job::Help => print!("{USAGE}"),
         Job::Show { file } => report.show(&file, &files::read(&file)?),
         Job::Check { file } => return check(&report, &file),
-        Job::Edit { file, command, output, dry_run, picture } => {
-            let document = files::read(&file)?;
-            let (after, done) = edited(&report, &document, &command)?;
-            let target = output.unwrap_or_else(|| file.clone());
-            if let Some(picture) = picture {
-                let title = format!("{}: {}", file.display(), report::sentence(&command));
-                files::write(&picture, &draw::edit(&document.map, &after.map, &done.changes, &title))?;
-            }
-            if !dry_run {
-                files::write(&target, &after.write())?;
-            }
-            report.done(&command, &done, after.map.next_id());
-        }
+        Job::Edit(edit) => return change(&report, &edit),
         Job::Draw { file, edit, output } => return picture(&report, &file, edit, output.as_deref()),
     }
     Ok(())
+}
+
+/// Makes an edit and writes what it is to be written to: the map, and the picture of the edit.
+fn change(report: &Report, edit: &Edit) -> Result<(), Failure> {
+    let document = files::read(&edit.file)?;
+    let (after, done) = edited(report, &document, &edit.command)?;
+    let text = after.write();
+    let svg = edit.picture.as_ref().map(|_| drawn(&edit.file, &edit.command, &document, &after, &done));
+    let mut texts: Vec<(&Path, &str)> = Vec::new();
+    if !edit.dry_run {
+        texts.push((edit.output.as_deref().unwrap_or(&edit.file), &text));
+    }
+    texts.extend(edit.picture.as_deref().zip(svg.as_deref()));
+    files::write(&texts)?;
+    report.done(&edit.command, &done, after.map.next_id());
+    Ok(())
+}
+
+fn drawn(file: &Path, command: &Command, before: &Document, after: &Document, done: &Done) -> String {
+    let title = format!("{}: {}", file.display(), report::sentence(command));
+    draw::edit(&before.map, &after.map, &done.changes, &title)
 }
 
 fn check(report: &Report, file: &Path) -> Result<(), Failure> {
@@ -113,16 +123,15 @@ fn told(report: &Report, document: &Document, command: &Command, refused: &Refus
 /// Draws a map, or an edit of it, to `output` or to the file's name with the ending svg.
 fn picture(report: &Report, file: &Path, edit: Option<Command>, output: Option<&Path>) -> Result<(), Failure> {
     let document = files::read(file)?;
-    let name = file.display();
     let svg = match edit {
-        None => draw::map(&document.map, &format!("{name}: {}", summary(&document.map))),
+        None => draw::map(&document.map, &format!("{}: {}", file.display(), summary(&document.map))),
         Some(command) => {
             let (after, done) = edited(report, &document, &command)?;
-            draw::edit(&document.map, &after.map, &done.changes, &format!("{name}: {}", report::sentence(&command)))
+            drawn(file, &command, &document, &after, &done)
         }
     };
     let output = output.map_or_else(|| file.with_extension("svg"), Path::to_path_buf);
-    files::write(&output, &svg)?;
+    files::write(&[(&output, &svg)])?;
     report.drawn(&output);
     Ok(())
 }

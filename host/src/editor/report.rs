@@ -67,6 +67,17 @@ impl Report {
         );
     }
 
+    /// What is neither done nor refused; people read it on standard error.
+    pub fn failed(&self, status: u8, message: &str) {
+        match self.json {
+            true => {
+                let fields = vec![("status", Json::number(status.into())), ("message", Json::text(message))];
+                println!("{}", Json::Object(fields));
+            }
+            false => eprintln!("voldrekka: {message}"),
+        }
+    }
+
     pub fn drawn(&self, file: &Path) {
         let name = file.display();
         self.print(|| Json::Object(vec![("drawn", Json::text(&name))]), || format!("drawn: {name}\n"));
