@@ -1,4 +1,5 @@
-//! Links libvoldrekka.a from the folder that VOLDREKKA_LIB names, else from target/staticlib, where `rt staticlib voldrekka` writes it.
+//! Links libvoldrekka.a from the folder that VOLDREKKA_LIB names, else from target/staticlib, where `rt staticlib voldrekka` writes it. A file UNPROVED
+//! beside it says that it is the library of host/unproved.
 
 use std::env::var;
 use std::fs::canonicalize;
@@ -20,6 +21,9 @@ fn main() {
     println!("cargo:rerun-if-changed={}", library.display());
     if !library.exists() {
         println!("cargo:warning={} is not there: `rt staticlib voldrekka` makes it", library.display());
+    }
+    if folder.join("UNPROVED").exists() {
+        println!("cargo:rustc-env=VOLDREKKA_UNPROVED=1");
     }
     println!("cargo:rustc-link-search=native={}", folder.display());
     println!("cargo:rustc-link-lib=static=voldrekka");

@@ -29,7 +29,10 @@ impl Folder {
         let output = self.run(words);
         let text = String::from_utf8_lossy(&[output.stdout, output.stderr].concat()).into_owned();
         assert_eq!(output.status.code(), Some(status), "{words}: {text}");
-        text
+        match voldrekka::sys::PROVED {
+            true => text,
+            false => text.replace("voldrekka: this editor is built with a library that nothing has proved\n", ""),
+        }
     }
 
     fn text(&self, file: &str) -> String {

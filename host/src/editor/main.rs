@@ -60,9 +60,15 @@ fn main() -> ExitCode {
     }
 }
 
+/// What an editor says first that is built with the library of host/unproved.
+const UNPROVED: &str = "voldrekka: this editor is built with a library that nothing has proved";
+
 fn run(request: Request) -> Result<(), Failure> {
     if !sys::float_state() {
         return Err(Failure::Machine("the floating-point state is not round to nearest with subnormals kept".into()));
+    }
+    if !sys::PROVED {
+        eprintln!("{UNPROVED}");
     }
     let report = Report { json: request.json };
     match request.job {
