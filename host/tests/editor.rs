@@ -147,7 +147,14 @@ fn the_command_line_is_told() {
         ("neighbor gate.yard 1 up 2:same", "expected left or right, found up"),
         ("neighbor gate.yard 1 left 2:beside", "expected same or opposite, found beside"),
         ("neighbor gate.yard 1 left 2", "expected none, ID:same or ID:opposite, found 2"),
-        ("remove gate.yard 1 --force", "found --force"),
+        (
+            "remove gate.yard 1 --force",
+            "--force is no option here; expected one of --json, --output, --dry-run, --draw",
+        ),
+        ("merge gate.yard 1 2 --alone", "--alone is no option here"),
+        ("show gate.yard --dry-run", "--dry-run is no option here; expected one of --json"),
+        ("draw gate.yard remove 1 --fraction 0.5", "--fraction is no option here"),
+        ("split gate.yard 1 --station 3 --station 4", "--station is given twice"),
     ] {
         let text = folder.told(words, 12);
         assert!(text.contains(told), "{words}: {text}");

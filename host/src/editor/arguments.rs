@@ -53,15 +53,13 @@ pub struct Edit {
 
 type Told<T> = Result<T, String>;
 
-/// The words of a command line: those in order, and those that begin with `--`.
+/// The words of a command line: those in order, and the options, some with a value.
 #[derive(Default)]
 struct Words {
     plain: Vec<String>,
-    flags: Vec<String>,
-    valued: Vec<(String, String)>,
+    options: Vec<(String, Option<String>)>,
 }
 
-const FLAGS: [&str; 4] = ["--alone", "--dry-run", "--json", "--help"];
 const VALUED: [&str; 4] = ["--fraction", "--station", "--output", "--draw"];
 
 impl Words {
@@ -69,13 +67,11 @@ impl Words {
         let mut sorted = Words::default();
         let mut rest = words.iter();
         while let Some(word) = rest.next() {
-            if FLAGS.contains(&word.as_str()) {
-                sorted.flags.push(word.clone());
-            } else if VALUED.contains(&word.as_str()) {
+            if VALUED.contains(&word.as_str()) {
                 let value = rest.next().ok_or_else(|| format!("expected a value behind {word}"))?;
-                sorted.valued.push((word.clone(), value.clone()));
+                sorted.options.push((word.clone(), Some(value.clone())));
             } else if word.starts_with("--") {
-                return Err(format!("expected one of {} {}, found {word}", FLAGS.join(" "), VALUED.join(" ")));
+                sorted.options.push((word.clone(), None));
             } else {
                 sorted.plain.push(word.clone());
             }
@@ -83,17 +79,42 @@ impl Words {
         Ok(sorted)
     }
 
+    /// No option but those known, and none twice.
+    fn check(&self, known: &[&str]) -> Told<()> {
+        for (i, (option, _)) in self.options.iter().enumerate() {
+            if !known.contains(&option.as_str()) {
+                return Err(format!("{option} is no option here; expected one of {}", known.join(", ")));
+            }
+            if self.options[..i].iter().any(|(earlier, _)| earlier == option) {
+                return Err(format!("{option} is given twice"));
+            }
+        }
+        Ok(())
+    }
+
     fn flag(&self, name: &str) -> bool {
-        self.flags.iter().any(|f| f == name)
+        self.options.iter().any(|(option, _)| option == name)
     }
 
     fn value(&self, name: &str) -> Option<&str> {
-        self.valued.iter().find(|(n, _)| n == name).map(|(_, value)| value.as_str())
+        self.options.iter().find(|(option, _)| option == name)?.1.as_deref()
     }
 
     fn path(&self, name: &str) -> Option<PathBuf> {
         self.value(name).map(PathBuf::from)
     }
+}
+
+/// The options that a command line may have.
+fn options(plain: &[&str]) -> Vec<&'static str> {
+    let (own, edit): (&[&str], _) = match plain {
+        [] | ["show" | "check", ..] => (&[], None),
+        ["draw", _, edit, ..] => (&["--output"], Some(*edit)),
+        ["draw", ..] => (&["--output"], None),
+        [edit, ..] => (&["--output", "--dry-run", "--draw"], Some(*edit)),
+    };
+    let split: &[&str] = if edit == Some("split") { &["--fraction", "--station", "--alone"] } else { &[] };
+    [&["--json"], own, split].concat()
 }
 
 pub fn read(words: &[String]) -> Result<Request, Failure> {
@@ -109,6 +130,7 @@ fn job(words: &Words) -> Told<Job> {
     if words.flag("--help") || plain.first() == Some(&"help") {
         return Ok(Job::Help);
     }
+    words.check(&options(&plain))?;
     let output = words.path("--output");
     match plain[..] {
         ["show", file] => Ok(Job::Show { file: file.into() }),
