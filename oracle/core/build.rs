@@ -46,6 +46,103 @@ impl Polyline3 {
 }
 ";
 
+/// With the feature `planted`: how many slips there are, and the comparisons that they turn, of a
+/// text in its place the right comparison into the wrong one. A split tests its own lane's position
+/// twice, so the first two slips turn both tests.
+const SLIPS: usize = 11;
+const TURNED: [(&str, &str, &str, &str, &str); 11] = [
+    (
+        "0",
+        "edit/split.rs",
+        "!(station > MIN_PIECE_LENGTH",
+        "station > MIN_PIECE_LENGTH",
+        "station >= MIN_PIECE_LENGTH",
+    ),
+    (
+        "1",
+        "edit/split.rs",
+        "&& station < len - MIN_PIECE_LENGTH",
+        "station < len - MIN_PIECE_LENGTH",
+        "station <= len - MIN_PIECE_LENGTH",
+    ),
+    (
+        "0, 2",
+        "edit/split.rs",
+        "!(s > MIN_PIECE_LENGTH",
+        "s > MIN_PIECE_LENGTH",
+        "s >= MIN_PIECE_LENGTH",
+    ),
+    (
+        "1, 3",
+        "edit/split.rs",
+        "&& s < c.length() - MIN_PIECE_LENGTH",
+        "s < c.length() - MIN_PIECE_LENGTH",
+        "s <= c.length() - MIN_PIECE_LENGTH",
+    ),
+    (
+        "4",
+        "edit/split.rs",
+        "!(n.station > 1e-6",
+        "n.station > 1e-6",
+        "n.station >= 1e-6",
+    ),
+    (
+        "5",
+        "edit/split.rs",
+        "&& n.station < geom.length() - 1e-6",
+        "n.station < geom.length() - 1e-6",
+        "n.station <= geom.length() - 1e-6",
+    ),
+    (
+        "6",
+        "edit/mod.rs",
+        "&& gap > GAP_TOLERANCE",
+        "gap > GAP_TOLERANCE",
+        "gap >= GAP_TOLERANCE",
+    ),
+    (
+        "7",
+        "geometry/mod.rs",
+        "if len2 < EPSILON * EPSILON {",
+        "len2 < EPSILON * EPSILON",
+        "len2 <= EPSILON * EPSILON",
+    ),
+    (
+        "8",
+        "geometry/polyline.rs",
+        "d < bst.distance - EPSILON",
+        "d < bst.distance - EPSILON",
+        "d <= bst.distance - EPSILON",
+    ),
+    (
+        "9",
+        "geometry/polyline.rs",
+        "&& *s < to - EPSILON",
+        "*s < to - EPSILON",
+        "*s <= to - EPSILON",
+    ),
+    (
+        "10",
+        "geometry/polyline.rs",
+        "if a.distance(b) < 1e-6 =>",
+        "a.distance(b) < 1e-6",
+        "a.distance(b) <= 1e-6",
+    ),
+];
+
+/// The text with every comparison of this file that can be turned.
+fn with_slips(file: &str, mut text: String) -> String {
+    for (slips, at, place, right, wrong) in TURNED {
+        if at == file {
+            let found = text.matches(place).count();
+            assert_eq!(found, 1, "{file}: {place} is there {found} times");
+            let call = format!("crate::planted(&[{slips}], {right}, {wrong})");
+            text = text.replacen(place, &place.replacen(right, &call, 1), 1);
+        }
+    }
+    text
+}
+
 fn read(path: &Path) -> String {
     println!("cargo:rerun-if-changed={}", path.display());
     fs::read_to_string(path).unwrap_or_else(|e| {
@@ -99,7 +196,13 @@ fn main() {
             undone.as_bytes() == text.as_bytes(),
             "{file} differs from docs/src"
         );
+        if env::var("CARGO_FEATURE_PLANTED").is_ok() {
+            write(&out.join(file), &with_slips(file, copy));
+        }
     }
+    let slips =
+        format!("/// How many comparisons can be turned.\npub const SLIPS: usize = {SLIPS};\n");
+    write(&out.join("slips.rs"), &slips);
     for file in STAND_INS {
         write(&out.join(file), &read(&here.join("stand-ins").join(file)));
     }

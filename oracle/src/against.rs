@@ -1,35 +1,31 @@
 //! Call by call beside an editor: every answer, every lent word, the counter.
 
+use std::time::{Duration, Instant};
 
 use vectormap_core::*;
 
 use crate::cases::filled;
 use crate::ffi::{Editor, Lent, Raw};
 use crate::generate::{self, Case, Profile};
-use crate::step::{Answer, COMMANDS, Call, Room, State};
+use crate::memory::{self, LISTS, Memory, Slice};
+use crate::rng::Rng;
+use crate::step::{Answer, COMMANDS, Call, Room, State, quietly};
 use crate::tables::*;
 use crate::tally::Tally;
 
-/// What the lists hold before a call: what lies past an answer must stay so.
-pub const FILL: u64 = 0xA5A5_5A5A_A5A5_5A5A;
+pub use crate::memory::FILL;
 
+/// What a benchmark or a digest lends: whole entries, no guards.
 pub fn lend(state: &State, room: &Room) -> Lent {
-    let list = |n: usize, words: usize| vec![FILL; n * words];
     Lent {
         tables: state.tables.clone(),
         counter: state.counter,
-        lists: [
-            list(room.created, 2),
-            list(room.modified, 2),
-            list(room.deleted, 2),
-            list(room.warnings, 10),
-        ],
+        lists: memory::lists(room, [0; 4]).map(|l| l.get().to_vec()),
     }
 }
 
-/// What the answer looks like by value and in the lists.
-pub fn expected(answer: &Answer, before: &Lent) -> (Raw, [Vec<u64>; 4]) {
-    let mut lists = before.lists.clone();
+/// What the answer looks like by value and in the lists, which held these words before.
+pub fn expected(answer: &Answer, mut lists: [Vec<u64>; 4]) -> (Raw, [Vec<u64>; 4]) {
     match answer {
         Answer::Refused { number, entity } => {
             let raw = Raw {
@@ -70,188 +66,233 @@ pub fn expected(answer: &Answer, before: &Lent) -> (Raw, [Vec<u64>; 4]) {
     }
 }
 
-/// The first thing in which the editor departs from the oracle, if any. `lent` is left as the editor
-/// left it.
-fn difference(
-    editor: &mut dyn Editor,
-    before: &State,
-    call: &Call,
-    room: &Room,
-    lent: &mut Lent,
-) -> Option<String> {
-    let start = lend(before, room);
-    let mut after = before.clone();
-    let answer = after.step(call, room);
-    let (want, lists) = expected(&answer, &start);
-    lent.lists = start.lists.clone();
-    let got = editor.call(call, lent);
-    if got != want {
-        return Some(format!("answer {got:?}, expected {want:?}"));
-    }
-    if lent.counter != after.counter {
-        return Some(format!(
-            "counter {}, expected {}",
-            lent.counter, after.counter
-        ));
-    }
-    for k in 0..4 {
-        let name = ["created", "modified", "deleted", "warnings"][k];
-        for (i, (a, b)) in lent.lists[k].iter().zip(&lists[k]).enumerate() {
-            if a != b {
-                return Some(format!("{name} word {i}: {a}, expected {b}"));
-            }
-        }
-    }
-    let place = table_difference(&lent.tables, &after.tables)?;
-    // Tables that differ in words that are not used hold the same map.
-    let own = State::new(lent.tables.clone(), lent.counter);
-    let agree = match (&own.map, &after.map) {
-        (Some(m), Some(n)) => records(m) == records(n),
-        _ => false,
-    };
-    let remark = if agree {
-        "the records agree"
-    } else {
-        "a record differs"
-    };
-    Some(format!("{place} ({remark})"))
+/// One call to compare, with the words that it is sent as and the words that its lists have over.
+struct Sent<'a> {
+    before: &'a State,
+    call: &'a Call,
+    room: &'a Room,
+    row: Vec<u64>,
+    odd: [usize; 4],
 }
 
-/// The first word in which the tables differ.
-fn table_difference(got: &Tables, want: &Tables) -> Option<String> {
+impl<'a> Sent<'a> {
+    /// Spelled in some way that means the same, and lists of any lengths that have this room.
+    fn new(rng: &mut Rng, before: &'a State, call: &'a Call, room: &'a Room) -> Self {
+        Sent {
+            before,
+            call,
+            room,
+            row: call.spelled(rng),
+            odd: std::array::from_fn(|_| if rng.chance(50) { 0 } else { rng.below(10) }),
+        }
+    }
+
+    fn lend(&self) -> Memory {
+        Memory::new(self.before, self.room, &self.row, self.odd)
+    }
+
+    /// The first thing in which the editor departs from the oracle, if any. `memory` holds the map,
+    /// and is left as the editor left it. A panic is such a thing too.
+    fn difference(&self, editor: &mut dyn Editor, memory: &mut Memory) -> Option<String> {
+        quietly(|| self.compared(editor, memory)).unwrap_or_else(|e| {
+            let text = e.downcast_ref::<String>().cloned();
+            let text = text.or(e.downcast_ref::<&str>().map(|s| s.to_string()));
+            Some(format!("a panic: {}", text.unwrap_or_default()))
+        })
+    }
+
+    fn compared(&self, editor: &mut dyn Editor, memory: &mut Memory) -> Option<String> {
+        let mut after = self.before.clone();
+        let answer = after.step(self.call, self.room);
+        memory.lists = memory::lists(self.room, self.odd);
+        memory.row = Slice::new(&self.row);
+        let (want, lists) = expected(&answer, memory.lists.clone().map(|l| l.get().to_vec()));
+        let got = editor.on(memory);
+        if got != want {
+            return Some(format!("answer {got:?}, expected {want:?}"));
+        }
+        if memory.counter != after.counter {
+            let (got, want) = (memory.counter, after.counter);
+            return Some(format!("counter {got}, expected {want}"));
+        }
+        for k in 0..4 {
+            if let Some(i) = memory.lists[k].difference(&lists[k]) {
+                let (got, want) = (memory.lists[k].get()[i], lists[k][i]);
+                return Some(format!("{} word {i}: {got}, expected {want}", LISTS[k]));
+            }
+        }
+        if memory.row.difference(&self.row).is_some() {
+            return Some("the command's row was written".into());
+        }
+        let place = memory
+            .trespass()
+            .or(table_difference(memory, &after.tables))?;
+        // Tables that differ in words that are not used hold the same map.
+        let own = State::new(memory.tables(), memory.counter);
+        let agree = match (&own.map, &after.map) {
+            (Some(m), Some(n)) => records(m) == records(n),
+            _ => false,
+        };
+        let remark = if agree {
+            "the records agree"
+        } else {
+            "a record differs"
+        };
+        Some(format!("{place} ({remark})"))
+    }
+}
+
+/// The first word in which the tables differ. Every word is compared by its bits: the coordinates of
+/// a sound map's lines are finite, and what no line covers stays as it came, a NaN's payload too.
+fn table_difference(got: &Memory, want: &Tables) -> Option<String> {
     for k in 0..7 {
-        let pairs = got.words[k].iter().zip(&want.words[k]);
-        if let Some((i, (a, b))) = pairs.enumerate().find(|(_, (a, b))| a != b) {
+        if let Some(i) = got.words[k].difference(&want.words[k]) {
             let place = match i {
                 0 => "count".into(),
                 _ => format!("row {} word {}", (i - 1) / ROW[k], (i - 1) % ROW[k]),
             };
+            let (a, b) = (got.words[k].get()[i], want.words[k][i]);
             return Some(format!("{} {place}: {a}, expected {b}", NAMES[k]));
         }
     }
-    for (i, (a, b)) in got.xyz.iter().zip(&want.xyz).enumerate() {
-        if a.to_bits() != b.to_bits() && !(a.is_nan() && b.is_nan()) {
-            return Some(format!("coordinate {i}: {a:?}, expected {b:?}"));
-        }
-    }
-    None
+    let i = got.xyz.difference(&want.xyz)?;
+    let (a, b) = (got.xyz.get()[i], want.xyz[i]);
+    Some(format!(
+        "coordinate {i}: {a:?} ({:x}), expected {b:?} ({:x})",
+        a.to_bits(),
+        b.to_bits()
+    ))
 }
 
 /// Does the editor still depart on this one call?
-fn departs(editor: &mut dyn Editor, state: &State, call: &Call, room: &Room) -> Option<String> {
-    let mut lent = lend(state, room);
-    difference(editor, state, call, room, &mut lent)
+fn departs(editor: &mut dyn Editor, sent: &Sent) -> Option<String> {
+    sent.difference(editor, &mut sent.lend())
 }
 
-/// Smaller maps, each one step from this one.
-fn smaller(m: &Map) -> Vec<Map> {
-    let mut all = Vec::new();
-    let mut attempt = |change: &dyn Fn(&mut Map) -> bool| {
-        let mut copy = m.clone();
-        if change(&mut copy) {
-            all.push(copy);
+/// A way to make a map smaller: whether it did.
+type Change = Box<dyn Fn(&mut Map) -> bool>;
+
+/// Ways to make this map smaller: whole runs of entities at first, then one thing at a time.
+fn smaller(m: &Map) -> Vec<Change> {
+    let mut all: Vec<Change> = Vec::new();
+    let mut entities = m.entity_refs();
+    entities.reverse();
+    let mut run = entities.len() / 2;
+    while run > 0 {
+        for part in entities.chunks(run).map(<[_]>::to_vec) {
+            all.push(Box::new(move |m| {
+                part.iter().filter(|e| m.remove_entity(**e).is_ok()).count() > 0
+            }));
         }
-    };
-    for e in m.entity_refs().into_iter().rev() {
-        attempt(&|m| m.remove_entity(e).is_ok());
+        run /= 2;
     }
     for l in m.lanes() {
         let id = l.id;
-        for s in m.successors(id) {
-            attempt(&|m| m.disconnect(id, *s).is_ok());
+        for s in m.successors(id).to_vec() {
+            all.push(Box::new(move |m| m.disconnect(id, s).is_ok()));
         }
         for side in [Side::Left, Side::Right] {
             if m.neighbor(id, side).is_some() {
-                attempt(&|m| m.set_neighbor(id, side, None).is_ok());
+                all.push(Box::new(move |m| m.set_neighbor(id, side, None).is_ok()));
             }
             if l.boundary(side).reversed {
-                attempt(&|m| {
-                    m.lane_mut(id).expect("present").boundary_mut(side).reversed = false;
-                    true
-                });
+                all.push(Box::new(move |m| {
+                    let side = m.lane_mut(id).expect("present").boundary_mut(side);
+                    std::mem::take(&mut side.reversed)
+                }));
             }
         }
-        if l.centerline.is_some() {
-            attempt(&|m| m.lane_mut(id).expect("present").centerline.take().is_some());
-        }
-        if l.speed_limit.is_some() {
-            attempt(&|m| {
-                m.lane_mut(id)
-                    .expect("present")
-                    .speed_limit
-                    .take()
-                    .is_some()
-            });
-        }
+        all.push(Box::new(move |m| {
+            m.lane_mut(id).expect("present").centerline.take().is_some()
+        }));
+        all.push(Box::new(move |m| {
+            m.lane_mut(id)
+                .expect("present")
+                .speed_limit
+                .take()
+                .is_some()
+        }));
     }
     for b in m.boundaries() {
+        let id = b.id;
         for i in 0..b.geometry.len() {
-            attempt(&|m| {
-                let points = &mut m.boundary_mut(b.id).expect("present").geometry.points;
-                points.remove(i);
-                true
-            });
-        }
-    }
-    for r in m.roads() {
-        for i in 0..r.lanes.len() {
-            attempt(&|m| {
-                m.road_mut(r.id).expect("present").lanes.remove(i);
-                true
-            });
-        }
-    }
-    for j in m.junctions() {
-        for i in 0..j.lanes.len() {
-            attempt(&|m| {
-                m.junction_mut(j.id).expect("present").lanes.remove(i);
-                true
-            });
-        }
-    }
-    for r in m.regulatory_elements() {
-        for i in 0..r.lanes.len() {
-            attempt(&|m| {
-                m.regulatory_element_mut(r.id)
+            all.push(Box::new(move |m| {
+                m.boundary_mut(id)
                     .expect("present")
-                    .lanes
+                    .geometry
+                    .points
                     .remove(i);
                 true
-            });
+            }));
         }
+    }
+    for (id, i) in m
+        .roads()
+        .flat_map(|r| (0..r.lanes.len()).map(move |i| (r.id, i)))
+    {
+        all.push(Box::new(move |m| {
+            m.road_mut(id).expect("present").lanes.remove(i);
+            true
+        }));
+    }
+    for (id, i) in m
+        .junctions()
+        .flat_map(|j| (0..j.lanes.len()).map(move |i| (j.id, i)))
+    {
+        all.push(Box::new(move |m| {
+            m.junction_mut(id).expect("present").lanes.remove(i);
+            true
+        }));
+    }
+    let rules = m.regulatory_elements();
+    for (id, i) in rules.flat_map(|r| (0..r.lanes.len()).map(move |i| (r.id, i))) {
+        all.push(Box::new(move |m| {
+            m.regulatory_element_mut(id)
+                .expect("present")
+                .lanes
+                .remove(i);
+            true
+        }));
     }
     all
 }
 
-/// The smallest map found on which the call still departs: entities, links, points and list entries
-/// are dropped one at a time, as long as it does.
-fn shrink(editor: &mut dyn Editor, state: &State, call: &Call, room: &Room) -> (State, String) {
-    let mut best = state.clone();
-    let mut said = departs(editor, state, call, room).expect("it departs");
-    if best.map.is_none() {
-        return (best, said);
-    }
-    let mut tries = 0;
-    'again: loop {
-        for m in smaller(best.map.as_ref().expect("sound")) {
-            tries += 1;
-            if tries > 20_000 {
+/// How long a run's differences may be made smaller, all together.
+const PATIENCE: Duration = Duration::from_secs(5);
+
+/// The smallest map found in time on which the call still departs: entities, links, points and list
+/// entries are dropped as long as it does.
+fn shrink(editor: &mut dyn Editor, sent: &Sent, until: Instant) -> (State, String) {
+    let mut best = sent.before.clone();
+    let mut said = departs(editor, sent).expect("it departs");
+    'again: while let Some(map) = &best.map {
+        for change in smaller(map) {
+            if Instant::now() > until {
                 return (best, said);
+            }
+            let mut m = map.clone();
+            if !change(&mut m) {
+                continue;
             }
             // With nothing, then with something in the words that are not used.
             for fill in [0, FILL] {
                 let next = State::new(filled(&m, 12, 100, fill), best.counter);
-                if next.map.is_none() {
-                    continue;
-                }
-                if let Some(text) = departs(editor, &next, call, room) {
+                let less = Sent {
+                    before: &next,
+                    row: sent.row.clone(),
+                    ..*sent
+                };
+                if next.map.is_some()
+                    && let Some(text) = departs(editor, &less)
+                {
                     (best, said) = (next, text);
                     continue 'again;
                 }
             }
         }
-        return (best, said);
+        break;
     }
+    (best, said)
 }
 
 /// The map in words that a reader can follow.
@@ -309,13 +350,15 @@ fn xyz(l: &Polyline3) -> Vec<[f64; 3]> {
     l.points.iter().map(|p| [p.x, p.y, p.z]).collect()
 }
 
+/// A difference: its command, the smallest input found, the call, what differs.
+type Found = (usize, State, Call, String);
+
 pub struct Outcome {
     pub tally: Tally,
-    /// Differences by command, and the smallest input of each.
-    pub found: Vec<(usize, State, Call, String)>,
+    pub found: Vec<Found>,
 }
 
-/// At most this many differences are made smaller and told.
+/// At most this many differences are told.
 const TOLD: usize = 20;
 
 pub fn compare(editor: &mut dyn Editor, cases: impl Iterator<Item = Case>) -> Outcome {
@@ -323,32 +366,44 @@ pub fn compare(editor: &mut dyn Editor, cases: impl Iterator<Item = Case>) -> Ou
         tally: Tally::default(),
         found: Vec::new(),
     };
+    let mut left = PATIENCE;
     for case in cases {
         out.tally.case(&case);
         // The editor's own slices, as its last call left them.
-        let mut lent: Option<Lent> = None;
+        let mut memory: Option<Memory> = None;
         case.play(|t| {
-            let command = t.call.command();
             out.tally.turn(&t);
-            let mut own = lent.take().unwrap_or_else(|| lend(t.before, t.room));
-            match difference(editor, t.before, t.call, t.room, &mut own) {
-                None => lent = Some(own),
-                Some(_) if out.found.len() < TOLD => {
-                    // Alone, the call works on the oracle's map before it; smaller from there.
-                    if departs(editor, t.before, t.call, t.room).is_some() {
-                        let (small, said) = shrink(editor, t.before, t.call, t.room);
-                        out.found.push((command, small, *t.call, said));
-                    } else {
-                        let said = "only after the calls before it".to_string();
-                        out.found.push((command, t.before.clone(), *t.call, said));
-                    }
-                }
-                Some(said) => out.found.push((command, State::default(), *t.call, said)),
+            let sent = Sent::new(
+                &mut Rng::new(out.tally.calls as u64),
+                t.before,
+                t.call,
+                t.room,
+            );
+            let mut own = memory.take().unwrap_or_else(|| sent.lend());
+            match sent.difference(editor, &mut own) {
+                None => memory = Some(own),
+                Some(said) => out.found.push(found(editor, &sent, said, &mut left)),
             }
             true
         });
     }
     out
+}
+
+/// A difference as it is told: alone, the call works on the oracle's map before it; smaller from there.
+fn found(editor: &mut dyn Editor, sent: &Sent, said: String, left: &mut Duration) -> Found {
+    let command = sent.call.command();
+    if left.is_zero() {
+        return (command, State::default(), *sent.call, said);
+    }
+    if departs(editor, sent).is_none() {
+        let said = format!("{said}, only after the calls before it");
+        return (command, sent.before.clone(), *sent.call, said);
+    }
+    let began = Instant::now();
+    let (small, said) = shrink(editor, sent, began + *left);
+    *left = left.saturating_sub(began.elapsed());
+    (command, small, *sent.call, said)
 }
 
 fn tell(out: &Outcome) -> bool {
@@ -383,78 +438,191 @@ pub fn run(seed: u64, count: usize) -> bool {
 
 /// The oracle as an editor, right or with one fault.
 struct Own {
-    fault: Option<&'static str>,
+    fault: Option<Fault>,
 }
 
-const FAULTS: [&str; 8] = [
-    "says 10 before trying",
-    "leaves created empty",
-    "reports only the two named lanes in set_neighbor",
-    "pairs opposite halves first with first",
-    "clears a slot that is not used",
-    "moves the counter on a refusal",
-    "writes past the warnings",
-    "loses the sign of a zero",
+#[derive(Clone, Copy, PartialEq, Debug)]
+enum Fault {
+    TenBeforeTrying,
+    CreatedEmpty,
+    OnlyNamedLanes,
+    OppositeFirstWithFirst,
+    ClearsUnusedSlot,
+    CounterMovedByRefusal,
+    WritesPastWarnings,
+    LosesSignOfZero,
+    ChangesPayload,
+    WritesBeforeLanes,
+    WritesBehindCoordinates,
+    WritesBehindCreated,
+    SideAboveOneIsLeft,
+    MarkAboveTwoIsSame,
+    NoMarkButLane,
+    ShortListIsEnough,
+    Panics,
+    CounterLostOnLargeMaps,
+    #[cfg_attr(not(feature = "planted"), allow(dead_code))]
+    /// A comparison of the Rust with the other of `>` and `>=`, by its number (core/build.rs).
+    Slip(usize),
+}
+
+use Fault::*;
+
+const FAULTS: [Fault; 18] = [
+    TenBeforeTrying,
+    CreatedEmpty,
+    OnlyNamedLanes,
+    OppositeFirstWithFirst,
+    ClearsUnusedSlot,
+    CounterMovedByRefusal,
+    WritesPastWarnings,
+    LosesSignOfZero,
+    ChangesPayload,
+    WritesBeforeLanes,
+    WritesBehindCoordinates,
+    WritesBehindCreated,
+    SideAboveOneIsLeft,
+    MarkAboveTwoIsSame,
+    NoMarkButLane,
+    ShortListIsEnough,
+    Panics,
+    CounterLostOnLargeMaps,
 ];
 
+impl Own {
+    /// The call as this editor reads the row.
+    fn reads(&self, row: &[u64]) -> Call {
+        let mut row: [u64; 5] = std::array::from_fn(|i| row.get(i).copied().unwrap_or(0));
+        let sets = row[0] == 4;
+        match self.fault {
+            Some(SideAboveOneIsLeft) if sets && row[2] > 1 => row[2] = 0,
+            Some(MarkAboveTwoIsSame) if sets && row[3] > 2 => row[3] = 1,
+            Some(NoMarkButLane) if sets && row[3] == 0 && row[4] != 0 => row[3] = 1,
+            _ => {}
+        }
+        Call::of(row)
+    }
+
+    /// What this editor takes the lists for.
+    fn room(&self, memory: &Memory) -> Room {
+        let over = (self.fault == Some(ShortListIsEnough)) as usize;
+        let n = |k: usize, words: usize| (memory.lists[k].get().len() + over) / words;
+        Room {
+            created: n(0, 2),
+            modified: n(1, 2),
+            deleted: n(2, 2),
+            warnings: n(3, 10),
+        }
+    }
+}
+
 impl Editor for Own {
-    fn call(&mut self, call: &Call, lent: &mut Lent) -> Raw {
-        let mut state = State::new(lent.tables.clone(), lent.counter);
-        let room = Room {
-            created: lent.lists[0].len() / 2,
-            modified: lent.lists[1].len() / 2,
-            deleted: lent.lists[2].len() / 2,
-            warnings: lent.lists[3].len() / 10,
-        };
-        if self.fault == Some(FAULTS[0]) {
+    fn on(&mut self, memory: &mut Memory) -> Raw {
+        let call = self.reads(memory.row.get());
+        let room = self.room(memory);
+        if self.fault == Some(TenBeforeTrying) {
             return Raw {
                 number: 10,
                 ..Raw::default()
             };
         }
-        let answer = state.step(call, &room);
-        let (mut raw, lists) = expected(&answer, lent);
-        (lent.tables, lent.counter, lent.lists) = (state.tables, state.counter, lists);
-        match self
-            .fault
-            .map(|f| FAULTS.iter().position(|g| *g == f).expect("a fault"))
-        {
-            Some(1) => raw.counts[0] = 0,
-            Some(2) if matches!(call, Call::SetNeighbor { .. }) && raw.counts[1] > 2 => {
-                raw.counts[1] = 2;
-            }
-            Some(3) if matches!(call, Call::SplitLane { .. }) && raw.number == 0 => {
-                let n = lent.tables.count(LANES);
-                for i in 0..n {
-                    let row = lent.tables.row_mut(LANES, i);
-                    for side in [lane::LEFT_MARK, lane::RIGHT_MARK] {
-                        if row[side] == 2 {
-                            row[side + 1] = row[0];
-                        }
-                    }
-                }
-            }
-            Some(4) if raw.number == 0 && lent.tables.count(LANES) > 0 => {
-                lent.tables.row_mut(LANES, 0)[lane::SUCCESSORS + 16] = 0;
-            }
-            Some(5) if raw.number > 0 => lent.counter = lent.counter.wrapping_add(1),
-            Some(6) => {
-                if let Some(last) = lent.lists[3].last_mut()
-                    && raw.counts[3] < room.warnings
-                {
-                    *last = 0;
-                }
-            }
-            Some(7) => lent.tables.xyz.iter_mut().for_each(|x| *x += 0.0),
-            _ => {}
+        let mut state = State::new(memory.tables(), memory.counter);
+        plant(self.fault);
+        let answer = state.step(&call, &room);
+        plant(None);
+        let mut lists = memory.lists.clone().map(|l| l.get().to_vec());
+        lists.iter_mut().for_each(|l| l.push(FILL));
+        let (mut raw, lists) = expected(&answer, lists);
+        memory.store(&state.tables);
+        memory.counter = state.counter;
+        for (slice, list) in memory.lists.iter_mut().zip(&lists) {
+            let n = slice.get().len();
+            slice.get_mut().copy_from_slice(&list[..n]);
+        }
+        if let Some(fault) = self.fault {
+            spoil(fault, &call, &room, memory, &mut raw);
         }
         raw
     }
 }
 
-/// The oracle beside itself finds nothing; beside itself with a fault it finds the fault.
+/// What the faulty editor leaves otherwise than it should.
+fn spoil(fault: Fault, call: &Call, room: &Room, memory: &mut Memory, raw: &mut Raw) {
+    let lanes = memory.words[LANES].get().first().map_or(0, |n| *n as usize);
+    let splits = matches!(call, Call::SplitLane { .. }) && raw.number == 0;
+    match fault {
+        CreatedEmpty => raw.counts[0] = 0,
+        OnlyNamedLanes if matches!(call, Call::SetNeighbor { .. }) => {
+            raw.counts[1] = raw.counts[1].min(2);
+        }
+        OppositeFirstWithFirst if splits => {
+            let rows = memory.words[LANES].get_mut()[1..].chunks_mut(ROW[LANES]);
+            for row in rows.take(lanes) {
+                for side in [lane::LEFT_MARK, lane::RIGHT_MARK] {
+                    if row[side] == 2 {
+                        row[side + 1] = row[0];
+                    }
+                }
+            }
+        }
+        ClearsUnusedSlot if raw.number == 0 && lanes > 0 => {
+            memory.words[LANES].get_mut()[1 + lane::SUCCESSORS + 16] = 0;
+        }
+        CounterMovedByRefusal if raw.number > 0 => {
+            memory.counter = memory.counter.wrapping_add(1);
+        }
+        WritesPastWarnings if raw.counts[3] < room.warnings => {
+            *memory.lists[3].get_mut().last_mut().expect("room") = 0;
+        }
+        LosesSignOfZero => memory.xyz.get_mut().iter_mut().for_each(|x| *x += 0.0),
+        ChangesPayload => {
+            let nans = memory.xyz.get_mut().iter_mut().filter(|x| x.is_nan());
+            nans.for_each(|x| *x = f64::NAN);
+        }
+        WritesBeforeLanes => memory.words[LANES].whole()[memory::GUARD - 1] = 0,
+        WritesBehindCoordinates => {
+            let end = memory.xyz.get().len() + memory::GUARD;
+            memory.xyz.whole()[end] = 0.0;
+        }
+        WritesBehindCreated if raw.counts[0] > 0 => {
+            let end = memory.lists[0].get().len() + memory::GUARD;
+            memory.lists[0].whole()[end] = 0;
+        }
+        Panics if splits => panic!("planted"),
+        CounterLostOnLargeMaps if memory.words[LANES].get().len() > 1000 * ROW[LANES] => {
+            memory.counter = 0;
+        }
+        _ => {}
+    }
+}
+
+/// The Rust's comparisons as this fault has them, where the build has faults to plant.
+fn plant(fault: Option<Fault>) {
+    #[cfg(feature = "planted")]
+    vectormap_core::plant(match fault {
+        Some(Slip(k)) => Some(k),
+        _ => None,
+    });
+    #[cfg(not(feature = "planted"))]
+    let _ = fault;
+}
+
+/// The faults of the Rust's comparisons, if the build has them.
+#[cfg(feature = "planted")]
+fn slips() -> Vec<Fault> {
+    (0..vectormap_core::SLIPS).map(Slip).collect()
+}
+
+#[cfg(not(feature = "planted"))]
+fn slips() -> Vec<Fault> {
+    println!("built without the comparisons of the Rust: --features planted");
+    Vec::new()
+}
+
+/// The oracle beside itself finds nothing; beside itself with a fault it finds the fault within
+/// 10,000 calls.
 pub fn try_out(seed: u64, count: usize) -> bool {
-    let cases = || (0..count).map(|i| generate::case(seed, i, Profile::Small));
+    let cases = || (0..count).map(|i| generate::case(seed, i, Profile::Full));
     let mut good = true;
     let out = compare(&mut Own { fault: None }, cases());
     println!(
@@ -463,7 +631,7 @@ pub fn try_out(seed: u64, count: usize) -> bool {
         out.tally.calls
     );
     good &= out.found.is_empty();
-    for fault in FAULTS {
+    for fault in FAULTS.into_iter().chain(slips()) {
         let mut editor = Own { fault: Some(fault) };
         let mut found = None;
         let mut made = 0;
@@ -475,11 +643,11 @@ pub fn try_out(seed: u64, count: usize) -> bool {
                 break;
             }
         }
-        good &= found.is_some();
+        good &= found.is_some() && made <= 10_000;
         match found {
-            None => println!("{fault}: not found in {made} calls"),
+            None => println!("{fault:?}: not found in {made} calls"),
             Some((command, state, call, said)) => println!(
-                "{fault}: found after {made} calls, in {}: {said}\n  {call:?}\n  {}",
+                "{fault:?}: found after {made} calls, in {}: {said}\n  {call:?}\n  {}",
                 COMMANDS[command],
                 describe(&state)
             ),

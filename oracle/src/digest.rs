@@ -34,7 +34,7 @@ fn lines(case: &Case) -> String {
     let mut text = String::new();
     case.play(|t| {
         let before = lend(t.before, t.room);
-        let (raw, lists) = expected(t.answer, &before);
+        let (raw, lists) = expected(t.answer, before.lists);
         let lent = Lent {
             tables: t.after.tables.clone(),
             counter: t.after.counter,

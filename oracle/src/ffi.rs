@@ -1,5 +1,6 @@
 //! The editor under test, as the comparison sees it, and the library's functions behind that.
 
+use crate::memory::Memory;
 use crate::step::{Call, Entity};
 use crate::tables::Tables;
 
@@ -23,7 +24,13 @@ pub struct Raw {
 }
 
 pub trait Editor {
-    fn call(&mut self, call: &Call, lent: &mut Lent) -> Raw;
+    /// A call between guards, the row as it stands there.
+    fn on(&mut self, memory: &mut Memory) -> Raw;
+
+    /// A call for a benchmark, with nothing beside it.
+    fn call(&mut self, _call: &Call, _lent: &mut Lent) -> Raw {
+        unreachable!("the library alone is timed")
+    }
 }
 
 /// The library of `rt staticlib`, if this program was built with it.
@@ -49,7 +56,7 @@ pub fn sound(t: &Tables, counter: u64) -> Option<bool> {
 mod linked {
     use voldrekka::sys;
 
-    use super::{Call, Editor, Lent, Raw, Tables};
+    use super::{Call, Editor, Lent, Memory, Raw, Tables};
 
     pub fn sound(t: &Tables, counter: u64) -> bool {
         sys::sound(counter, t.words.each_ref().map(|w| &w[..]), &t.xyz)
@@ -58,15 +65,23 @@ mod linked {
     pub struct Library;
 
     impl Editor for Library {
+        fn on(&mut self, memory: &mut Memory) -> Raw {
+            raw(sys::apply(
+                &mut memory.counter,
+                memory.words.each_mut().map(|s| s.get_mut()),
+                memory.xyz.get_mut(),
+                memory.row.get(),
+                memory.lists.each_mut().map(|s| s.get_mut()),
+            ))
+        }
+
         fn call(&mut self, call: &Call, lent: &mut Lent) -> Raw {
-            let tables = lent.tables.words.each_mut().map(|w| &mut w[..]);
-            let lists = lent.lists.each_mut().map(|l| &mut l[..]);
             raw(sys::apply(
                 &mut lent.counter,
-                tables,
+                lent.tables.words.each_mut().map(|w| &mut w[..]),
                 &mut lent.tables.xyz,
                 &call.row(),
-                lists,
+                lent.lists.each_mut().map(|l| &mut l[..]),
             ))
         }
     }

@@ -79,6 +79,8 @@ enum Aim {
     Counter,
     /// Ids and the counter at 0.
     Zero,
+    /// A distance or a position at exactly one of document 01's numbers, or a unit beside it.
+    Edge,
     /// A sound map, then one clause broken.
     Damage(usize),
 }
@@ -115,13 +117,16 @@ pub fn case_of(seed: u64, index: usize, profile: Profile, edits: &[usize]) -> Ca
     if profile == Profile::Full && index % 400 == 399 {
         return large(rng, index / 400, edits);
     }
-    let aim = aim(index);
+    let aim = match (profile, index % 20) {
+        (Profile::Full, 5 | 10) => Aim::Edge,
+        _ => aim(index),
+    };
     loop {
         let lanes = match profile {
             Profile::Full if index % 40 == 34 => rng.within(20, 90),
             _ => *rng.pick(&[1, 2, 2, 3, 3, 4, 4, 5, 6, 6, 7, 8]),
         };
-        let (map, counter) = Builder::new(rng, aim, lanes).make();
+        let (map, counter, first) = Builder::new(rng, aim, lanes).make();
         let tables = scatter(rng, &map, aim, profile);
         if let Aim::Damage(which) = aim {
             let (mut tables, mut counter) = (tables, counter);
@@ -148,10 +153,18 @@ pub fn case_of(seed: u64, index: usize, profile: Profile, edits: &[usize]) -> Ca
         );
         let most = *rng.pick(&[1, 3, 6, 8, 12, 12, 16, 24, 40, 60]);
         let n = rng.within(1, most);
+        let mut state = state;
+        let mut all = Vec::new();
+        for call in first {
+            let room = room(rng, &state, &call);
+            state.step(&call, &room);
+            all.push((call, room));
+        }
+        all.extend(calls(rng, state, n, edits));
         return Case {
             tables,
             counter,
-            calls: calls(rng, state, n, edits),
+            calls: all,
         };
     }
 }
@@ -169,6 +182,8 @@ struct Builder<'a> {
     /// Whole numbers for coordinates, as in document 01's cases.
     whole: bool,
     corner: (f64, f64),
+    /// The calls that the map was made for.
+    first: Vec<Call>,
 }
 
 const DIRECTIONS: [(f64, f64); 10] = [
@@ -209,6 +224,7 @@ impl<'a> Builder<'a> {
             span,
             whole,
             corner: if whole { (0.0, 0.0) } else { corner },
+            first: Vec::new(),
         }
     }
 
@@ -249,10 +265,11 @@ impl<'a> Builder<'a> {
         LaneId(*self.rng.pick(&ids))
     }
 
-    fn make(mut self) -> (Map, u64) {
+    fn make(mut self) -> (Map, u64, Vec<Call>) {
         match self.aim {
             Aim::Links => self.fan(),
             Aim::Zero => self.zero(),
+            Aim::Edge => self.edge(),
             Aim::LongLines => self.corridor(1, 2),
             _ => {
                 let mut left = self.size;
@@ -264,7 +281,7 @@ impl<'a> Builder<'a> {
                 }
             }
         }
-        if self.aim != Aim::Zero {
+        if !matches!(self.aim, Aim::Zero | Aim::Edge) {
             self.features();
             if self.aim != Aim::LongLines {
                 self.spice();
@@ -274,7 +291,7 @@ impl<'a> Builder<'a> {
         }
         let counter = self.counter();
         access::set_counter(&mut self.m, counter);
-        (self.m, counter)
+        (self.m, counter, self.first)
     }
 
     fn counter(&mut self) -> u64 {
@@ -495,6 +512,130 @@ impl<'a> Builder<'a> {
         let line = |y: f64| Polyline3::from_xy(&[[0.0, y], [10.0, y]]);
         let b = self.boundary(line(self.size as f64));
         self.lane(BoundaryRef::forward(b), BoundaryRef::forward(b));
+    }
+
+    /// One of document 01's numbers met exactly, or missed by a unit, and the call that meets it.
+    fn edge(&mut self) {
+        match self.rng.below(10) {
+            0 => {
+                // Two lanes whose ends are the tolerance of a gap apart.
+                let at = self.beside(0.1);
+                let (from, to) = (self.straight(-8.0, 0.0), self.straight(at, 8.0));
+                self.first.push(Call::Connect { from, to });
+            }
+            1 => {
+                // Lines to be joined, as far apart as two points that are one.
+                let at = self.beside(1e-6);
+                let (first, second) = (self.straight(-8.0, 0.0), self.straight(at, 8.0));
+                access::add_link(&mut self.m, LaneId(first), LaneId(second));
+                self.first.push(Call::MergeLanes { first, second });
+            }
+            2 => {
+                // The lane's own position.
+                let lane = self.straight(0.0, 8.0);
+                let near = *self.rng.pick(&[0.1, 8.0 - 0.1]);
+                let at = SplitAt::Station(self.beside(near));
+                let neighbors = self.rng.chance(50);
+                self.first.push(Call::SplitLane {
+                    lane,
+                    at,
+                    neighbors,
+                });
+            }
+            3 => {
+                // A neighbour's position: its line runs along x, the lane crosses it at this x.
+                let near = *self.rng.pick(&[0.1, 8.0 - 0.1]);
+                let x = self.beside(near);
+                let lane = self.crossing(x, 0.0, &[[-4.0, 1.0, 0.0], [12.0, 1.0, 0.0]]);
+                let other = self.straight(0.0, 8.0);
+                let line = Polyline3::from_xy(&[[0.0, -3.0], [8.0, -3.0]]);
+                self.m.lane_mut(LaneId(other)).expect("present").centerline = Some(line);
+                let beside = Some(Neighbor::same(LaneId(other)));
+                access::set_neighbor(&mut self.m, LaneId(lane), Side::Right, beside);
+                self.cut_in_the_middle(lane, true);
+            }
+            4 | 8 => {
+                // A boundary's position.
+                let near = *self.rng.pick(&[1e-6, 8.0 - 1e-6]);
+                let x = self.beside(near);
+                let lane = self.crossing(x, 0.0, &[[0.0, 1.0, 0.0], [8.0, 1.0, 0.0]]);
+                self.cut_in_the_middle(lane, false);
+            }
+            5 => {
+                // A later segment that is nearer by EPSILON: the lane runs along x, at this y.
+                let y = self.beside(1e-9);
+                let there = [
+                    [0.0, 0.0, 0.0],
+                    [8.0, 0.0, 0.0],
+                    [8.0, y, 0.0],
+                    [0.0, y, 0.0],
+                ];
+                let lane = self.crossing(4.0, y, &there);
+                let along = Polyline3::from_xy(&[[-4.0, y], [12.0, y]]);
+                self.m.lane_mut(LaneId(lane)).expect("present").centerline = Some(along);
+                self.cut_in_the_middle(lane, false);
+            }
+            6 | 9 => {
+                // A segment as long as EPSILON in the plane, and 16 m high.
+                let x = self.beside(1e-9);
+                let there = [[0.0, 0.0, 0.0], [x, 0.0, 16.0], [8.0, 0.0, 16.0]];
+                let lane = self.crossing(x / 2.0, 0.0, &there);
+                self.cut_in_the_middle(lane, false);
+            }
+            _ => {
+                // A point of the boundary EPSILON before the cut.
+                let x = self.before_a_cut();
+                let before = self.beside(x - 1e-9);
+                let there = [[0.0, 0.0, 0.0], [before, 0.0, 0.0], [8.0, 0.0, 0.0]];
+                let lane = self.crossing(x, 0.0, &there);
+                self.cut_in_the_middle(lane, false);
+            }
+        }
+    }
+
+    /// This number, or the next one up or down.
+    fn beside(&mut self, x: f64) -> f64 {
+        *self.rng.pick(&[x, x, x.next_up(), x.next_down()])
+    }
+
+    /// A place such that the point EPSILON before it is further off than EPSILON, as floats go: the
+    /// nearest segment is then the one behind that point.
+    fn before_a_cut(&mut self) -> f64 {
+        loop {
+            let x = 1.0 + 6.0 * self.rng.unit();
+            if x - (x - 1e-9) > 1e-9 {
+                return x;
+            }
+        }
+    }
+
+    /// A lane along x between boundaries at y = 2 and y = -2.
+    fn straight(&mut self, from: f64, to: f64) -> u64 {
+        let side = |y: f64| Polyline3::from_xy(&[[from, y], [to, y]]);
+        let (left, right) = (self.boundary(side(2.0)), self.boundary(side(-2.0)));
+        self.lane(BoundaryRef::forward(left), BoundaryRef::forward(right))
+            .0
+    }
+
+    /// A lane with a line of its own along y through (x, y), this left boundary, and a right one that
+    /// anything crosses.
+    fn crossing(&mut self, x: f64, y: f64, left: &[[f64; 3]]) -> u64 {
+        let points = left.iter().map(|p| Point3::new(p[0], p[1], p[2]));
+        let left = self.boundary(Polyline3::new(points.collect()));
+        let right = self.boundary(Polyline3::from_xy(&[[-4.0, -2.0], [12.0, -2.0]]));
+        let lane = self.lane(BoundaryRef::forward(left), BoundaryRef::forward(right));
+        let line = Polyline3::from_xy(&[[x, y - 5.0], [x, y + 5.0]]);
+        self.m.lane_mut(lane).expect("present").centerline = Some(line);
+        lane.0
+    }
+
+    fn cut_in_the_middle(&mut self, lane: u64, neighbors: bool) {
+        let at = SplitAt::Fraction(0.5);
+        self.first.push(Call::SplitLane {
+            lane,
+            at,
+            neighbors,
+        });
     }
 
     /// Stop lines and crosswalks, some empty or of one point.
@@ -832,9 +973,12 @@ fn rubbish(rng: &mut Rng) -> u64 {
     }
 }
 
-/// A free coordinate: any number, the plain NaN or an infinity.
-fn free_coordinate(rng: &mut Rng) -> f64 {
+/// A free coordinate: any number, a NaN or an infinity; in stored samples the plain NaN alone.
+fn free_coordinate(rng: &mut Rng, profile: Profile) -> f64 {
     match rng.below(12) {
+        0 if profile == Profile::Full => {
+            f64::from_bits(0x7FF0_0000_0000_0001 | (rng.word() >> 12) | (rng.word() & 1 << 63))
+        }
         0 => f64::from_bits(0x7FF8_0000_0000_0000),
         1 => f64::INFINITY,
         2 => f64::NEG_INFINITY,
@@ -923,7 +1067,7 @@ fn scatter(rng: &mut Rng, m: &Map, aim: Aim, profile: Profile) -> Tables {
     let mut xyz = vec![0.0; 3 * (used + gaps + tail) + over];
     for x in xyz.iter_mut() {
         if rng.chance(dirty) {
-            *x = free_coordinate(rng);
+            *x = free_coordinate(rng, profile);
         }
     }
     let mut order: Vec<usize> = (0..all.len()).collect();

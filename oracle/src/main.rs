@@ -13,6 +13,7 @@ mod ffi;
 mod format;
 mod generate;
 mod lines;
+mod memory;
 mod rng;
 mod rows;
 mod sound;

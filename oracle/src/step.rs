@@ -6,6 +6,7 @@ use std::sync::atomic::{AtomicBool, Ordering};
 
 use vectormap_core::*;
 
+use crate::rng::Rng;
 use crate::sound;
 use crate::tables::*;
 
@@ -91,6 +92,64 @@ impl Call {
             }
             Call::RemoveLane { lane } => [5, lane, 0, 0, 0],
         }
+    }
+
+    /// The call that a row of words is, of any length: a word that is missing is 0.
+    pub fn read(row: &[u64]) -> Call {
+        Call::of(std::array::from_fn(|i| row.get(i).copied().unwrap_or(0)))
+    }
+
+    /// Another row that is the same call: numbers that mean the same, rubbish in words that are not
+    /// read, zeros left out at the end, words that follow.
+    pub fn spelled(&self, rng: &mut Rng) -> Vec<u64> {
+        let mut row = self.row();
+        let large = |rng: &mut Rng, least: u64| match rng.below(3) {
+            0 => least,
+            1 => least + 1 + rng.below(9) as u64,
+            _ => u64::MAX - rng.below(3) as u64,
+        };
+        let unread = match self {
+            Call::SplitLane { at, neighbors, .. } => {
+                if matches!(at, SplitAt::Station(_)) {
+                    row[2] = large(rng, 1);
+                }
+                if *neighbors {
+                    row[4] = large(rng, 1);
+                }
+                5
+            }
+            Call::SetNeighbor { side, neighbor, .. } => {
+                if *side == Side::Right {
+                    row[2] = large(rng, 1);
+                }
+                match neighbor {
+                    Some(n) if n.direction == NeighborDirection::Same => 5,
+                    Some(_) => {
+                        row[3] = large(rng, 2);
+                        5
+                    }
+                    None => 4,
+                }
+            }
+            Call::RemoveLane { .. } => {
+                row[0] = large(rng, 5);
+                2
+            }
+            _ => 3,
+        };
+        row[unread..]
+            .iter_mut()
+            .for_each(|w| *w = rng.below(4) as u64);
+        let mut row = row.to_vec();
+        if rng.chance(50) {
+            while row.last() == Some(&0) {
+                row.pop();
+            }
+        } else {
+            (0..rng.below(3)).for_each(|_| row.push(rng.word()));
+        }
+        debug_assert_eq!(Call::read(&row).row(), self.row());
+        row
     }
 
     /// The call that a row of words is.
@@ -359,8 +418,8 @@ fn links_in_order(m: &mut Map) -> usize {
 
 // ------------------------------------------------------------------------------------------------
 
-/// Runs the Rust where it may panic, without a word on standard error.
-fn quietly<T>(run: impl FnOnce() -> T) -> std::thread::Result<T> {
+/// Runs what may panic, without a word on standard error.
+pub fn quietly<T>(run: impl FnOnce() -> T) -> std::thread::Result<T> {
     static QUIET: AtomicBool = AtomicBool::new(false);
     static HOOK: Once = Once::new();
     HOOK.call_once(|| {
@@ -371,9 +430,9 @@ fn quietly<T>(run: impl FnOnce() -> T) -> std::thread::Result<T> {
             }
         }));
     });
-    QUIET.store(true, Ordering::Relaxed);
+    let within = QUIET.swap(true, Ordering::Relaxed);
     let result = catch_unwind(AssertUnwindSafe(run));
-    QUIET.store(false, Ordering::Relaxed);
+    QUIET.store(within, Ordering::Relaxed);
     result
 }
 

@@ -1,64 +1,14 @@
-// edit/merge.rs: the tables with lines after a merge: lines drawn by `merge_redraw`, rows written by `merge_rows`, all brought to their places by `in_place` or `gathers`.
+// edit/merge.rs: the tables with lines after a merge: lines drawn by `merge_redraw`, rows written by `merge_rows`, all brought to their places by `lay_out`.
 ghost use mathlib.Core.Path.{_≡_};
 ghost use lib.ListN.{length};
 ghost use Rattle.layout.specs.Layout as L;
-ghost use Rattle.in_place.specs.Settle.{Layable};
 ghost use Rattle.merge_redraw.specs.Relaying as W;
 use entities::Side;
-use gathers::SMALL_POINTS;
 use merge_plan::Plan;
 use merge_plan::side_points;
 
 // Floats of the array of work: three lines of two times 256 points.
 const WORK: usize = 4608;
-
-// Every line in its place: a small map by way of a copy, and every map whose lines are not in order; else within the coordinates.
-fn lay_out(
-    lanes: &mut [u64],
-    boundaries: &mut [u64],
-    stop_lines: &mut [u64],
-    crosswalks: &mut [u64],
-    coordinates: &mut [f64],
-    reach: usize,
-    drawn: &[f64],
-)
-    requires { ⌜ Layable reach (now drawn) (L.lineTables (now lanes) (now boundaries) (now «stop_lines») (now crosswalks) (now coordinates)) ⌝ }
-    ensures { λ _. ⌜ L.lineTables (now (lanes .exit)) (now (boundaries .exit)) (now («stop_lines» .exit)) (now (crosswalks .exit)) (now (coordinates .exit)) ≡ L.gathered (L.sourced reach (now (coordinates .entry)) (now (drawn .entry))) (L.lineTables (now (lanes .entry)) (now (boundaries .entry)) (now («stop_lines» .entry)) (now (crosswalks .entry)) (now (coordinates .entry))) ⌝ }
-{
-    if reach <= SMALL_POINTS {
-        gathers::gather_small(
-            lanes,
-            boundaries,
-            stop_lines,
-            crosswalks,
-            coordinates,
-            reach,
-            drawn,
-        );
-        return;
-    }
-    if order::in_order(lanes, boundaries, stop_lines, crosswalks, reach) {
-        settle::settle(
-            lanes,
-            boundaries,
-            stop_lines,
-            crosswalks,
-            coordinates,
-            reach,
-            drawn,
-        );
-        return;
-    }
-    gathers_apart::gather_apart(
-        lanes,
-        boundaries,
-        stop_lines,
-        crosswalks,
-        coordinates,
-        reach,
-        drawn,
-    );
-}
 
 // The tables with lines after the merge of the lanes in rows i and j; `work` is an array of work.
 fn relay_in(
@@ -89,7 +39,7 @@ fn relay_in(
     let two = merge_rows::redrawn_of(lanes, i, Side::Right, boundaries, right, other, right_at);
     merge_rows::redraw_boundaries(boundaries, gone, one, two);
     merge_rows::redraw_followed(lanes, i, j, taken);
-    lay_out(
+    lay_out::lay_out(
         lanes,
         boundaries,
         stop_lines,

@@ -230,7 +230,7 @@ fn write(
     grows::grow_rows(roads, ROAD, ROAD_LANES, cut, drawn.next);
     grows::grow_rows(junctions, JUNCTION, JUNCTION_LANES, cut, drawn.next);
     follows::follow_rules(rules, cut, drawn.next, anchored, past);
-    split_relay::relay(
+    split_arrays::relay(
         lanes,
         boundaries,
         stop_lines,

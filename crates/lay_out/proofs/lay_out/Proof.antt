@@ -1,7 +1,7 @@
--- `merge_relay::lay_out` meets its contract, by each of its three ways. Assumes nothing.
+-- `lay_out::lay_out` meets its contract, by each of its three ways. Assumes nothing.
 use borrow.Author.Needs.{needs}
-use Rattle.merge_relay.proofs.lay_out.Statement.{statement}
-use Rattle.merge_relay.proofs.lay_out.Tie as tie
+use Rattle.lay_out.proofs.lay_out.Statement.{statement}
+use Rattle.lay_out.proofs.lay_out.Tie as tie
 use Rattle.in_place.proofs.Laying.{order-asks, settle-asks}
 
 gather-small-requires : tie.Need-gather-small-requires

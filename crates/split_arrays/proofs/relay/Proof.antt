@@ -1,13 +1,13 @@
--- `split_relay::relay` meets its contract, by each of its three ways. Assumes nothing.
+-- `split_arrays::relay` meets its contract, by each of its three ways. Assumes nothing.
 use borrow.Author.Needs.{needs}
-use Rattle.split_relay.proofs.relay.Statement.{statement}
-use Rattle.split_relay.proofs.relay.Tie as tie
+use Rattle.split_arrays.proofs.relay.Statement.{statement}
+use Rattle.split_arrays.proofs.relay.Tie as tie
 use mathlib.Core.Path.{refl}
 use native.Mathlib.Omega.{arith}
 use lib.ListN.{length}
 use Rattle.layout.specs.Layout.{lineTables}
 use Rattle.split_relay.specs.Relaying.{cutting}
 use Rattle.split_relay.proofs.Whole.{many-relaid, long-relaid, small-relaid}
 
 relay-large-requires : tie.Need-relay-large-requires
 relay-large-requires c κs = c .before .before .before .before .before .before .before .before .before .before .before .before .before .before .before .before .before .pre .0
@@ -31,7 +31,7 @@ returns : tie.Need-returns
 returns c =
     let a = c .before .before .before .before .before .before .before .before .before .before .before .before .before .before .before .before .before .before .before .before .before .before .before .before .before .before .before .before .args in
     let g = c .before .before .before .before .before .before .before .before .before .before .relay-large .last in
-    many-relaid (cutting (a .point) (a .reach) (a .seen .now) (a .cut .now) (a .next) (a .marks .now) (a .pieces .now) (a .m) (a .lines .now) (a .centers .now)) (lineTables (a .lanes .now) (a .boundaries .now) (a .stop-lines .now) (a .crosswalks .now) (a .coordinates .now)) (lineTables (g .0) (g .1 .0) (g .1 .1 .0) (g .1 .1 .1 .0) (g .1 .1 .1 .1 .0)) 196608 (c .before .before .before .before .before .before .before .before .before .before .relay-large .ensures) (length (a .cut .now)) (a .points) refl (c .before .before .before .before .before .before .before .before .before .before .before .before .before .before .before .before .if1 .taken)
+    many-relaid (cutting (a .point) (a .reach) (a .seen .now) (a .cut .now) (a .next) (a .marks .now) (a .pieces .now) (a .m) (a .lines .now) (a .centers .now)) (lineTables (a .lanes .now) (a .boundaries .now) (a .stop-lines .now) (a .crosswalks .now) (a .coordinates .now)) (lineTables (g .0) (g .1 .0) (g .1 .1 .0) (g .1 .1 .1 .0) (g .1 .1 .1 .1 .0)) 196608 (c .before .before .before .before .before .before .before .before .before .before .relay-large .ensures .1) (length (a .cut .now)) (a .points) refl (c .before .before .before .before .before .before .before .before .before .before .before .before .before .before .before .before .if1 .taken)
 
 relay-large-requires-2 : tie.Need-relay-large-requires-2
 relay-large-requires-2 c κs = c .before .before .before .before .before .before .before .before .before .before .before .before .before .before .before .before .before .before .pre .0
@@ -55,7 +55,7 @@ returns-2 : tie.Need-returns-2
 returns-2 c =
     let a = c .before .before .before .before .before .before .before .before .before .before .before .before .before .before .before .before .before .before .before .before .before .before .before .before .before .before .before .before .before .args in
     let g = c .before .before .before .before .before .before .before .before .before .before .relay-large2 .last in
-    long-relaid (cutting (a .point) (a .reach) (a .seen .now) (a .cut .now) (a .next) (a .marks .now) (a .pieces .now) (a .m) (a .lines .now) (a .centers .now)) (lineTables (a .lanes .now) (a .boundaries .now) (a .stop-lines .now) (a .crosswalks .now) (a .coordinates .now)) (lineTables (g .0) (g .1 .0) (g .1 .1 .0) (g .1 .1 .1 .0) (g .1 .1 .1 .1 .0)) 196608 (c .before .before .before .before .before .before .before .before .before .before .relay-large2 .ensures) (length (a .cut .now)) (a .points) refl (c .before .before .before .before .before .before .before .before .before .before .before .before .before .before .before .before .before .if1 .left) (c .before .before .before .before .before .before .before .before .before .before .before .before .before .before .before .before .if2 .taken)
+    long-relaid (cutting (a .point) (a .reach) (a .seen .now) (a .cut .now) (a .next) (a .marks .now) (a .pieces .now) (a .m) (a .lines .now) (a .centers .now)) (lineTables (a .lanes .now) (a .boundaries .now) (a .stop-lines .now) (a .crosswalks .now) (a .coordinates .now)) (lineTables (g .0) (g .1 .0) (g .1 .1 .0) (g .1 .1 .1 .0) (g .1 .1 .1 .1 .0)) 196608 (c .before .before .before .before .before .before .before .before .before .before .relay-large2 .ensures .1) (length (a .cut .now)) (a .points) refl (c .before .before .before .before .before .before .before .before .before .before .before .before .before .before .before .before .before .if1 .left) (c .before .before .before .before .before .before .before .before .before .before .before .before .before .before .before .before .if2 .taken)
 
 relay-small-requires : tie.Need-relay-small-requires
 relay-small-requires c κs = (c .before .before .before .before .before .before .before .before .before .before .before .before .before .before .before .before .before .before .pre .0, omega (arith, c .before .before .before .before .before .before .before .before .before .before .before .before .before .before .before .before .before .before .pre .1, c .before .before .before .before .before .if2 .left))
