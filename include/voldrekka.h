@@ -11,8 +11,8 @@
  *  - Slices that one call may write overlap no other slice of that call. Pointers are aligned to 8 bytes and are never null, those of empty slices included.
  *  - During a call nobody else writes what is lent, or reads what the call may write. The library keeps no state of its own: calls on
  *    different maps may run at the same time, in any threads.
- *  - Stack: voldrekka_apply takes up to VOLDREKKA_STACK bytes of the thread that calls it, whatever the map; the other functions take
- *    a few kilobytes, voldrekka_sound 66. A thread that is given less dies of it.
+ *  - Stack: a call of voldrekka_apply wants VOLDREKKA_STACK bytes of the thread that makes it; voldrekka_sound takes 66 kilobytes, the
+ *    functions on lines less than one. A thread that has less dies of it. host/c/stack.c measures each.
  *  - x86-64 Linux, System V calling convention.
  *
  * Nothing else is asked: whatever the slices hold, the answer is the one promised. */
