@@ -289,6 +289,11 @@ enum {
     VOLDREKKA_WARNING_WORDS = 10
 };
 
+/* The next id. 0 counts as 1; at 2^64 - 1 none is left. */
+typedef struct voldrekka_counter {
+    uint64_t next;
+} voldrekka_counter;
+
 /* The answer to a command. */
 typedef struct voldrekka_answer {
     uint64_t number;   /* voldrekka_refusal; 0 says accepted */
@@ -299,7 +304,7 @@ typedef struct voldrekka_answer {
     uint64_t deleted;
     uint64_t warnings;
     uint64_t second;   /* the second half of the lane that was split, or 0 */
-    uint64_t counter;  /* the next id, for the next call */
+    uint64_t counter;  /* the next id, as the counter has it after the call */
 } voldrekka_answer;
 
 /* ---- room: lengths of slices with which 10 is given for a limit above alone, never for what was lent */
@@ -362,8 +367,8 @@ bool voldrekka_sound(uint64_t counter,
 
 /* Makes a command on the map that is lent, or refuses it. Accepted: tables and coordinates hold the edited map, a sound one; the lists
  * hold what was created, modified and deleted and the warnings, as many as the answer says; what lies past them in their slices, and
- * what the map does not use, is as it was. Refused: nothing that was lent has changed. A map that is not sound is refused before all else. */
-voldrekka_answer voldrekka_apply(uint64_t counter,
+ * what the map does not use, is as it was; the counter has moved on, last of all. Refused: nothing that was lent has changed, the counter neither. A map that is not sound is refused before all else. */
+voldrekka_answer voldrekka_apply(voldrekka_counter *counter,
                                  uint64_t *lanes, size_t lanes_len,
                                  uint64_t *boundaries, size_t boundaries_len,
                                  uint64_t *roads, size_t roads_len,
@@ -389,11 +394,6 @@ typedef struct voldrekka_floats {
     double *at;
     size_t len;
 } voldrekka_floats;
-
-/* The next id. 0 counts as 1; at 2^64 - 1 none is left. */
-typedef struct voldrekka_counter {
-    uint64_t next;
-} voldrekka_counter;
 
 typedef struct voldrekka_map {
     voldrekka_counter counter;
@@ -431,22 +431,20 @@ static inline bool voldrekka_map_sound(const voldrekka_map *map)
 /* Makes a command on a map, whose counter moves on, or refuses it and leaves map, counter and lists alone. */
 static inline voldrekka_answer voldrekka_map_apply(voldrekka_map *map, const uint64_t command[VOLDREKKA_COMMAND_WORDS], const voldrekka_lists *lists)
 {
-    voldrekka_answer answer = voldrekka_apply(map->counter.next,
-                                              map->lanes.at, map->lanes.len,
-                                              map->boundaries.at, map->boundaries.len,
-                                              map->roads.at, map->roads.len,
-                                              map->junctions.at, map->junctions.len,
-                                              map->rules.at, map->rules.len,
-                                              map->stop_lines.at, map->stop_lines.len,
-                                              map->crosswalks.at, map->crosswalks.len,
-                                              map->coordinates.at, map->coordinates.len,
-                                              command, VOLDREKKA_COMMAND_WORDS,
-                                              lists->created.at, lists->created.len,
-                                              lists->modified.at, lists->modified.len,
-                                              lists->deleted.at, lists->deleted.len,
-                                              lists->warnings.at, lists->warnings.len);
-    map->counter.next = answer.counter;
-    return answer;
+    return voldrekka_apply(&map->counter,
+                           map->lanes.at, map->lanes.len,
+                           map->boundaries.at, map->boundaries.len,
+                           map->roads.at, map->roads.len,
+                           map->junctions.at, map->junctions.len,
+                           map->rules.at, map->rules.len,
+                           map->stop_lines.at, map->stop_lines.len,
+                           map->crosswalks.at, map->crosswalks.len,
+                           map->coordinates.at, map->coordinates.len,
+                           command, VOLDREKKA_COMMAND_WORDS,
+                           lists->created.at, lists->created.len,
+                           lists->modified.at, lists->modified.len,
+                           lists->deleted.at, lists->deleted.len,
+                           lists->warnings.at, lists->warnings.len);
 }
 
 /* ---- the six edits */

@@ -15,6 +15,14 @@ pub const STACK: usize = 8 * 1024 * 1024;
 /// How many tables of words a map has.
 pub const TABLES: usize = 7;
 
+/// The next id (`voldrekka_counter` of the header).
+#[repr(C)]
+#[derive(Debug, Clone, Copy, PartialEq, Eq, Default)]
+pub struct Counter {
+    /// 0 counts as 1; at 2^64 − 1 none is left.
+    pub next: u64,
+}
+
 /// The answer to a command (`voldrekka_answer` of the header).
 #[repr(C)]
 #[derive(Debug, Clone, Copy, PartialEq, Eq, Default)]
@@ -35,7 +43,7 @@ pub struct Answer {
     pub warnings: u64,
     /// The second half of the lane that was split, or 0.
     pub second: u64,
-    /// The next id, for the next call.
+    /// The next id, as the counter has it after the call.
     pub counter: u64,
 }
 
@@ -84,7 +92,7 @@ unsafe extern "C" {
     ) -> bool;
 
     fn voldrekka_apply(
-        counter: u64,
+        counter: *mut Counter,
         lanes: *mut u64,
         lanes_len: usize,
         boundaries: *mut u64,
@@ -173,9 +181,10 @@ pub fn apply(
 ) -> Answer {
     let [lanes, boundaries, roads, junctions, rules, stop_lines, crosswalks] = tables;
     let [created, modified, deleted, warnings] = lists;
+    let mut lent = Counter { next: *counter };
     let answer = unsafe {
         voldrekka_apply(
-            *counter,
+            &mut lent,
             lanes.as_mut_ptr(),
             lanes.len(),
             boundaries.as_mut_ptr(),
@@ -204,7 +213,7 @@ pub fn apply(
             warnings.len(),
         )
     };
-    *counter = answer.counter;
+    *counter = lent.next;
     answer
 }
 

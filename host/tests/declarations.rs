@@ -47,7 +47,10 @@ type Parts = Vec<(String, String)>;
 type Declared = BTreeMap<String, Parts>;
 
 /// The structs that go by value or behind a pointer: the file that declares it, and its names in Rattle, C and Rust.
-const STRUCTS: [(&str, &str, &str, &str); 1] = [("crates/words/src/lib.rt", "Told", "voldrekka_answer", "Answer")];
+const STRUCTS: [(&str, &str, &str, &str); 2] = [
+    ("crates/words/src/lib.rt", "Told", "voldrekka_answer", "Answer"),
+    ("crates/entities/src/lib.rt", "Counter", "voldrekka_counter", "Counter"),
+];
 
 /// A parameter of Rattle: a slice is a pointer and a length.
 fn rattle_part(name: &str, ty: &str) -> Parts {
