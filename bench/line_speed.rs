@@ -4,12 +4,7 @@ use std::hint::black_box;
 use std::time::Instant;
 
 use vectormap_core::{Point2, Point3, Polyline3};
-
-extern "C" {
-    fn voldrekka_length(line: *const f64, floats: usize) -> f64;
-    fn voldrekka_nearest_point(line: *const f64, floats: usize, x: f64, y: f64, out: *mut f64, room: usize) -> usize;
-    fn voldrekka_split_at(line: *const f64, floats: usize, station: f64, out: *mut f64, room: usize, second: *mut usize) -> usize;
-}
+use voldrekka::sys;
 
 const LONG: usize = 256;
 const SHORT: usize = 64;
@@ -40,14 +35,12 @@ struct Query<'a> {
 
 #[inline(never)]
 fn length(q: &Query, _: &mut [f64]) {
-    let f = &q.on.floats;
-    black_box(unsafe { voldrekka_length(f.as_ptr(), f.len()) });
+    black_box(sys::length(&q.on.floats));
 }
 
 fn nearest(q: &Query, out: &mut [f64]) -> usize {
     assert!(5 <= out.len());
-    let f = &q.on.floats;
-    unsafe { voldrekka_nearest_point(f.as_ptr(), f.len(), q.x, q.y, out.as_mut_ptr(), out.len()) }
+    sys::nearest_point(&q.on.floats, q.x, q.y, out)
 }
 
 #[inline(never)]
@@ -59,7 +52,7 @@ fn split(q: &Query, out: &mut [f64]) -> (usize, usize) {
     let f = &q.on.floats;
     assert!(f.len() <= SHORT * 3 && ROOM <= out.len());
     let mut second = 0;
-    let first = unsafe { voldrekka_split_at(f.as_ptr(), f.len(), q.station, out.as_mut_ptr(), out.len(), &mut second) };
+    let first = sys::split_at(f, q.station, out, &mut second);
     (first, second)
 }
 
@@ -149,8 +142,7 @@ fn same_line(floats: &[f64], line: &Polyline3, what: &str) {
 
 fn agree(long: &[Query], short: &[Query], out: &mut [f64]) {
     for q in long {
-        let f = &q.on.floats;
-        same(unsafe { voldrekka_length(f.as_ptr(), f.len()) }, q.on.line.length(), "length");
+        same(sys::length(&q.on.floats), q.on.line.length(), "length");
         let segment = nearest(q, out);
         let n = q.on.line.nearest_point(Point2::new(q.x, q.y)).expect("a point");
         assert_eq!(segment, n.segment);

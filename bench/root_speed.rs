@@ -3,21 +3,13 @@
 use std::hint::black_box;
 use std::time::Instant;
 
-type Root = unsafe extern "C" fn(f64) -> f64;
+use voldrekka::sys::voldrekka_sqrt;
 
-extern "C" {
-    fn voldrekka_sqrt(x: f64) -> f64;
-}
+type Root = extern "C" fn(f64) -> f64;
 
 #[inline(never)]
-unsafe extern "C" fn processor(x: f64) -> f64 {
+extern "C" fn processor(x: f64) -> f64 {
     x.sqrt()
-}
-
-// Sound for every double, of either root: it takes and returns a number, and the proved one's contract has no `requires`.
-#[inline(always)]
-fn call(f: Root, x: f64) -> f64 {
-    unsafe { f(x) }
 }
 
 const COUNT: usize = 1 << 16;
@@ -46,7 +38,7 @@ fn apart(f: Root, values: &[u64]) -> f64 {
     let start = Instant::now();
     let mut sum = 0;
     for &v in values {
-        sum ^= call(f, f64::from_bits(v)).to_bits();
+        sum ^= f(f64::from_bits(v)).to_bits();
     }
     black_box(sum);
     start.elapsed().as_secs_f64() * 1e9 / values.len() as f64
@@ -58,7 +50,7 @@ fn in_turn(f: Root, values: &[u64]) -> f64 {
     let start = Instant::now();
     let mut last = 0;
     for &v in values {
-        last = call(f, f64::from_bits(v ^ (last & none))).to_bits();
+        last = f(f64::from_bits(v ^ (last & none))).to_bits();
     }
     black_box(last);
     start.elapsed().as_secs_f64() * 1e9 / values.len() as f64
@@ -91,7 +83,7 @@ fn main() {
     let values = values();
     for &v in &values {
         let x = f64::from_bits(v);
-        assert_eq!(call(voldrekka_sqrt, x).to_bits(), call(processor, x).to_bits(), "at the pattern {v:#x}");
+        assert_eq!(voldrekka_sqrt(x).to_bits(), processor(x).to_bits(), "at the pattern {v:#x}");
     }
     println!("{COUNT} random positive doubles, {ROUNDS} rounds: mean time of a call");
     compare("throughput", apart, &values);

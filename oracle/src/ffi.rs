@@ -54,171 +54,39 @@ pub fn sound(t: &Tables, counter: u64) -> Option<bool> {
 
 #[cfg(feature = "against")]
 mod linked {
+    use voldrekka::sys;
+
     use super::{Call, Editor, Lent, Memory, Raw, Tables};
 
-    /// `Told` of crates/words.
-    #[repr(C)]
-    struct Told {
-        number: u64,
-        kind: u64,
-        id: u64,
-        created: u64,
-        modified: u64,
-        deleted: u64,
-        warnings: u64,
-        second: u64,
-        counter: u64,
-    }
-
-    unsafe extern "C" {
-        fn voldrekka_sound(
-            counter: u64,
-            lanes: *const u64,
-            lanes_len: usize,
-            boundaries: *const u64,
-            boundaries_len: usize,
-            roads: *const u64,
-            roads_len: usize,
-            junctions: *const u64,
-            junctions_len: usize,
-            rules: *const u64,
-            rules_len: usize,
-            stop_lines: *const u64,
-            stop_lines_len: usize,
-            crosswalks: *const u64,
-            crosswalks_len: usize,
-            coordinates: *const f64,
-            coordinates_len: usize,
-        ) -> bool;
-
-        fn voldrekka_apply(
-            counter: u64,
-            lanes: *mut u64,
-            lanes_len: usize,
-            boundaries: *mut u64,
-            boundaries_len: usize,
-            roads: *mut u64,
-            roads_len: usize,
-            junctions: *mut u64,
-            junctions_len: usize,
-            rules: *mut u64,
-            rules_len: usize,
-            stop_lines: *mut u64,
-            stop_lines_len: usize,
-            crosswalks: *mut u64,
-            crosswalks_len: usize,
-            coordinates: *mut f64,
-            coordinates_len: usize,
-            command: *const u64,
-            command_len: usize,
-            created: *mut u64,
-            created_len: usize,
-            modified: *mut u64,
-            modified_len: usize,
-            deleted: *mut u64,
-            deleted_len: usize,
-            warnings: *mut u64,
-            warnings_len: usize,
-        ) -> Told;
-    }
-
     pub fn sound(t: &Tables, counter: u64) -> bool {
-        let [l, b, r, j, u, s, c] = &t.words;
-        unsafe {
-            voldrekka_sound(
-                counter,
-                l.as_ptr(),
-                l.len(),
-                b.as_ptr(),
-                b.len(),
-                r.as_ptr(),
-                r.len(),
-                j.as_ptr(),
-                j.len(),
-                u.as_ptr(),
-                u.len(),
-                s.as_ptr(),
-                s.len(),
-                c.as_ptr(),
-                c.len(),
-                t.xyz.as_ptr(),
-                t.xyz.len(),
-            )
-        }
-    }
-
-    /// A call on slices, wherever they lie.
-    fn apply(
-        counter: u64,
-        words: [&mut [u64]; 7],
-        xyz: &mut [f64],
-        row: &[u64],
-        lists: [&mut [u64]; 4],
-    ) -> Told {
-        let [l, b, r, j, u, s, c] = words;
-        let [created, modified, deleted, warnings] = lists;
-        unsafe {
-            voldrekka_apply(
-                counter,
-                l.as_mut_ptr(),
-                l.len(),
-                b.as_mut_ptr(),
-                b.len(),
-                r.as_mut_ptr(),
-                r.len(),
-                j.as_mut_ptr(),
-                j.len(),
-                u.as_mut_ptr(),
-                u.len(),
-                s.as_mut_ptr(),
-                s.len(),
-                c.as_mut_ptr(),
-                c.len(),
-                xyz.as_mut_ptr(),
-                xyz.len(),
-                row.as_ptr(),
-                row.len(),
-                created.as_mut_ptr(),
-                created.len(),
-                modified.as_mut_ptr(),
-                modified.len(),
-                deleted.as_mut_ptr(),
-                deleted.len(),
-                warnings.as_mut_ptr(),
-                warnings.len(),
-            )
-        }
+        sys::sound(counter, t.words.each_ref().map(|w| &w[..]), &t.xyz)
     }
 
     pub struct Library;
 
     impl Editor for Library {
         fn on(&mut self, memory: &mut Memory) -> Raw {
-            let told = apply(
-                memory.counter,
+            raw(sys::apply(
+                &mut memory.counter,
                 memory.words.each_mut().map(|s| s.get_mut()),
                 memory.xyz.get_mut(),
                 memory.row.get(),
                 memory.lists.each_mut().map(|s| s.get_mut()),
-            );
-            memory.counter = told.counter;
-            raw(told)
+            ))
         }
 
         fn call(&mut self, call: &Call, lent: &mut Lent) -> Raw {
-            let told = apply(
-                lent.counter,
+            raw(sys::apply(
+                &mut lent.counter,
                 lent.tables.words.each_mut().map(|w| &mut w[..]),
                 &mut lent.tables.xyz,
                 &call.row(),
                 lent.lists.each_mut().map(|l| &mut l[..]),
-            );
-            lent.counter = told.counter;
-            raw(told)
+            ))
         }
     }
 
-    fn raw(t: Told) -> Raw {
+    fn raw(t: sys::Answer) -> Raw {
         if t.kind == 0 {
             assert_eq!(t.id, 0, "no entity, and an id");
         }

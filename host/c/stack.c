@@ -1,0 +1,158 @@
+/* How much stack each function takes: it runs on a painted stack, and what is left of the paint tells. On a small map, and on a large one
+ * whose lines lie in no order, so that the edits that lay lines out must copy them. Fails if a function takes more than half of VOLDREKKA_STACK. */
+#define _XOPEN_SOURCE 700
+#include "voldrekka.h"
+
+#include <pthread.h>
+#include <stdio.h>
+#include <stdlib.h>
+
+enum {
+    PAINT = 0xA5,
+    PAGE = 4096,
+    SMALL = 4,   /* lanes of the small map */
+    LARGE = 500, /* lanes of the large one, each with two boundaries of its own */
+    POINTS = 64  /* points of a boundary */
+};
+
+static uint64_t lanes[VOLDREKKA_LANES_LEN], boundaries[VOLDREKKA_BOUNDARIES_LEN], roads[VOLDREKKA_ROADS_LEN];
+static uint64_t junctions[VOLDREKKA_JUNCTIONS_LEN], rules[VOLDREKKA_RULES_LEN], stop_lines[VOLDREKKA_STOP_LINES_LEN];
+static uint64_t crosswalks[VOLDREKKA_CROSSWALKS_LEN];
+static double coordinates[VOLDREKKA_COORDINATES_LEN];
+static uint64_t created[VOLDREKKA_CREATED_LEN], modified[VOLDREKKA_MODIFIED_LEN], deleted[VOLDREKKA_DELETED_LEN];
+static uint64_t warnings[VOLDREKKA_WARNINGS_LEN];
+
+static voldrekka_map map = {
+    {10000},
+    {lanes, VOLDREKKA_LANES_LEN}, {boundaries, VOLDREKKA_BOUNDARIES_LEN}, {roads, VOLDREKKA_ROADS_LEN},
+    {junctions, VOLDREKKA_JUNCTIONS_LEN}, {rules, VOLDREKKA_RULES_LEN}, {stop_lines, VOLDREKKA_STOP_LINES_LEN},
+    {crosswalks, VOLDREKKA_CROSSWALKS_LEN}, {coordinates, VOLDREKKA_COORDINATES_LEN}};
+
+static const voldrekka_lists lists = {
+    {created, VOLDREKKA_CREATED_LEN}, {modified, VOLDREKKA_MODIFIED_LEN}, {deleted, VOLDREKKA_DELETED_LEN},
+    {warnings, VOLDREKKA_WARNINGS_LEN}};
+
+/* ---- maps: lanes 1, 2 .. in a row, each leading into the next, and the first two side by side; boundaries from 2000 on */
+
+/* A boundary of a lane, from its start to its end; its points are stored behind those of all boundaries that follow it. */
+static void make_boundary(uint64_t row, uint64_t count, double x, double y)
+{
+    uint64_t *words = boundaries + voldrekka_row(row, VOLDREKKA_BOUNDARY_WORDS);
+    const uint64_t start = (count - 1 - row) * POINTS;
+    words[VOLDREKKA_ROW_ID] = 2000 + row;
+    words[VOLDREKKA_BOUNDARY_KIND] = VOLDREKKA_BOUNDARY_SOLID_THIN;
+    words[VOLDREKKA_BOUNDARY_START] = start;
+    words[VOLDREKKA_BOUNDARY_SIZE] = POINTS;
+    for (uint64_t i = 0; i < POINTS; i++) {
+        double *point = coordinates + (start + i) * VOLDREKKA_POINT_FLOATS;
+        point[0] = x + (double)i;
+        point[1] = y;
+    }
+}
+
+static void make_lane(uint64_t row, uint64_t count)
+{
+    uint64_t *words = lanes + voldrekka_row(row, VOLDREKKA_LANE_WORDS);
+    words[VOLDREKKA_ROW_ID] = row + 1;
+    words[VOLDREKKA_LANE_LEFT] = 2000 + 2 * row;
+    words[VOLDREKKA_LANE_RIGHT] = 2001 + 2 * row;
+    words[VOLDREKKA_LANE_ONE_WAY] = 1;
+    words[VOLDREKKA_PREDECESSORS_AT] = row > 0;
+    words[VOLDREKKA_FIRST_PREDECESSOR] = row;
+    words[VOLDREKKA_SUCCESSORS_AT] = row + 1 < count;
+    words[VOLDREKKA_FIRST_SUCCESSOR] = row + 2;
+}
+
+static void make_map(uint64_t count)
+{
+    memset(lanes, 0, sizeof lanes);
+    memset(boundaries, 0, sizeof boundaries);
+    memset(coordinates, 0, sizeof coordinates);
+    map.counter.next = 10000;
+    lanes[VOLDREKKA_ROW_COUNT] = count;
+    boundaries[VOLDREKKA_ROW_COUNT] = 2 * count;
+    for (uint64_t row = 0; row < count; row++) {
+        const double x = (double)(row * (POINTS - 1));
+        make_boundary(2 * row, 2 * count, x, 2.0);
+        make_boundary(2 * row + 1, 2 * count, x, -2.0);
+        make_lane(row, count);
+    }
+}
+
+/* ---- what is run */
+
+static double line[256 * VOLDREKKA_POINT_FLOATS], pieces[2 * 257 * VOLDREKKA_POINT_FLOATS];
+static size_t second_points;
+static bool done;
+
+static void nothing(void) { done = true; }
+static void root(void) { done = voldrekka_sqrt(2.0) > 1.0; }
+static void length(void) { done = voldrekka_length(line, 256 * VOLDREKKA_POINT_FLOATS) == 0.0; }
+static void nearest(void) { done = voldrekka_nearest_point(line, 256 * VOLDREKKA_POINT_FLOATS, 1.0, 1.0, pieces, 5) == 0; }
+static void split_at(void) { done = voldrekka_split_at(line, 256 * VOLDREKKA_POINT_FLOATS, 1.0, pieces, sizeof pieces / sizeof *pieces, &second_points) > 0; }
+static void sound(void) { done = voldrekka_map_sound(&map); }
+static void connect(void) { done = voldrekka_map_connect(&map, &lists, 1, 3).number == VOLDREKKA_ACCEPTED; }
+static void disconnect(void) { done = voldrekka_map_disconnect(&map, &lists, 1, 2).number == VOLDREKKA_ACCEPTED; }
+static void neighbor(void) { done = voldrekka_map_set_neighbor(&map, &lists, 1, VOLDREKKA_LEFT, VOLDREKKA_NEIGHBOR_SAME, 2).number == VOLDREKKA_ACCEPTED; }
+static void removal(void) { done = voldrekka_map_remove(&map, &lists, 1).number == VOLDREKKA_ACCEPTED; }
+static void merge(void) { done = voldrekka_map_merge(&map, &lists, 1, 2).number == VOLDREKKA_ACCEPTED; }
+static void split(void) { done = voldrekka_map_split(&map, &lists, 1, VOLDREKKA_FRACTION, 0.5, true).number == VOLDREKKA_ACCEPTED; }
+
+static const struct {
+    const char *name;
+    void (*run)(void);
+} functions[] = {
+    {"voldrekka_sqrt", root}, {"voldrekka_length", length}, {"voldrekka_nearest_point", nearest}, {"voldrekka_split_at", split_at},
+    {"voldrekka_sound", sound}, {"connect", connect}, {"disconnect", disconnect}, {"set neighbour", neighbor},
+    {"remove", removal}, {"merge", merge}, {"split", split}};
+
+/* ---- painted stacks */
+
+static unsigned char *stack;
+
+static void *run_on_stack(void *task)
+{
+    (*(void (**)(void))task)();
+    return NULL;
+}
+
+/* Bytes of a painted stack that a thread touches which runs the task. */
+static size_t touched(void (*task)(void))
+{
+    pthread_attr_t attributes;
+    pthread_t thread;
+    size_t left = 0;
+    memset(stack, PAINT, VOLDREKKA_STACK);
+    done = false;
+    if (pthread_attr_init(&attributes) || pthread_attr_setstack(&attributes, stack, VOLDREKKA_STACK) ||
+        pthread_create(&thread, &attributes, run_on_stack, &task) || pthread_join(thread, NULL) || !done) {
+        puts("a thread could not run, or a call was not answered as it should be");
+        exit(1);
+    }
+    pthread_attr_destroy(&attributes);
+    while (stack[left] == PAINT)
+        left++;
+    return VOLDREKKA_STACK - left;
+}
+
+int main(void)
+{
+    const uint64_t counts[] = {SMALL, LARGE};
+    size_t own;
+    int status = 0;
+    if (posix_memalign((void **)&stack, PAGE, VOLDREKKA_STACK))
+        return 1;
+    own = touched(nothing);
+    printf("bytes of stack, on maps of %d and of %d lanes\n", SMALL, LARGE);
+    for (size_t i = 0; i < sizeof functions / sizeof *functions; i++) {
+        size_t taken[2];
+        for (size_t m = 0; m < 2; m++) {
+            make_map(counts[m]);
+            taken[m] = touched(functions[i].run) - own;
+            status |= taken[m] > VOLDREKKA_STACK / 2;
+        }
+        printf("%-24s%10zu%10zu\n", functions[i].name, taken[0], taken[1]);
+    }
+    free(stack);
+    return status;
+}
