@@ -30,7 +30,7 @@ pub fn lay_out(
         return;
     }
     if order::in_order(lanes, boundaries, stop_lines, crosswalks, reach) {
-        settle::settle(
+        settling::settle(
             lanes,
             boundaries,
             stop_lines,

@@ -1,7 +1,7 @@
--- `settle::all_starts` meets its contract: column by column. Assumes nothing.
+-- `settling::all_starts` meets its contract: column by column. Assumes nothing.
 use borrow.Author.Needs.{needs}
-use Rattle.settle.proofs.all_starts.Statement.{statement}
-use Rattle.settle.proofs.all_starts.Tie as tie
+use Rattle.settling.proofs.all_starts.Statement.{statement}
+use Rattle.settling.proofs.all_starts.Tie as tie
 use mathlib.Core.Path.{ap}
 use mathlib.Core.List.{[]}
 use native.Mathlib.Omega.{arith}

@@ -1,6 +1,6 @@
--- `settle::all_up` meets its contract: column by column, the last first. Assumes nothing.
-use Rattle.settle.proofs.all_up.Statement.{statement}
-use Rattle.settle.proofs.all_up.Tie as tie
+-- `settling::all_up` meets its contract: column by column, the last first. Assumes nothing.
+use Rattle.settling.proofs.all_up.Statement.{statement}
+use Rattle.settling.proofs.all_up.Tie as tie
 use mathlib.Core.Path.{refl, _∙_}
 use mathlib.Core.List.{[]}
 use native.Mathlib.Omega.{arith}

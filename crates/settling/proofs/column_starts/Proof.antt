@@ -1,7 +1,7 @@
--- `settle::column_starts` meets its contract. The invariant: what becomes of the table is what becomes of its rows from i on, from the place as it is.
+-- `settling::column_starts` meets its contract. The invariant: what becomes of the table is what becomes of its rows from i on, from the place as it is.
 -- The measure is how many rows are left. Assumes nothing.
-use Rattle.settle.proofs.column_starts.Statement.{statement}
-use Rattle.settle.proofs.column_starts.Tie as tie
+use Rattle.settling.proofs.column_starts.Statement.{statement}
+use Rattle.settling.proofs.column_starts.Tie as tie
 use mathlib.Core.Logic.{⊎-elim}
 use native.Mathlib.Omega.{arith}
 use Prim.Native.Nat.{_+_, _-_, _*_, _≤_}

@@ -1,6 +1,6 @@
--- `settle::all_down` meets its contract: column by column. Assumes nothing.
-use Rattle.settle.proofs.all_down.Statement.{statement}
-use Rattle.settle.proofs.all_down.Tie as tie
+-- `settling::all_down` meets its contract: column by column. Assumes nothing.
+use Rattle.settling.proofs.all_down.Statement.{statement}
+use Rattle.settling.proofs.all_down.Tie as tie
 use mathlib.Core.Path.{refl, _∙_}
 use mathlib.Core.List.{[]}
 use native.Mathlib.Omega.{arith}

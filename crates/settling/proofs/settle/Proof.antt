@@ -1,7 +1,7 @@
--- `settle::settle` meets its contract: down, up, then the rows. Assumes nothing.
+-- `settling::settle` meets its contract: down, up, then the rows. Assumes nothing.
 use borrow.Author.Needs.{needs}
-use Rattle.settle.proofs.settle.Statement.{statement}
-use Rattle.settle.proofs.settle.Tie as tie
+use Rattle.settling.proofs.settle.Statement.{statement}
+use Rattle.settling.proofs.settle.Tie as tie
 use native.Mathlib.Omega.{arith}
 use Rattle.in_place.proofs.Whole.{placed-down, placed-up, movable-down, movable-up, points-room, settled-tables}
 

@@ -1,7 +1,7 @@
--- `settle::column_down` meets its contract. The invariant: what becomes of the column's lines is what becomes of those of the rows from i on, from the place as it is.
+-- `settling::column_down` meets its contract. The invariant: what becomes of the column's lines is what becomes of those of the rows from i on, from the place as it is.
 -- The measure is how many rows are left. Assumes nothing.
-use Rattle.settle.proofs.column_down.Statement.{statement}
-use Rattle.settle.proofs.column_down.Tie as tie
+use Rattle.settling.proofs.column_down.Statement.{statement}
+use Rattle.settling.proofs.column_down.Tie as tie
 use mathlib.Core.Path.{_≡_, ap, _∙_}
 use mathlib.Core.Bool.{true}
 use mathlib.Core.Logic.{⊎-elim}

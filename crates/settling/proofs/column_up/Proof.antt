@@ -1,6 +1,6 @@
--- `settle::column_up` meets its contract. The invariant: the lines of the rows from i on are at their places, which begin at the place as it is. The measure is i. Assumes nothing.
-use Rattle.settle.proofs.column_up.Statement.{statement}
-use Rattle.settle.proofs.column_up.Tie as tie
+-- `settling::column_up` meets its contract. The invariant: the lines of the rows from i on are at their places, which begin at the place as it is. The measure is i. Assumes nothing.
+use Rattle.settling.proofs.column_up.Statement.{statement}
+use Rattle.settling.proofs.column_up.Tie as tie
 use mathlib.Core.Path.{_≡_, refl, ap}
 use mathlib.Core.Bool.{true}
 use mathlib.Core.List.{List, _∷_}
