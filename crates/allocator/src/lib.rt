@@ -1,31 +1,12 @@
 // id.rs: the counter of ids is lent, and advanced in place, last of all.
 ghost use mathlib.Core.Path.{_≡_};
-ghost use Prim.Native.Nat.{_^_, _<_};
-ghost use Rattle.report.specs.Report.{counterBehind};
 ghost use Rattle.step.specs.Step as S;
 ghost use Rattle.ops.specs.Calls.{Applied};
+use advance::Advanced;
 use entities::Command;
 use entities::Counter;
 use entities::Tolerance;
 use report::Answer;
-
-// What a call answers, and the counter that it leaves.
-struct Advanced {
-    counter: Counter,
-    answer: Answer,
-}
-
-// The counter moves past the ids that the answer lists as created.
-fn advance(counter: Counter, answer: Answer) -> Advanced
-    requires { ⌜ counterBehind (counter .next) answer < 2 ^ 64 ⌝ }
-    ensures { λ r. ⌜ (r .counter .next ≡ counterBehind (counter .next) answer) × (r .answer ≡ answer) ⌝ }
-{
-    let next = answer.counter(counter.next);
-    Advanced {
-        counter: Counter { next },
-        answer,
-    }
-}
 
 // The call by value.
 fn applied(
@@ -64,7 +45,7 @@ fn applied(
         deleted,
         warnings,
     );
-    advance(counter, answer)
+    advance::advance(counter, answer)
 }
 
 // `ops::apply` with the counter lent: the counter is read, the call made, and the counter stored as the last act. A refused call leaves it.

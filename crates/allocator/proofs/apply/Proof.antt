@@ -48,9 +48,9 @@ use Rattle.entities.proofs.Tolerance as ToleranceT
 use Rattle.entities.proofs.Tolerance.Laws as ToleranceL
 use Rattle.entities.proofs.Command as CommandT
 use Rattle.entities.proofs.Command.Laws as CommandL
-use Rattle.allocator.specs.declared.Advanced.{Advanced}
-use Rattle.allocator.proofs.Advanced as AdvancedT
-use Rattle.allocator.proofs.Advanced.Laws as AdvancedL
+use Rattle.advance.specs.declared.Advanced.{Advanced}
+use Rattle.advance.proofs.Advanced as AdvancedT
+use Rattle.advance.proofs.Advanced.Laws as AdvancedL
 use Rattle.report.proofs.Answer as AnswerT
 use Rattle.report.proofs.Answer.Laws as AnswerL
 use Rattle.allocator.proofs.applied as callee
