@@ -144,6 +144,8 @@ fn main() {
     let good = match words[..] {
         ["cases"] => cases::run(),
         ["bench"] => bench::run(),
+        ["bench", "sound"] => bench::sound(),
+        ["bench", "once", name] => bench::once(name),
         ["yard"] => yard::run(),
         ["calls", seed, count, names] => {
             calls(number(seed), number(count) as usize, &edits(names)).expect("standard output")

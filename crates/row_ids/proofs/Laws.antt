@@ -4,7 +4,7 @@ use Prim.Native.Nat.{ℕ, zero, suc, _+_, _-_, _*_, _/_, _≤_, _<_}
 use native.Mathlib.Nat.{eq-or-lt-of-le}
 use native.Mathlib.Numerals.{add-one}
 use native.Mathlib.Omega.{arith}
-use mathlib.Core.Bool.{Bool, true, false}
+use mathlib.Core.Bool.{Bool, true, false, cond}
 use mathlib.Core.List.{List, [], _∷_, _++_}
 use mathlib.Core.Logic.{_⊎_, inl, inr, ⊎-elim}
 use lib.Dec.{ltb}
@@ -84,7 +84,7 @@ module _ (ids : List ℕ) (n x : ℕ) (r : Ready n ids) (fits : x ≤ 1844674407
     abbrev half : ℕ
     half = left / 2
 
-    pub search-upper : getD ids (low + half - 1) 0 < x → Left ids n x (low + half) (left - half)
+    search-upper : getD ids (low + half - 1) 0 < x → Left ids n x (low + half) (left - half)
     search-upper h =
         let q = low + half - 1 in
         let e : low + half + (left - half) ≡ low + left = omega arith in
@@ -105,7 +105,7 @@ module _ (ids : List ℕ) (n x : ℕ) (r : Ready n ids) (fits : x ≤ 1844674407
             let p = r .spare (low + half - 1) m (omega (arith, a .within, r .long)) in
             absurd (omega arith)
 
-    pub search-lower : x ≤ getD ids (low + half - 1) 0 → Left ids n x low (left - half)
+    search-lower : x ≤ getD ids (low + half - 1) 0 → Left ids n x low (left - half)
     search-lower h =
         record {
           some = omega arith;
@@ -113,6 +113,24 @@ module _ (ids : List ℕ) (n x : ℕ) (r : Ready n ids) (fits : x ≤ 1844674407
           below = a .below;
           above = inr (λ k l m. let p = not-below (low + half - 1) k (omega arith) m in omega arith);
         }
+
+    -- a turn: a half is gone past, or not
+    module _ (p : ℕ) (e : p ≡ cond (ltb (getD ids (low + half - 1) 0) x) half 0) where
+      pub turn-less : p ≤ half
+      turn-less = go (ltb (getD ids (low + half - 1) 0) x) e
+        where
+          go : (b : Bool) → p ≡ cond b half 0 → p ≤ half
+          go true f = omega arith
+          go false f = omega arith
+
+      pub search-turn : Left ids n x (low + p) (left - half)
+      search-turn = go (ltb (getD ids (low + half - 1) 0) x) refl e
+        where
+          go : (b : Bool) → ltb (getD ids (low + half - 1) 0) x ≡ b → p ≡ cond b half 0 → Left ids n x (low + p) (left - half)
+          go true t f = rw f (search-upper (ltb-true (getD ids (low + half - 1) 0) x t))
+          go false t f =
+              let z : low + p ≡ low = omega arith in
+              rw z (search-lower (ltb-false (getD ids (low + half - 1) 0) x t))
 
   module _ (low left : ℕ) (a : Left ids n x low left) (one : left ≤ 1) where
     pub search-ends : (low < n → getD ids low 0 ≡ x → ⊥) → Nothing ≡ rowWith x (take n ids)

@@ -1,7 +1,9 @@
 // The ids of a table's rows, side by side in an array, and the row with an id. They lie close together there, and no step of the search is a jump that the
 // processor could guess wrong: a search does not wait for the one before it.
 ghost use mathlib.Core.Path.{_≡_};
+ghost use mathlib.Core.Bool.{cond};
 ghost use Prim.Native.Nat.{_*_, _≤_, _<_};
+ghost use lib.Dec.{ltb};
 ghost use lib.ListN.{length, take};
 ghost use Rattle.lists.specs.Rows.{keys, rowWith};
 ghost use Rattle.row_ids.specs.Listed.{Spare, Listed, Ready};
@@ -25,6 +27,16 @@ pub fn list_ids(rows: &[u64], s: usize, n: usize, ids: &mut [u64])
     }
 }
 
+// A half to go past, or nothing: a sum, where a choice between two places would become a jump.
+fn past(key: u64, id: u64, half: usize) -> usize
+    ensures { λ r. ⌜ r ≡ cond (ltb key id) half 0 ⌝ }
+{
+    if key < id {
+        return half;
+    }
+    0
+}
+
 // The row of the first n that has an id, by halves of the whole array, whose size is known before.
 fn find_listed(ids: &[u64], n: usize, id: u64) -> Found
     requires { ⌜ Ready n (now ids) ⌝ }
@@ -34,9 +46,7 @@ fn find_listed(ids: &[u64], n: usize, id: u64) -> Found
     let mut left = ROOM;
     while 1 < left {
         let half = left / 2;
-        if ids[low + half - 1] < id {
-            low += half;
-        }
+        low += past(ids[low + half - 1], id, half);
         left -= half;
     }
     if low < n {

@@ -2,12 +2,13 @@ use Rattle.row_ids.proofs.find_listed.Statement.{statement}
 use Rattle.row_ids.proofs.find_listed.Tie as tie
 use Rattle.row_ids.proofs.find_listed.Reads as reads
 use Rattle.row_ids.proofs.find_listed.Lts as lts
-use Prim.Native.Nat.{_+_, _-_, _*_, _≤_, _<_}
+use Rattle.row_ids.proofs.past.Reads as past-reads
+use Prim.Native.Nat.{_+_, _-_, _*_, _/_, _≤_, _<_}
 use mathlib.Core.Path.{_≡_, refl}
 use native.Mathlib.Omega.{arith}
 use lib.ListN.{length, take}
-use mathlib.Core.Logic.{⊎-elim}
-use Rattle.row_ids.proofs.Laws.{Left, search-all, search-upper, search-lower, search-found, search-ends}
+use borrow.Author.Needs.{needs}
+use Rattle.row_ids.proofs.Laws.{Left, search-all, turn-less, search-turn, search-found, search-ends}
 
 abbrev Inv-loop : tie.InvT-loop
 Inv-loop ids n id low₀ left₀ low left = Left ids n id low left
@@ -18,74 +19,83 @@ abbrev μ-loop : tie.MeasureT-loop
 fits : (c : tie.Start Inv-loop μ-loop) → c .args .id ≤ 18446744073709551615
 fits c = omega (arith, c .good .1 .1 .0 .1)
 
--- src/lib.rt:35:5
+less : (c : tie.After-past Inv-loop μ-loop) → c .past .result ≤ c .before .before .before .loop .left / 2
+less c =
+    let b = c .before .before .before .before .before in
+    let l = c .before .before .before .loop in
+    turn-less (b .args .ids .now) (b .args .n) (b .args .id) (b .pre) (fits b) (l .low) (l .left) (l .inv) (c .before .before .loop-test .taken) (c .past .result) (c .past .ensures)
+
+-- src/lib.rt:47:5
 loop-holds : tie.Need-loop-holds Inv-loop μ-loop
-loop-holds c = search-all (c .args .ids .now) (c .args .n) (c .args .id) (c .pre) (fits c)
+loop-holds c = search-all (c .before .args .ids .now) (c .before .args .n) (c .before .args .id) (c .before .pre) (fits (c .before))
 
--- src/lib.rt:37:16
-add-if1 : tie.Need-add-if1 Inv-loop μ-loop
-add-if1 c = omega (arith, c .before .loop .inv .within)
+-- src/lib.rt:49:25
+add-past : tie.Need-add-past Inv-loop μ-loop
+add-past c = omega (arith, c .before .loop .inv .within)
 
--- src/lib.rt:37:16
-sub-if1 : tie.Need-sub-if1 Inv-loop μ-loop
-sub-if1 c = omega arith
+-- src/lib.rt:49:25
+sub-past : tie.Need-sub-past Inv-loop μ-loop
+sub-past c = omega (arith, c .loop-test .taken)
 
--- src/lib.rt:37:12
-mul-if1 : tie.Need-mul-if1 Inv-loop μ-loop
-mul-if1 c = omega (arith, c .before .loop .inv .within)
+-- src/lib.rt:49:21
+mul-past : tie.Need-mul-past Inv-loop μ-loop
+mul-past c = omega (arith, c .before .loop .inv .within)
 
--- src/lib.rt:37:12
-shared-slice-read-if1 : tie.Need-shared-slice-read-if1 Inv-loop μ-loop
-shared-slice-read-if1 c = omega (arith, c .before .before .loop .inv .within, c .before .before .before .pre .long)
+-- src/lib.rt:49:21
+shared-slice-read-past : tie.Need-shared-slice-read-past Inv-loop μ-loop
+shared-slice-read-past c = omega (arith, c .before .before .loop .inv .within, c .before .before .before .before .pre .long)
 
--- src/lib.rt:38:13
+-- src/lib.rt:49:16
+past-requires : tie.Need-past-requires Inv-loop μ-loop
+past-requires c κs = search needs
+
+-- src/lib.rt:49:9
 add-low : tie.Need-add-low Inv-loop μ-loop
-add-low c = omega (arith, c .before .before .before .loop .inv .within)
+add-low c = omega (arith, c .before .before .before .loop .inv .within, less (c))
 
--- src/lib.rt:40:9
+-- src/lib.rt:50:9
 sub-left : tie.Need-sub-left Inv-loop μ-loop
-sub-left c = omega arith
+sub-left c = omega (arith, c .before .before .loop-test .taken)
 
--- src/lib.rt:35:5
+-- src/lib.rt:47:5
 loop-less : tie.Need-loop-less Inv-loop μ-loop
-loop-less c = omega (arith, c .before .before .before .loop .inv .within)
+loop-less c = omega (arith, c .before .before .loop-test .taken)
 
--- src/lib.rt:35:5
+-- src/lib.rt:47:5
 loop-again : tie.Need-loop-again Inv-loop μ-loop
 loop-again c =
-    let b = c .before .before .before .before in
+    let b = c .before .before .before .before .before in
     let l = c .before .before .before .loop in
-    ⊎-elim (λ w. rw (w .1) (search-upper (b .args .ids .now) (b .args .n) (b .args .id) (b .pre) (fits b) (l .low) (l .left) (l .inv) (c .before .before .loop-test .taken) (w .0 .taken)))
-    (λ w. rw (w .1) (search-lower (b .args .ids .now) (b .args .n) (b .args .id) (b .pre) (fits b) (l .low) (l .left) (l .inv) (c .before .before .loop-test .taken) (omega (arith, w .0 .left)))) (c .if1 .came)
+    search-turn (b .args .ids .now) (b .args .n) (b .args .id) (b .pre) (fits b) (l .low) (l .left) (l .inv) (c .before .before .loop-test .taken) (c .past .result) (c .past .ensures)
 
--- src/lib.rt:43:12
-mul-if3 : tie.Need-mul-if3 Inv-loop μ-loop
-mul-if3 c = omega (arith, c .before .before .before .pre .few, c .if2 .taken)
+-- src/lib.rt:53:12
+mul-if2 : tie.Need-mul-if2 Inv-loop μ-loop
+mul-if2 c = omega (arith, c .before .before .before .before .pre .few, c .if1 .taken)
 
--- src/lib.rt:43:12
-shared-slice-read-if3 : tie.Need-shared-slice-read-if3 Inv-loop μ-loop
-shared-slice-read-if3 c = omega (arith, c .before .before .before .before .pre .long, c .before .before .before .before .pre .few, c .before .if2 .taken)
+-- src/lib.rt:53:12
+shared-slice-read-if2 : tie.Need-shared-slice-read-if2 Inv-loop μ-loop
+shared-slice-read-if2 c = omega (arith, c .before .before .before .before .before .pre .long, c .before .before .before .before .before .pre .few, c .before .if1 .taken)
 
--- src/lib.rt:44:13
+-- src/lib.rt:54:13
 returns : tie.Need-returns Inv-loop μ-loop
 returns c =
-    let b = c .before .before .before .before .before in
+    let b = c .before .before .before .before .before .before in
     let l = c .before .before .before .before .loop in
-    search-found (b .args .ids .now) (b .args .n) (b .args .id) (b .pre) (fits b) (l .low) (c .before .before .if2 .taken) (c .if3 .taken)
+    search-found (b .args .ids .now) (b .args .n) (b .args .id) (b .pre) (fits b) (l .low) (c .before .before .if1 .taken) (c .if2 .taken)
 
--- src/lib.rt:29:1
+-- src/lib.rt:41:1
 returns-2 : tie.Need-returns-2 Inv-loop μ-loop
 returns-2 c =
-    let b = c .before .before .before .before .before in
+    let b = c .before .before .before .before .before .before in
     let l = c .before .before .before .before .loop in
-    search-ends (b .args .ids .now) (b .args .n) (b .args .id) (b .pre) (fits b) (l .low) (l .left) (l .inv) (omega (arith, c .before .before .before .loop-test .left)) (λ h e. c .if3 .left e)
+    search-ends (b .args .ids .now) (b .args .n) (b .args .id) (b .pre) (fits b) (l .low) (l .left) (l .inv) (omega (arith, c .before .before .before .loop-test .left)) (λ h e. c .if2 .left e)
 
--- src/lib.rt:29:1
+-- src/lib.rt:41:1
 returns-3 : tie.Need-returns-3 Inv-loop μ-loop
 returns-3 c =
-    let b = c .before .before .before in
+    let b = c .before .before .before .before in
     let l = c .before .before .loop in
-    search-ends (b .args .ids .now) (b .args .n) (b .args .id) (b .pre) (fits b) (l .low) (l .left) (l .inv) (omega (arith, c .before .loop-test .left)) (λ h e. omega (arith, c .if2 .left))
+    search-ends (b .args .ids .now) (b .args .n) (b .args .id) (b .pre) (fits b) (l .low) (l .left) (l .inv) (omega (arith, c .before .loop-test .left)) (λ h e. omega (arith, c .if1 .left))
 
 pub find-listed-spec : {M : Type 1} → statement M
 find-listed-spec =
@@ -94,16 +104,17 @@ find-listed-spec =
     Inv-loop
     μ-loop
     loop-holds
-    add-if1
-    sub-if1
-    mul-if1
-    shared-slice-read-if1
+    add-past
+    sub-past
+    mul-past
+    shared-slice-read-past
+    past-requires
     add-low
     sub-left
     loop-less
     loop-again
-    mul-if3
-    shared-slice-read-if3
+    mul-if2
+    shared-slice-read-if2
     returns
     returns-2
     returns-3)
