@@ -221,7 +221,7 @@ pub fn sound() -> bool {
             [tested(&m), lent, editor]
         });
         println!(
-            "{name:24}{:>7}{:>7}{:>8}{rust:>10.1}{lent:>14.1}{editor:>12.1}{:>8.2}",
+            "{name:24}{:>7}{:>7}{:>8}{rust:>10.2}{lent:>14.2}{editor:>12.2}{:>8.2}",
             m.lane_count(),
             tables.rows(LANES).map(|r| r[lane::SUCCESSORS]).sum::<u64>(),
             lines(&m).iter().map(|l| l.len()).sum::<usize>(),

@@ -23,7 +23,7 @@ use tables::RIGHT_SLOT;
 use tables::SUCCESSORS;
 
 // Link k of the lane in row i: its lane is there and has row i's lane at its cursor, which moves on.
-fn link_met(t: &[u64], ids: &[u64], met: &mut [u64], i: usize, k: usize) -> bool
+fn link_met(t: &[u64], ids: &[u64], met: &mut [u8], i: usize, k: usize) -> bool
     requires { ⌜ (M.Indexed (now t) (now ids) × (M.linksAscend (now t) ≡ true)) × ((i < word 0 (now t)) × ((k < word 35 (R.laneAt (now t) i)) × (now met ≡ M.cursors (now t) i k))) ⌝ }
     ensures { λ r. ⌜ (r ≡ M.linkMet (now (t .entry)) i (getD (idsAt 35 (R.laneAt (now (t .entry)) i)) k 0)) × (r ≡ true → now (met .exit) ≡ M.cursors (now (t .entry)) i (k + 1)) ⌝ }
 {
@@ -35,7 +35,7 @@ fn link_met(t: &[u64], ids: &[u64], met: &mut [u64], i: usize, k: usize) -> bool
     };
     let before = 1 + j * LANE + PREDECESSORS;
     let cursor = met[j];
-    if cursor < t[before] {
+    if (cursor as u64) < t[before] {
         met[j] = cursor + 1;
         return t[before + 1 + cursor as usize] == t[at];
     }
@@ -43,7 +43,7 @@ fn link_met(t: &[u64], ids: &[u64], met: &mut [u64], i: usize, k: usize) -> bool
 }
 
 // The links of the lane in row i.
-fn lane_met(t: &[u64], ids: &[u64], met: &mut [u64], i: usize) -> bool
+fn lane_met(t: &[u64], ids: &[u64], met: &mut [u8], i: usize) -> bool
     requires { ⌜ (M.Indexed (now t) (now ids) × (M.linksAscend (now t) ≡ true)) × ((i < word 0 (now t)) × (now met ≡ M.cursors (now t) i 0)) ⌝ }
     ensures { λ r. ⌜ (r ≡ M.laneMet (now (t .entry)) i) × (r ≡ true → now (met .exit) ≡ M.cursors (now (t .entry)) (i + 1) 0) ⌝ }
 {
@@ -60,13 +60,13 @@ fn lane_met(t: &[u64], ids: &[u64], met: &mut [u64], i: usize) -> bool
 }
 
 // Whether every cursor is at the end of its lane's predecessors.
-fn ends_met(t: &[u64], met: &[u64]) -> bool
+fn ends_met(t: &[u64], met: &[u8]) -> bool
     requires { ⌜ (R.searchable (now t) ≡ true) × (length (now met) ≡ word 0 (now t)) ⌝ }
     ensures { λ r. ⌜ r ≡ sameNumbers (now (met .entry)) (rows 52 (word 18) (now (t .entry))) ⌝ }
 {
     let mut j = 0;
     while j < met.len() {
-        if met[j] == t[1 + j * LANE + PREDECESSORS] {
+        if met[j] as u64 == t[1 + j * LANE + PREDECESSORS] {
             j += 1;
         } else {
             return false;
@@ -76,7 +76,7 @@ fn ends_met(t: &[u64], met: &[u64]) -> bool
 }
 
 // The pass, from cursors at the front of every list.
-fn all_met(t: &[u64], ids: &[u64], met: &mut [u64]) -> bool
+fn all_met(t: &[u64], ids: &[u64], met: &mut [u8]) -> bool
     requires { ⌜ (M.Indexed (now t) (now ids) × (M.linksAscend (now t) ≡ true)) × (now met ≡ M.cursors (now t) 0 0) ⌝ }
     ensures { λ r. ⌜ r ≡ all (λ b. b) (rows 52 (R.laneReturned (now (t .entry))) (now (t .entry))) ⌝ }
 {

@@ -1,9 +1,6 @@
+-- `link_tests::all_met` meets its contract. The invariant: the lanes before i are met, and the cursors count their links. The measure is how many are left. Assumes nothing.
 use Rattle.link_tests.proofs.all_met.Statement.{statement}
 use Rattle.link_tests.proofs.all_met.Tie as tie
-use Rattle.link_tests.proofs.all_met.Reads as reads
-use Rattle.link_tests.proofs.all_met.Lts as lts
-use Rattle.link_tests.proofs.ends_met.Reads as ends-met-reads
-use Rattle.link_tests.proofs.lane_met.Reads as lane-met-reads
 use mathlib.Core.Path.{_≡_, refl, sym, ap, _∙_}
 use mathlib.Core.Bool.{true}
 use mathlib.Core.Logic.{⊎-elim}
@@ -24,52 +21,41 @@ Inv-loop t ids met₀ n i₀ met i = (i ≤ n) × ((length met ≡ length met₀
 abbrev μ-loop : tie.MeasureT-loop
 μ-loop t ids met₀ n i₀ met i = n - i
 
--- src/lib.rt:84:13
 shared-slice-read-n : tie.Need-shared-slice-read-n Inv-loop μ-loop
 shared-slice-read-n c = omega (arith, lanes-some (c .before .before .before .before .args .t .now) (c .before .before .before .before .pre .0 .0 .sorted))
 
--- src/lib.rt:86:5
 loop-holds : tie.Need-loop-holds Inv-loop μ-loop
 loop-holds c = (omega arith, (refl, (c .before .before .before .before .pre .1, λ j h. absurd (omega arith))))
 
--- src/lib.rt:87:12
 lane-met-requires : tie.Need-lane-met-requires Inv-loop μ-loop
 lane-met-requires c κs = (c .before .before .before .before .before .before .before .pre .0, (c .before .loop-test .taken, c .before .before .loop .inv .1 .1 .0))
 
--- src/lib.rt:88:13
 add-i : tie.Need-add-i Inv-loop μ-loop
 add-i c = omega (arith, lanes-few (c .before .before .before .before .before .before .before .before .before .before .before .args .t .now) (c .before .before .before .before .before .before .before .before .before .before .before .pre .0 .0 .sorted), c .before .before .before .before .before .loop-test .taken)
 
--- src/lib.rt:86:5
 loop-less : tie.Need-loop-less Inv-loop μ-loop
 loop-less c = omega (arith, c .before .before .before .before .before .loop-test .taken)
 
--- src/lib.rt:86:5
 loop-again : tie.Need-loop-again Inv-loop μ-loop
 loop-again c =
     let l = c .before .before .before .lane-met in
     let v = c .before .before .before .before .before .before .loop .inv in
     (omega (arith, c .before .before .before .before .before .loop-test .taken), (l .kept .1 .1 .0 ∙ v .1 .0, (l .ensures .1 (c .if1 .taken), λ j h. ⊎-elim (λ e. rw e (sym (l .ensures .0) ∙ c .if1 .taken)) (λ g. v .1 .1 .1 j g) (eq-or-lt-of-le (le-of-suc-le-suc (rw add-one at h))))))
 
--- src/lib.rt:90:13
 same-length : tie.Need-same-length Inv-loop μ-loop
 same-length c = c .before .before .before .lane-met .kept .1 .1 .0 ∙ c .before .before .before .before .before .before .loop .inv .1 .0
 
--- src/lib.rt:90:13
 returns : tie.Need-returns Inv-loop μ-loop
 returns c =
     let b = c .before .before .before .before .before .before .before .before .before .before .before in
     lane-stops (b .args .t .now) (b .pre .0 .0 .sorted) (b .pre .0 .1) (c .before .before .before .before .before .before .loop .i) (c .before .before .before .before .before .loop-test .taken) (sym (c .before .before .before .lane-met .ensures .0) ∙ c .if1 .left)
 
--- src/lib.rt:93:5
 ends-met-requires : tie.Need-ends-met-requires Inv-loop μ-loop
 ends-met-requires c κs = let b = c .before .before .before .before .before .before .before in (b .pre .0 .0 .sorted, ap length (c .before .before .loop .inv .1 .1 .0) ∙ cursors-many (b .args .t .now) (c .before .before .loop .i) 0)
 
--- src/lib.rt:80:1
 same-length-2 : tie.Need-same-length-2 Inv-loop μ-loop
 same-length-2 c = c .before .before .before .loop .inv .1 .0
 
--- src/lib.rt:80:1
 returns-2 : tie.Need-returns-2 Inv-loop μ-loop
 returns-2 c =
     let b = c .before .before .before .before .before .before .before .before in

@@ -1,7 +1,6 @@
+-- `link_tests::ends_met` meets its contract. The invariant: the cursors are the counts where those from j on are. The measure is how many are left. Assumes nothing.
 use Rattle.link_tests.proofs.ends_met.Statement.{statement}
 use Rattle.link_tests.proofs.ends_met.Tie as tie
-use Rattle.link_tests.proofs.ends_met.Reads as reads
-use Rattle.link_tests.proofs.ends_met.Lts as lts
 use mathlib.Core.Path.{_≡_, refl, sym, _∙_}
 use Prim.Native.Nat.{ℕ, _+_, _-_, _*_, _≤_, _<_}
 use native.Mathlib.Omega.{arith}
@@ -39,55 +38,42 @@ turn c =
     let n : j < length (rows 52 (word 18) t) = rw (counts-many t) (below c) in
     rw (← count-at t j (below c)) (same-step (c .before .before .args .met .now) (rows 52 (word 18) t) j (c .loop-test .taken) n)
 
--- src/lib.rt:69:5
 loop-holds : tie.Need-loop-holds Inv-loop μ-loop
 loop-holds c = (omega arith, refl)
 
--- src/lib.rt:70:12
-mul-if1 : tie.Need-mul-if1 Inv-loop μ-loop
-mul-if1 c = omega arith
-
--- src/lib.rt:70:12
 shared-slice-read-if1 : tie.Need-shared-slice-read-if1 Inv-loop μ-loop
 shared-slice-read-if1 c = omega arith
 
--- src/lib.rt:70:28
-mul-if1-2 : tie.Need-mul-if1-2 Inv-loop μ-loop
-mul-if1-2 c = omega (arith, row-in (c .before))
+cast-if1 : tie.Need-cast-if1 Inv-loop μ-loop
+cast-if1 c = omega (arith, c .shared-slice-known .given (c .before .before .loop .j))
 
--- src/lib.rt:70:24
+mul-if1 : tie.Need-mul-if1 Inv-loop μ-loop
+mul-if1 c = omega (arith, row-in (c .before))
+
 add-if1 : tie.Need-add-if1 Inv-loop μ-loop
 add-if1 c = omega (arith, row-in (c .before))
 
--- src/lib.rt:70:24
 add-if1-2 : tie.Need-add-if1-2 Inv-loop μ-loop
 add-if1-2 c = omega (arith, row-in (c .before))
 
--- src/lib.rt:70:22
-mul-if1-3 : tie.Need-mul-if1-3 Inv-loop μ-loop
-mul-if1-3 c = omega (arith, row-in (c .before))
+mul-if1-2 : tie.Need-mul-if1-2 Inv-loop μ-loop
+mul-if1-2 c = omega (arith, row-in (c .before))
 
--- src/lib.rt:70:22
 shared-slice-read-if1-2 : tie.Need-shared-slice-read-if1-2 Inv-loop μ-loop
 shared-slice-read-if1-2 c = omega (arith, row-in (c .before .before))
 
--- src/lib.rt:71:13
 add-j : tie.Need-add-j Inv-loop μ-loop
 add-j c = omega arith
 
--- src/lib.rt:69:5
 loop-less : tie.Need-loop-less Inv-loop μ-loop
 loop-less c = omega arith
 
--- src/lib.rt:69:5
 loop-again : tie.Need-loop-again Inv-loop μ-loop
 loop-again c = (omega arith, c .before .before .before .before .loop .inv .1 ∙ (turn (c .before .before .before) ∙ rw (eq-eqb _ _ (c .if1 .taken))))
 
--- src/lib.rt:73:13
 returns : tie.Need-returns Inv-loop μ-loop
 returns c = sym (c .before .before .before .before .loop .inv .1 ∙ (turn (c .before .before .before) ∙ rw (ne-eqb _ _ (c .if1 .left))))
 
--- src/lib.rt:64:1
 returns-2 : tie.Need-returns-2 Inv-loop μ-loop
 returns-2 c = let b = c .before .before in let v = c .loop-test .left in sym (c .before .loop .inv .1 ∙ same-end (b .args .met .now) (rows 52 (word 18) (b .args .t .now)) (c .before .loop .j) (omega arith) (omega (arith, counts-many (b .args .t .now), b .pre .1)))
 
@@ -98,12 +84,12 @@ ends-met-spec =
     Inv-loop
     μ-loop
     loop-holds
-    mul-if1
     shared-slice-read-if1
-    mul-if1-2
+    cast-if1
+    mul-if1
     add-if1
     add-if1-2
-    mul-if1-3
+    mul-if1-2
     shared-slice-read-if1-2
     add-j
     loop-less

@@ -1,8 +1,7 @@
+-- `link_tests::lane_met` meets its contract. The invariant: the cursors count the links before k, and the lane's links are met where those from k on are. The measure
+-- is how many are left. Assumes nothing.
 use Rattle.link_tests.proofs.lane_met.Statement.{statement}
 use Rattle.link_tests.proofs.lane_met.Tie as tie
-use Rattle.link_tests.proofs.lane_met.Reads as reads
-use Rattle.link_tests.proofs.lane_met.Lts as lts
-use Rattle.link_tests.proofs.link_met.Reads as link-met-reads
 use mathlib.Core.Path.{_≡_, refl, sym, ap, _∙_}
 use mathlib.Core.List.{List}
 use mathlib.Core.Bool.{true, _&&_, true≢false}
@@ -52,64 +51,50 @@ turn c =
     let s = idsAt 35 (laneAt (words b) (b .args .i)) in
     c .before .loop .inv .1 .1 .1 ∙ all-step (linkMet (words b) (b .args .i)) s (c .before .loop .k) 0 (rw (length-after (words b) (sorted b) (b .args .i) (b .pre .1 .0), ← count-is b) (c .loop-test .taken))
 
--- src/lib.rt:51:23
 mul-count : tie.Need-mul-count Inv-loop μ-loop
 mul-count c = omega (arith, room (c .before .before .before))
 
--- src/lib.rt:51:19
 add-count : tie.Need-add-count Inv-loop μ-loop
 add-count c = omega (arith, room (c .before .before .before))
 
--- src/lib.rt:51:19
 add-count-2 : tie.Need-add-count-2 Inv-loop μ-loop
 add-count-2 c = omega (arith, room (c .before .before .before))
 
--- src/lib.rt:51:17
 mul-count-2 : tie.Need-mul-count-2 Inv-loop μ-loop
 mul-count-2 c = omega (arith, room (c .before .before .before))
 
--- src/lib.rt:51:17
 shared-slice-read-count : tie.Need-shared-slice-read-count Inv-loop μ-loop
 shared-slice-read-count c = omega (arith, room (c .before .before .before .before))
 
--- src/lib.rt:53:5
 loop-holds : tie.Need-loop-holds Inv-loop μ-loop
 unfolding laneMet
 loop-holds c = (omega arith, (refl, (c .before .before .before .before .pre .1 .1, refl)))
 
--- src/lib.rt:54:12
 link-met-requires : tie.Need-link-met-requires Inv-loop μ-loop
 link-met-requires c κs = let b = c .before .before .before .before .before .before .before in (b .pre .0, (b .pre .1 .0, (rw (← count-is b) (c .before .loop-test .taken), c .before .before .loop .inv .1 .1 .0)))
 
--- src/lib.rt:55:13
 add-k : tie.Need-add-k Inv-loop μ-loop
 add-k c = omega (arith, few (c .before .before .before .before .before .before .before .before .before .before .before), c .before .before .before .before .before .loop-test .taken)
 
--- src/lib.rt:53:5
 loop-less : tie.Need-loop-less Inv-loop μ-loop
 loop-less c = omega (arith, c .before .before .before .before .before .loop-test .taken)
 
--- src/lib.rt:53:5
 loop-again : tie.Need-loop-again Inv-loop μ-loop
 loop-again c =
     let l = c .before .before .before .link-met in
     (omega (arith, c .before .before .before .before .before .loop-test .taken), (l .kept .1 .1 .0 ∙ c .before .before .before .before .before .before .loop .inv .1 .0, (l .ensures .1 (c .if1 .taken), turn (c .before .before .before .before .before) ∙ rw (← l .ensures .0, c .if1 .taken))))
 
--- src/lib.rt:57:13
 same-length : tie.Need-same-length Inv-loop μ-loop
 same-length c = c .before .before .before .link-met .kept .1 .1 .0 ∙ c .before .before .before .before .before .before .loop .inv .1 .0
 
--- src/lib.rt:57:13
 returns : tie.Need-returns Inv-loop μ-loop
 returns c =
     let l = c .before .before .before .link-met in
     (sym (turn (c .before .before .before .before .before) ∙ rw (← l .ensures .0, c .if1 .left)), λ z. absurd (true≢false (sym z)))
 
--- src/lib.rt:47:1
 same-length-2 : tie.Need-same-length-2 Inv-loop μ-loop
 same-length-2 c = c .before .loop .inv .1 .0
 
--- src/lib.rt:47:1
 returns-2 : tie.Need-returns-2 Inv-loop μ-loop
 returns-2 c =
     let b = c .before .before .before .before .before .before in

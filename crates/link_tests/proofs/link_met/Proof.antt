@@ -1,9 +1,7 @@
+-- `link_tests::link_met` meets its contract. By the three ways out: the lane is absent, its list has a place for the link, its list is at its end. Assumes nothing.
 use borrow.Author.Needs.{needs}
 use Rattle.link_tests.proofs.link_met.Statement.{statement}
 use Rattle.link_tests.proofs.link_met.Tie as tie
-use Rattle.link_tests.proofs.link_met.Reads as reads
-use Rattle.link_tests.proofs.link_met.Lts as lts
-use Rattle.row_ids.proofs.find_id.Reads as find-id-reads
 use mathlib.Core.Path.{_≡_, refl, sym, ap, _∙_}
 use mathlib.Core.List.{List}
 use mathlib.Core.Bool.{true, true≢false}
@@ -66,126 +64,96 @@ count c = word-at (words (c .before .before .before .before .before .before .bef
 before : (c : tie.After-found) → 18 + 1 + word 18 (laneAt (words (c .before .before .before .before .before .before .before .before)) (row c)) ≤ 52
 before c = let b = c .before .before .before .before .before .before .before .before in omega (arith, links-within (words b) (sorted b) (row c) (low c) 18 (inl refl), count c)
 
--- src/lib.rt:31:18
 mul-at : tie.Need-mul-at
 mul-at c = omega (arith, room (c .before .before .before))
 
--- src/lib.rt:31:14
 add-at : tie.Need-add-at
 add-at c = omega (arith, room (c .before .before .before))
 
--- src/lib.rt:32:13
 shared-slice-read-n : tie.Need-shared-slice-read-n
 shared-slice-read-n c = omega (arith, room (c .before .before .before .before))
 
--- src/lib.rt:33:44
 add-find-id : tie.Need-add-find-id
 add-find-id c = omega (arith, room (c .before .before .before .before))
 
--- src/lib.rt:33:44
 add-find-id-2 : tie.Need-add-find-id-2
 add-find-id-2 c = omega (arith, room (c .before .before .before .before))
 
--- src/lib.rt:33:44
 add-find-id-3 : tie.Need-add-find-id-3
 add-find-id-3 c = omega (arith, room (c .before .before .before .before), after (c .before .before .before .before), c .before .before .before .before .pre .1 .1 .0)
 
--- src/lib.rt:33:42
 mul-find-id : tie.Need-mul-find-id
 mul-find-id c = omega (arith, room (c .before .before .before .before), after (c .before .before .before .before), c .before .before .before .before .pre .1 .1 .0)
 
--- src/lib.rt:33:42
 shared-slice-read-find-id : tie.Need-shared-slice-read-find-id
 shared-slice-read-find-id c = omega (arith, room (c .before .before .before .before .before), after (c .before .before .before .before .before), c .before .before .before .before .before .pre .1 .1 .0)
 
--- src/lib.rt:33:9
 find-id-requires : tie.Need-find-id-requires
 find-id-requires c κs = (c .before .before .before .before .before .pre .1 .0, ids-ready (words (c .before .before .before .before .before)) (c .before .before .before .before .before .args .ids .now) (c .before .before .before .before .before .pre .0 .0))
 
--- src/lib.rt:34:19
 enum-known-found : tie.Need-enum-known-found
 enum-known-found c = search needs
 
--- src/lib.rt:35:9
 enum-told : tie.Need-enum-told
 enum-told c = search needs
 
--- src/lib.rt:35:9
 returns : tie.Need-returns
 returns c =
     let b = c .before .before .before .before .before .before .before .before in
     let e = link-absent (words b) (sorted b) (b .pre .0 .1) (b .args .i) (b .pre .1 .0) (b .args .k) (b .pre .1 .1 .0) (sought (c .before .before) ∙ c .enum-told .given .1) in
     (e, λ z. absurd (true≢false (sym z)))
 
--- src/lib.rt:37:22
 mul-before : tie.Need-mul-before
 mul-before c = omega (arith, there (c .before))
 
--- src/lib.rt:37:18
 add-before : tie.Need-add-before
 add-before c = omega (arith, there (c .before))
 
--- src/lib.rt:37:18
 add-before-2 : tie.Need-add-before-2
 add-before-2 c = omega (arith, there (c .before))
 
--- src/lib.rt:38:18
-mul-cursor : tie.Need-mul-cursor
-mul-cursor c = omega (arith, there (c .before))
-
--- src/lib.rt:38:18
 slice-read-cursor : tie.Need-slice-read-cursor
 slice-read-cursor c = rw (many (c .before .before .before .before .before .before .before .before .before .before)) (low (c .before .before))
 
--- src/lib.rt:39:17
+cast-if1 : tie.Need-cast-if1
+cast-if1 c = omega (arith, c .slice-known2 .given (row (c .before .before)))
+
 mul-if1 : tie.Need-mul-if1
 mul-if1 c = omega (arith, there (c .before .before))
 
--- src/lib.rt:39:17
 shared-slice-read-if1 : tie.Need-shared-slice-read-if1
 shared-slice-read-if1 c = omega (arith, there (c .before .before .before))
 
--- src/lib.rt:40:18
 add-met : tie.Need-add-met
 add-met c = omega (arith, before (c .before .before .before .before), count (c .before .before .before .before), c .if1 .taken)
 
--- src/lib.rt:40:9
-mul-met : tie.Need-mul-met
-mul-met c = omega (arith, there (c .before .before .before .before))
-
--- src/lib.rt:40:9
 slice-write-met : tie.Need-slice-write-met
 slice-write-met c = rw (many (c .before .before .before .before .before .before .before .before .before .before .before .before)) (low (c .before .before .before .before))
 
--- src/lib.rt:41:18
 add-result : tie.Need-add-result
 add-result c = omega (arith, there (c .before .before .before .before))
 
--- src/lib.rt:41:18
+cast-result : tie.Need-cast-result
+cast-result c = omega (arith, before (c .before .before .before .before), count (c .before .before .before .before), c .if1 .taken)
+
 add-result-2 : tie.Need-add-result-2
 add-result-2 c = omega (arith, there (c .before .before .before .before), before (c .before .before .before .before), count (c .before .before .before .before), c .if1 .taken)
 
--- src/lib.rt:41:16
 mul-result : tie.Need-mul-result
 mul-result c = omega (arith, there (c .before .before .before .before), before (c .before .before .before .before), count (c .before .before .before .before), c .if1 .taken)
 
--- src/lib.rt:41:16
 shared-slice-read-result : tie.Need-shared-slice-read-result
 shared-slice-read-result c = omega (arith, there (c .before .before .before .before .before), before (c .before .before .before .before .before), count (c .before .before .before .before .before), c .before .if1 .taken)
 
--- src/lib.rt:41:51
 mul-result-2 : tie.Need-mul-result-2
 mul-result-2 c = omega (arith, room (c .before .before .before .before .before .before .before .before .before .before .before .before .before))
 
--- src/lib.rt:41:51
 shared-slice-read-result-2 : tie.Need-shared-slice-read-result-2
 shared-slice-read-result-2 c = omega (arith, room (c .before .before .before .before .before .before .before .before .before .before .before .before .before .before))
 
--- src/lib.rt:41:9
 same-length : tie.Need-same-length
 same-length c = search needs
 
--- src/lib.rt:41:9
 returns-2 : tie.Need-returns-2
 returns-2 c =
     let b = c .before .before .before .before .before .before .before .before .before .before .before .before .before .before in
@@ -194,7 +162,6 @@ returns-2 c =
       λ z. link-moved (words b) (sorted b) (b .pre .0 .1) (b .args .i) (b .pre .1 .0) (b .args .k) (b .pre .1 .1 .0) (row f) (at f) (b .args .met .now) (b .pre .1 .1 .1),
     )
 
--- src/lib.rt:27:1
 returns-3 : tie.Need-returns-3
 returns-3 c =
     let b = c .before .before .before .before .before .before .before .before .before .before .before .before in
@@ -222,14 +189,14 @@ link-met-spec =
     mul-before
     add-before
     add-before-2
-    mul-cursor
     slice-read-cursor
+    cast-if1
     mul-if1
     shared-slice-read-if1
     add-met
-    mul-met
     slice-write-met
     add-result
+    cast-result
     add-result-2
     mul-result
     shared-slice-read-result

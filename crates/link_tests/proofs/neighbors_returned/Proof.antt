@@ -1,9 +1,6 @@
+-- `link_tests::neighbors_returned` meets its contract. The invariant: every row passes where those from i on do. The measure is how many are left. Assumes nothing.
 use Rattle.link_tests.proofs.neighbors_returned.Statement.{statement}
 use Rattle.link_tests.proofs.neighbors_returned.Tie as tie
-use Rattle.link_tests.proofs.neighbors_returned.Reads as reads
-use Rattle.link_tests.proofs.neighbors_returned.Lts as lts
-use Rattle.link_tests.proofs.slot_returned.Reads as slot-returned-reads
-use Rattle.lists.proofs.both.Reads as both-reads
 use borrow.Author.Needs.{needs}
 use mathlib.Core.Path.{_≡_, refl}
 use mathlib.Core.Logic.{inl, inr}
@@ -27,44 +24,34 @@ tested : (c : tie.After-both Inv-loop μ-loop)
 unfolding slotsReturned
 tested c = rw (lane-row (c .before .before .before .before .before .before .before .before .args .t .now) (c .before .before .before .before .loop .i), c .both .ensures, c .before .before .slot-returned .ensures, c .before .slot-returned2 .ensures)
 
--- src/lib.rt:144:13
 shared-slice-read-n : tie.Need-shared-slice-read-n Inv-loop μ-loop
 shared-slice-read-n c = omega (arith, lanes-some (c .before .before .before .args .t .now) (c .before .before .before .pre .sorted))
 
--- src/lib.rt:146:5
 loop-holds : tie.Need-loop-holds Inv-loop μ-loop
 loop-holds c = let t = c .before .before .before .args .t .now in (omega arith, pass-begins 52 (slotsReturned t) t)
 
--- src/lib.rt:148:13
 slot-returned-requires : tie.Need-slot-returned-requires Inv-loop μ-loop
 slot-returned-requires c κs = (c .before .before .before .before .before .pre, (inl refl, c .loop-test .taken))
 
--- src/lib.rt:149:13
 slot-returned-requires-2 : tie.Need-slot-returned-requires-2 Inv-loop μ-loop
 slot-returned-requires-2 c κs = (c .before .before .before .before .before .before .pre, (inr refl, c .before .loop-test .taken))
 
--- src/lib.rt:147:12
 both-requires : tie.Need-both-requires Inv-loop μ-loop
 both-requires c κs = search needs
 
--- src/lib.rt:151:13
 add-i : tie.Need-add-i Inv-loop μ-loop
 add-i c = omega (arith, lanes-few (c .before .before .before .before .before .before .before .before .before .args .t .now) (c .before .before .before .before .before .before .before .before .before .pre .sorted))
 
--- src/lib.rt:146:5
 loop-less : tie.Need-loop-less Inv-loop μ-loop
 loop-less c = omega arith
 
--- src/lib.rt:146:5
 loop-again : tie.Need-loop-again Inv-loop μ-loop
 loop-again c = let t = c .before .before .before .before .before .before .before .before .before .args .t .now in (omega arith, pass-goes-on 52 (slotsReturned t) t (c .before .before .before .before .before .loop .i) (c .before .before .before .before .before .loop .inv .1) (c .before .both .result) (c .before .before .before .before .loop-test .taken) (tested (c .before)) (c .if1 .taken))
 
--- src/lib.rt:153:13
 returns : tie.Need-returns Inv-loop μ-loop
 unfolding allRows
 returns c = let t = c .before .before .before .before .before .before .before .before .before .args .t .now in pass-stops 52 (slotsReturned t) t (c .before .before .before .before .before .loop .i) (c .before .before .before .before .before .loop .inv .1) (c .before .both .result) (c .before .before .before .before .loop-test .taken) (tested (c .before)) (c .if1 .left)
 
--- src/lib.rt:140:1
 returns-2 : tie.Need-returns-2 Inv-loop μ-loop
 unfolding allRows
 returns-2 c = let t = c .before .before .before .before .before .args .t .now in pass-ends 52 (slotsReturned t) t (c .before .loop .i) (c .before .loop .inv .1) (c .loop-test .left)

@@ -1,11 +1,7 @@
+-- `link_tests::slot_returned` meets its contract. By the three ways out: the slot is empty, its lane is absent, its lane is there. Assumes nothing.
 use borrow.Author.Needs.{needs}
 use Rattle.link_tests.proofs.slot_returned.Statement.{statement}
 use Rattle.link_tests.proofs.slot_returned.Tie as tie
-use Rattle.link_tests.proofs.slot_returned.Reads as reads
-use Rattle.link_tests.proofs.slot_returned.Lts as lts
-use Rattle.link_tests.proofs.answer_place.Reads as answer-place-reads
-use Rattle.lists.proofs.both.Reads as both-reads
-use Rattle.row_ids.proofs.find_id.Reads as find-id-reads
 use mathlib.Core.Path.{_≡_, _∙_}
 use mathlib.Core.Bool.{true}
 use mathlib.Core.List.{List}
@@ -59,115 +55,87 @@ answer c =
     let b = first (c .before .before) in
     rw (c .answer-place .ensures) (answer-within (b .args .k) (getD (words b) (1 + b .args .i * 52 + b .args .k) 0) (b .pre .1 .0))
 
--- src/lib.rt:125:18
 mul-at : tie.Need-mul-at
 mul-at c = omega (arith, room (c .before .before))
 
--- src/lib.rt:125:14
 add-at : tie.Need-add-at
 add-at c = omega (arith, room (c .before .before))
 
--- src/lib.rt:126:18
 add-mark : tie.Need-add-mark
 add-mark c = omega (arith, room (c .before .before), slot (c .before .before))
 
--- src/lib.rt:126:16
 mul-mark : tie.Need-mul-mark
 mul-mark c = omega (arith, room (c .before .before), slot (c .before .before))
 
--- src/lib.rt:126:16
 shared-slice-read-mark : tie.Need-shared-slice-read-mark
 shared-slice-read-mark c = omega (arith, room (c .before .before .before), slot (c .before .before .before))
 
--- src/lib.rt:128:9
 returns : tie.Need-returns
 returns c = let b = c .before .before .before .before in slot-none (words b) (b .args .i) (b .args .k) (slot b) (c .if1 .taken)
 
--- src/lib.rt:130:13
 shared-slice-read-n : tie.Need-shared-slice-read-n
 shared-slice-read-n c = omega (arith, room (c .before .before .before .before .before))
 
--- src/lib.rt:131:44
 add-find-id : tie.Need-add-find-id
 add-find-id c = omega (arith, room (c .before .before .before .before .before), slot (c .before .before .before .before .before))
 
--- src/lib.rt:131:44
 add-find-id-2 : tie.Need-add-find-id-2
 add-find-id-2 c = omega (arith, room (c .before .before .before .before .before), slot (c .before .before .before .before .before))
 
--- src/lib.rt:131:42
 mul-find-id : tie.Need-mul-find-id
 mul-find-id c = omega (arith, room (c .before .before .before .before .before), slot (c .before .before .before .before .before))
 
--- src/lib.rt:131:42
 shared-slice-read-find-id : tie.Need-shared-slice-read-find-id
 shared-slice-read-find-id c = omega (arith, room (c .before .before .before .before .before .before), slot (c .before .before .before .before .before .before))
 
--- src/lib.rt:131:9
 find-id-requires : tie.Need-find-id-requires
 find-id-requires c κs = let b = c .before .before .before .before .before .before in (b .pre .1 .1, ids-ready (words b) (b .args .ids .now) (b .pre .0))
 
--- src/lib.rt:132:19
 enum-known-found : tie.Need-enum-known-found
 enum-known-found c = search needs
 
--- src/lib.rt:133:9
 enum-told : tie.Need-enum-told
 enum-told c = search needs
 
--- src/lib.rt:133:9
 returns-2 : tie.Need-returns-2
 returns-2 c = let b = c .before .before .before .before .before .before .before .before .before in slot-absent (words b) (b .args .i) (b .args .k) (slot b) (c .before .before .before .before .before .if1 .left) (sought (c .before .before) ∙ c .enum-told .given .1)
 
--- src/lib.rt:135:22
 mul-answer : tie.Need-mul-answer
 mul-answer c = omega (arith, there (c .before))
 
--- src/lib.rt:135:18
 add-answer : tie.Need-add-answer
 add-answer c = omega (arith, there (c .before))
 
--- src/lib.rt:135:33
 answer-place-requires : tie.Need-answer-place-requires
 answer-place-requires c κs = search needs
 
--- src/lib.rt:135:18
 add-answer-2 : tie.Need-add-answer-2
 add-answer-2 c = omega (arith, there (c .before .before), answer (c))
 
--- src/lib.rt:136:10
 mul-both : tie.Need-mul-both
 mul-both c = omega (arith, there (c .before .before), answer (c))
 
--- src/lib.rt:136:10
 shared-slice-read-both : tie.Need-shared-slice-read-both
 shared-slice-read-both c = omega (arith, there (c .before .before .before), answer (c .before))
 
--- src/lib.rt:136:31
 add-both : tie.Need-add-both
 add-both c = omega (arith, there (c .before .before .before), answer (c .before))
 
--- src/lib.rt:136:29
 mul-both-2 : tie.Need-mul-both-2
 mul-both-2 c = omega (arith, there (c .before .before .before), answer (c .before))
 
--- src/lib.rt:136:29
 shared-slice-read-both-2 : tie.Need-shared-slice-read-both-2
 shared-slice-read-both-2 c = omega (arith, there (c .before .before .before .before), answer (c .before .before))
 
--- src/lib.rt:136:46
 mul-both-3 : tie.Need-mul-both-3
 mul-both-3 c = omega (arith, room (c .before .before .before .before .before .before .before .before .before .before .before .before .before))
 
--- src/lib.rt:136:46
 shared-slice-read-both-3 : tie.Need-shared-slice-read-both-3
 shared-slice-read-both-3 c = omega (arith, room (c .before .before .before .before .before .before .before .before .before .before .before .before .before .before))
 
--- src/lib.rt:136:5
 both-requires : tie.Need-both-requires
 both-requires c κs = search needs
 
--- src/lib.rt:121:1
 returns-3 : tie.Need-returns-3
 returns-3 c =
     let b = c .before .before .before .before .before .before .before .before .before .before .before .before .before .before .before in

@@ -1,34 +1,25 @@
+-- `row_ids::find_id` meets its contract: the guess has the id, or the search tells. Assumes nothing.
 use borrow.Author.Needs.{needs}
 use Rattle.row_ids.proofs.find_id.Statement.{statement}
 use Rattle.row_ids.proofs.find_id.Tie as tie
-use Rattle.row_ids.proofs.find_id.Reads as reads
-use Rattle.row_ids.proofs.find_id.Lts as lts
-use Rattle.row_ids.proofs.find_listed.Reads as find-listed-reads
-use Rattle.row_ids.proofs.guess.Reads as guess-reads
 use native.Mathlib.Omega.{arith}
 use Rattle.row_ids.proofs.Laws.{search-found}
 
--- src/lib.rt:73:9
 guess-requires : tie.Need-guess-requires
 guess-requires c κs = search needs
 
--- src/lib.rt:74:8
 mul-if1 : tie.Need-mul-if1
 mul-if1 c = search needs
 
--- src/lib.rt:74:8
 shared-slice-read-if1 : tie.Need-shared-slice-read-if1
 shared-slice-read-if1 c = search needs
 
--- src/lib.rt:75:9
 returns : tie.Need-returns
 returns c = let b = c .before .before .before .before in search-found (b .args .ids .now) (b .args .n) (b .args .id) (b .pre .1) (omega (arith, b .good .1 .1 .0 .1)) (c .before .before .guess .result) (c .before .before .guess .ensures) (c .if1 .taken)
 
--- src/lib.rt:77:5
 find-listed-requires : tie.Need-find-listed-requires
 find-listed-requires c κs = search needs
 
--- src/lib.rt:69:1
 returns-2 : tie.Need-returns-2
 returns-2 c = search needs
 

@@ -1,8 +1,6 @@
+-- `row_ids::find_listed` meets its contract. The invariant: where the search still looks. The measure is how many places are left. Assumes nothing.
 use Rattle.row_ids.proofs.find_listed.Statement.{statement}
 use Rattle.row_ids.proofs.find_listed.Tie as tie
-use Rattle.row_ids.proofs.find_listed.Reads as reads
-use Rattle.row_ids.proofs.find_listed.Lts as lts
-use Rattle.row_ids.proofs.past.Reads as past-reads
 use Prim.Native.Nat.{_+_, _-_, _*_, _/_, _≤_, _<_}
 use mathlib.Core.Path.{_≡_, refl}
 use native.Mathlib.Omega.{arith}
@@ -25,72 +23,57 @@ less c =
     let l = c .before .before .before .loop in
     turn-less (b .args .ids .now) (b .args .n) (b .args .id) (b .pre) (fits b) (l .low) (l .left) (l .inv) (c .before .before .loop-test .taken) (c .past .result) (c .past .ensures)
 
--- src/lib.rt:47:5
 loop-holds : tie.Need-loop-holds Inv-loop μ-loop
 loop-holds c = search-all (c .before .args .ids .now) (c .before .args .n) (c .before .args .id) (c .before .pre) (fits (c .before))
 
--- src/lib.rt:49:25
 add-past : tie.Need-add-past Inv-loop μ-loop
 add-past c = omega (arith, c .before .loop .inv .within)
 
--- src/lib.rt:49:25
 sub-past : tie.Need-sub-past Inv-loop μ-loop
 sub-past c = omega (arith, c .loop-test .taken)
 
--- src/lib.rt:49:21
 mul-past : tie.Need-mul-past Inv-loop μ-loop
 mul-past c = omega (arith, c .before .loop .inv .within)
 
--- src/lib.rt:49:21
 shared-slice-read-past : tie.Need-shared-slice-read-past Inv-loop μ-loop
 shared-slice-read-past c = omega (arith, c .before .before .loop .inv .within, c .before .before .before .before .pre .long)
 
--- src/lib.rt:49:16
 past-requires : tie.Need-past-requires Inv-loop μ-loop
 past-requires c κs = search needs
 
--- src/lib.rt:49:9
 add-low : tie.Need-add-low Inv-loop μ-loop
 add-low c = omega (arith, c .before .before .before .loop .inv .within, less (c))
 
--- src/lib.rt:50:9
 sub-left : tie.Need-sub-left Inv-loop μ-loop
 sub-left c = omega (arith, c .before .before .loop-test .taken)
 
--- src/lib.rt:47:5
 loop-less : tie.Need-loop-less Inv-loop μ-loop
 loop-less c = omega (arith, c .before .before .loop-test .taken)
 
--- src/lib.rt:47:5
 loop-again : tie.Need-loop-again Inv-loop μ-loop
 loop-again c =
     let b = c .before .before .before .before .before in
     let l = c .before .before .before .loop in
     search-turn (b .args .ids .now) (b .args .n) (b .args .id) (b .pre) (fits b) (l .low) (l .left) (l .inv) (c .before .before .loop-test .taken) (c .past .result) (c .past .ensures)
 
--- src/lib.rt:53:12
 mul-if2 : tie.Need-mul-if2 Inv-loop μ-loop
 mul-if2 c = omega (arith, c .before .before .before .before .pre .few, c .if1 .taken)
 
--- src/lib.rt:53:12
 shared-slice-read-if2 : tie.Need-shared-slice-read-if2 Inv-loop μ-loop
 shared-slice-read-if2 c = omega (arith, c .before .before .before .before .before .pre .long, c .before .before .before .before .before .pre .few, c .before .if1 .taken)
 
--- src/lib.rt:54:13
 returns : tie.Need-returns Inv-loop μ-loop
 returns c =
     let b = c .before .before .before .before .before .before in
     let l = c .before .before .before .before .loop in
     search-found (b .args .ids .now) (b .args .n) (b .args .id) (b .pre) (fits b) (l .low) (c .before .before .if1 .taken) (c .if2 .taken)
 
--- src/lib.rt:41:1
 returns-2 : tie.Need-returns-2 Inv-loop μ-loop
 returns-2 c =
     let b = c .before .before .before .before .before .before in
     let l = c .before .before .before .before .loop in
     search-ends (b .args .ids .now) (b .args .n) (b .args .id) (b .pre) (fits b) (l .low) (l .left) (l .inv) (omega (arith, c .before .before .before .loop-test .left)) (λ h e. c .if2 .left e)
 
--- src/lib.rt:41:1
 returns-3 : tie.Need-returns-3 Inv-loop μ-loop
 returns-3 c =
     let b = c .before .before .before .before in
