@@ -75,7 +75,24 @@ fn guess(ids: &[u64], n: usize, id: u64, near: usize) -> usize
     near
 }
 
-// The row of the first n that has an id, looked for from row `near` first.
+// The row beside row `near`, on the side of an id.
+fn beside(ids: &[u64], n: usize, id: u64, near: usize) -> usize
+    requires { ⌜ (n ≤ length (now ids)) × (near < n) ⌝ }
+    ensures { λ r. ⌜ r < n ⌝ }
+{
+    if ids[near] < id {
+        if near + 1 < n {
+            return near + 1;
+        }
+        return near;
+    }
+    if 0 < near {
+        return near - 1;
+    }
+    near
+}
+
+// The row of the first n that has an id: most ids that a lane names stand where the difference of the ids says, or beside it. Nothing rests on these two looks.
 pub fn find_id(ids: &[u64], n: usize, id: u64, near: usize) -> Found
     requires { ⌜ (near < n) × Ready n (now ids) ⌝ }
     ensures { λ r. ⌜ r ≡ rowWith id (take n (now (ids .entry))) ⌝ }
@@ -83,6 +100,10 @@ pub fn find_id(ids: &[u64], n: usize, id: u64, near: usize) -> Found
     let row = guess(ids, n, id, near);
     if ids[row] == id {
         return Found::At(row);
+    }
+    let next = beside(ids, n, id, near);
+    if ids[next] == id {
+        return Found::At(next);
     }
     find_listed(ids, n, id)
 }
