@@ -228,7 +228,21 @@ pub fn sound() -> bool {
             editor / rust,
         );
     }
+    let xyz = crate::cases::plain(&full(128, 0), 40, 400).xyz;
+    let [read] = medians(|_| [timed(|| black_box(read_once(black_box(&xyz)))).0]);
+    println!("the {} coordinates of the full map read once: {read:.1}", xyz.len());
     true
+}
+
+/// The coordinates read once, eight sums side by side: what no test of them can go below.
+fn read_once(xyz: &[f64]) -> f64 {
+    let mut sums = [0.0; 8];
+    for eight in xyz.chunks_exact(8) {
+        for (sum, x) in sums.iter_mut().zip(eight) {
+            *sum += x;
+        }
+    }
+    sums.iter().sum()
 }
 
 /// One call of the editor's test on the map of a name, for a counter of instructions.
@@ -270,6 +284,10 @@ pub fn run() -> bool {
     };
     time("set_neighbor", &plain, neighbor);
     time("remove_lane", &plain, remove);
+    let far = linked(grid_by(100, 10, 8, scattered), DENSE, scattered);
+    let (from, to) = (scattered(500), scattered(510));
+    time("disconnect, dense, scattered", &far, Call::Disconnect { from, to });
+    time("remove_lane, dense, scattered", &far, Call::RemoveLane { lane: from });
     time("merge_lanes", &plain, merge);
     time("split_lane, one lane", &plain, split(false));
     time("split_lane, a group of ten", &plain, split(true));
