@@ -122,8 +122,13 @@ fn time(name: &str, m: &Map, call: Call) {
 /// `rows` rows of eight lanes beside each other, 4,096 boundaries, 65,536 points, 256 roads, 256 junctions and 512 rules: with 128 rows the limits of document 01,
 /// less `spare` boundaries that no lane has.
 fn full(rows: usize, spare: usize) -> Map {
+    full_by(rows, spare, in_order)
+}
+
+/// The same with other ids of lanes.
+fn full_by(rows: usize, spare: usize, id: impl Fn(usize) -> u64) -> Map {
     let each = POINTS / LIMIT[BOUNDARIES];
-    let mut m = grid(rows, 8, each);
+    let mut m = grid_by(rows, 8, each, id);
     for i in m.boundary_count()..LIMIT[BOUNDARIES] - spare {
         let line = (0..each)
             .map(|k| Point3::new(k as f64, i as f64, 0.0))
@@ -134,6 +139,120 @@ fn full(rows: usize, spare: usize) -> Map {
     }
     furnish(&mut m, LIMIT[ROADS], LIMIT[JUNCTIONS], LIMIT[RULES]);
     m
+}
+
+/// Ids without gaps.
+fn in_order(place: usize) -> u64 {
+    1 + place as u64
+}
+
+/// Every other id.
+fn odd(place: usize) -> u64 {
+    1 + 2 * place as u64
+}
+
+/// Ids in no order, with gaps between them, of 1,000 lanes and of 1,024.
+fn scattered(place: usize) -> u64 {
+    1 + 7 * (place as u64 * 389 % 1000) + place as u64 % 7
+}
+
+fn scattered_full(place: usize) -> u64 {
+    1 + 7 * (place as u64 * 389 % 1024) + place as u64 % 7
+}
+
+/// `more` links more from every lane and to every lane, to lanes far away.
+fn linked(mut m: Map, more: usize, id: impl Fn(usize) -> u64) -> Map {
+    let n = m.lane_count();
+    for place in 0..n {
+        for k in 0..more {
+            let to = (place + 17 + 71 * k) % n;
+            m.connect(LaneId(id(place)), LaneId(id(to)))
+                .expect("two lanes");
+        }
+    }
+    m
+}
+
+/// As many links more as leave a lane below the limit of 16.
+const DENSE: usize = 13;
+
+/// The maps on which the test of soundness is timed, by the names that `oracle bench once` takes.
+fn tested_maps() -> Vec<(&'static str, Map)> {
+    let plain = grid(100, 10, 8);
+    let mut furnished = plain.clone();
+    furnish(&mut furnished, 256, 256, 512);
+    vec![
+        ("2", grid(2, 1, 8)),
+        ("100", grid(10, 10, 8)),
+        ("300", grid(30, 10, 8)),
+        ("1000", plain.clone()),
+        ("odd", grid_by(100, 10, 8, odd)),
+        ("scattered", grid_by(100, 10, 8, scattered)),
+        ("rules", furnished),
+        ("links", linked(plain.clone(), 4, in_order)),
+        ("links-scattered", linked(grid_by(100, 10, 8, scattered), 4, scattered)),
+        ("dense", linked(plain, DENSE, in_order)),
+        ("dense-odd", linked(grid_by(100, 10, 8, odd), DENSE, odd)),
+        ("dense-scattered", linked(grid_by(100, 10, 8, scattered), DENSE, scattered)),
+        ("full", full(128, 0)),
+        ("full-dense", linked(full(128, 0), DENSE, in_order)),
+        ("full-dense-odd", linked(full_by(128, 0, odd), DENSE, odd)),
+        (
+            "full-dense-scattered",
+            linked(full_by(128, 0, scattered_full), DENSE, scattered_full),
+        ),
+    ]
+}
+
+/// The test of soundness alone, on each map: the Rust's own, the oracle's on the lent tables, the editor's.
+pub fn sound() -> bool {
+    println!("the test of soundness, microseconds, median of {TURNS}");
+    println!(
+        "{:24}{:>7}{:>7}{:>8}{:>10}{:>14}{:>12}{:>8}",
+        "map", "lanes", "links", "points", "the Rust", "lent tables", "the editor", "ratio"
+    );
+    for (name, m) in tested_maps() {
+        let tables = crate::cases::plain(&m, 40, 400);
+        let counter = m.peek_next_id();
+        let [rust, lent, editor] = medians(|_| {
+            let (lent, fault) = timed(|| sound::fault(black_box(&tables), counter));
+            assert!(fault.is_none());
+            let editor = tested_by_editor(&tables, counter).unwrap_or_default();
+            [tested(&m), lent, editor]
+        });
+        println!(
+            "{name:24}{:>7}{:>7}{:>8}{rust:>10.2}{lent:>14.2}{editor:>12.2}{:>8.2}",
+            m.lane_count(),
+            tables.rows(LANES).map(|r| r[lane::SUCCESSORS]).sum::<u64>(),
+            lines(&m).iter().map(|l| l.len()).sum::<usize>(),
+            editor / rust,
+        );
+    }
+    let xyz = crate::cases::plain(&full(128, 0), 40, 400).xyz;
+    let [read] = medians(|_| [timed(|| black_box(read_once(black_box(&xyz)))).0]);
+    println!("the {} coordinates of the full map read once: {read:.1}", xyz.len());
+    true
+}
+
+/// The coordinates read once, eight sums side by side: what no test of them can go below.
+fn read_once(xyz: &[f64]) -> f64 {
+    let mut sums = [0.0; 8];
+    for eight in xyz.chunks_exact(8) {
+        for (sum, x) in sums.iter_mut().zip(eight) {
+            *sum += x;
+        }
+    }
+    sums.iter().sum()
+}
+
+/// One call of the editor's test on the map of a name, for a counter of instructions.
+pub fn once(name: &str) -> bool {
+    let Some((_, m)) = tested_maps().into_iter().find(|(n, _)| *n == name) else {
+        println!("no map {name}");
+        return false;
+    };
+    let tables = crate::cases::plain(&m, 40, 400);
+    tested_by_editor(&tables, m.peek_next_id()).is_some()
 }
 
 pub fn run() -> bool {
@@ -165,6 +284,10 @@ pub fn run() -> bool {
     };
     time("set_neighbor", &plain, neighbor);
     time("remove_lane", &plain, remove);
+    let far = linked(grid_by(100, 10, 8, scattered), DENSE, scattered);
+    let (from, to) = (scattered(500), scattered(510));
+    time("disconnect, dense, scattered", &far, Call::Disconnect { from, to });
+    time("remove_lane, dense, scattered", &far, Call::RemoveLane { lane: from });
     time("merge_lanes", &plain, merge);
     time("split_lane, one lane", &plain, split(false));
     time("split_lane, a group of ten", &plain, split(true));
@@ -197,33 +320,7 @@ pub fn run() -> bool {
     stages("split_lane, one, full map, by stages", &roomy, beside(false));
     stages("merge_lanes, by stages", &plain, merge);
     stages("merge_lanes, full map, by stages", &spared, ahead);
-    let full = full(128, 0);
-    // Lanes in no order, with gaps between their ids: the worst for a search that begins near by.
-    let scattered = grid_by(100, 10, 8, |place| {
-        1 + 7 * (place as u64 * 389 % 1000) + place as u64 % 7
-    });
-    println!("the test of soundness");
-    for (name, m) in [
-        ("plain", &plain),
-        ("scattered ids", &scattered),
-        ("with rules", &furnished),
-        ("full", &full),
-    ] {
-        let tables = crate::cases::plain(m, 40, 400);
-        let counter = m.peek_next_id();
-        let [rust, lent, editor] = medians(|_| {
-            let (lent, fault) = timed(|| sound::fault(black_box(&tables), counter));
-            assert!(fault.is_none());
-            let editor = tested_by_editor(&tables, counter).unwrap_or_default();
-            [tested(m), lent, editor]
-        });
-        println!(
-            "{name}: the Rust's map {rust:.1}, the lent tables by the oracle {lent:.1}, by the editor {editor:.1}, ratio to the first {:.2}; {:?} rows, {} points",
-            editor / rust,
-            counts(m),
-            lines(m).iter().map(|l| l.len()).sum::<usize>()
-        );
-    }
+    sound();
     let [c] = medians(|_| [timed(|| black_box(black_box(&plain).clone())).0]);
     println!("a clone of the Rust's map: {c:.1}");
     true

@@ -38,6 +38,8 @@ oracle against SEED COUNT          call by call beside the editor's library (fea
 oracle sound SEED COUNT            the library's test of soundness beside the oracle's own (feature against)
 oracle try SEED COUNT              the comparison, tried on the oracle itself with faults planted
 oracle bench                       times of the Rust, with and without a test of soundness
+oracle bench sound                 times of the test of soundness alone
+oracle bench once NAME             one call of the editor's test on the map of that name
 oracle replay FILE                 read a stored stream of lines and make its calls again
 oracle rows SEED COUNT DIR         COUNT calls as theorems about the definitions of the crate rules";
 
@@ -145,6 +147,8 @@ fn main() {
     let good = match words[..] {
         ["cases"] => cases::run(),
         ["bench"] => bench::run(),
+        ["bench", "sound"] => bench::sound(),
+        ["bench", "once", name] => bench::once(name),
         ["yard"] => yard::run(),
         ["calls", seed, count, names] => {
             calls(number(seed), number(count) as usize, &edits(names)).expect("standard output")

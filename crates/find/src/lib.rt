@@ -1,10 +1,9 @@
 // A row of a table found by its id.
 ghost use mathlib.Core.Path.{_≡_};
-ghost use mathlib.Core.Bool.{true, cond};
-ghost use Prim.Native.Nat.{_+_, _-_, _*_, _≤_, _<_};
-ghost use lib.Dec.{ltb};
+ghost use mathlib.Core.Bool.{true};
+ghost use Prim.Native.Nat.{_*_, _≤_, _<_};
 ghost use lib.ListN.{length};
-ghost use Rattle.lists.specs.Select.{has, ascending};
+ghost use Rattle.lists.specs.Select.{ascending};
 ghost use Rattle.lists.specs.Rows.{keys, rowWith, Among};
 use lists::Found;
 
@@ -38,35 +37,4 @@ pub fn find_row(rows: &[u64], s: usize, n: usize, id: u64) -> Found
         return Found::Nothing;
     }
     find_among(rows, s, n, id, 0, n)
-}
-
-// The smaller of two numbers.
-fn least(a: usize, b: usize) -> usize
-    ensures { λ r. ⌜ r ≡ cond (ltb a b) a b ⌝ }
-{
-    if a < b {
-        return a;
-    }
-    b
-}
-
-// The same row, looked for from row `near`: the first words ascend, so it is at most as many rows away as the two ids differ, and just there where no
-// id between them is missing.
-pub fn find_near(rows: &[u64], s: usize, n: usize, id: u64, near: usize) -> Found
-    requires { ⌜ (0 < s) × ((n * s ≤ length (now rows)) × ((ascending (keys s n (now rows)) ≡ true) × (near < n))) ⌝ }
-    ensures { λ r. ⌜ r ≡ rowWith id (keys s n (now (rows .entry))) ⌝ }
-{
-    let here = rows[near * s];
-    if here <= id {
-        let ahead = least((id - here) as usize, n - 1 - near);
-        if rows[(near + ahead) * s] == id {
-            return Found::At(near + ahead);
-        }
-        return find_among(rows, s, n, id, near, ahead + 1);
-    }
-    let back = least((here - id) as usize, near);
-    if rows[(near - back) * s] == id {
-        return Found::At(near - back);
-    }
-    find_among(rows, s, n, id, near - back, back + 1)
 }

@@ -1,5 +1,5 @@
-// The test of soundness: counts, and the points of the lines. `entity_tests` has the rows, `table_tests` one pass over each table, `link_tests` a search for
-// each link and neighbour.
+// The test of soundness: counts, and the points of the lines. `entity_tests` has the rows, `table_tests` one pass over each table, `link_tests` links and
+// neighbours.
 ghost use mathlib.Core.Path.{_≡_};
 ghost use mathlib.Core.Bool.{true};
 ghost use Prim.Native.Nat.{_+_, _≤_};

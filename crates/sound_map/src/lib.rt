@@ -84,8 +84,7 @@ pub fn sound(
             coordinates,
         ) {
             if clear::lines_clear(lanes, boundaries, stop_lines, crosswalks) {
-                let linked = link_tests::links_returned(lanes);
-                return both(linked, link_tests::neighbors_returned(lanes));
+                return link_tests::all_returned(lanes);
             }
         }
     }

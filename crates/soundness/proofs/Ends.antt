@@ -201,7 +201,3 @@ words-of t a b c d e f g =
       stop-lines = fits-ok (t .stop-lines) f;
       crosswalks = fits-ok (t .crosswalks) g;
     }
-
--- two answers joined
-pub joined : (x y : Bool) {r l n s : Bool} → x ≡ l → y ≡ n → r ≡ (x && y) → (l && n) ≡ s → r ≡ s
-joined x y f g e h = e ∙ rw (f, g) h
