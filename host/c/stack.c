@@ -1,5 +1,6 @@
 /* How much stack each function takes: it runs on a painted stack, and what is left of the paint tells. On a small map, and on a large one
- * whose lines lie in no order, so that the edits that lay lines out must copy them. Fails if a function takes more than half of VOLDREKKA_STACK. */
+ * whose lines lie in no order, so that the edits that lay lines out must copy them. Fails if a function takes 256 KB on the small one, or half of
+ * VOLDREKKA_STACK on the large one. */
 #define _XOPEN_SOURCE 700
 #include "voldrekka.h"
 
@@ -10,10 +11,12 @@
 enum {
     PAINT = 0xA5,
     PAGE = 4096,
-    SMALL = 4,   /* lanes of the small map */
-    LARGE = 500, /* lanes of the large one, each with two boundaries of its own */
-    POINTS = 64  /* points of a boundary */
+    SMALL = 100, FEW = 12,      /* lanes of the small map, each with two boundaries of its own, and points of a boundary */
+    LARGE = 500, MANY = 64,     /* the same of the large one */
+    SMALL_STACK = 256 * 1024    /* more than any call takes on the small map */
 };
+
+static uint64_t points;
 
 static uint64_t lanes[VOLDREKKA_LANES_LEN], boundaries[VOLDREKKA_BOUNDARIES_LEN], roads[VOLDREKKA_ROADS_LEN];
 static uint64_t junctions[VOLDREKKA_JUNCTIONS_LEN], rules[VOLDREKKA_RULES_LEN], stop_lines[VOLDREKKA_STOP_LINES_LEN];
@@ -38,12 +41,12 @@ static const voldrekka_lists lists = {
 static void make_boundary(uint64_t row, uint64_t count, double x, double y)
 {
     uint64_t *words = boundaries + voldrekka_row(row, VOLDREKKA_BOUNDARY_WORDS);
-    const uint64_t start = (count - 1 - row) * POINTS;
+    const uint64_t start = (count - 1 - row) * points;
     words[VOLDREKKA_ROW_ID] = 2000 + row;
     words[VOLDREKKA_BOUNDARY_KIND] = VOLDREKKA_BOUNDARY_SOLID_THIN;
     words[VOLDREKKA_BOUNDARY_START] = start;
-    words[VOLDREKKA_BOUNDARY_SIZE] = POINTS;
-    for (uint64_t i = 0; i < POINTS; i++) {
+    words[VOLDREKKA_BOUNDARY_SIZE] = points;
+    for (uint64_t i = 0; i < points; i++) {
         double *point = coordinates + (start + i) * VOLDREKKA_POINT_FLOATS;
         point[0] = x + (double)i;
         point[1] = y;
@@ -72,7 +75,7 @@ static void make_map(uint64_t count)
     lanes[VOLDREKKA_ROW_COUNT] = count;
     boundaries[VOLDREKKA_ROW_COUNT] = 2 * count;
     for (uint64_t row = 0; row < count; row++) {
-        const double x = (double)(row * (POINTS - 1));
+        const double x = (double)(row * (points - 1));
         make_boundary(2 * row, 2 * count, x, 2.0);
         make_boundary(2 * row + 1, 2 * count, x, -2.0);
         make_lane(row, count);
@@ -137,7 +140,10 @@ static size_t touched(void (*task)(void))
 
 int main(void)
 {
-    const uint64_t counts[] = {SMALL, LARGE};
+    static const struct {
+        uint64_t lanes, points;
+        size_t most;
+    } maps[] = {{SMALL, FEW, SMALL_STACK}, {LARGE, MANY, VOLDREKKA_STACK / 2}};
     size_t own;
     int status = 0;
     if (posix_memalign((void **)&stack, PAGE, VOLDREKKA_STACK))
@@ -147,9 +153,10 @@ int main(void)
     for (size_t i = 0; i < sizeof functions / sizeof *functions; i++) {
         size_t taken[2];
         for (size_t m = 0; m < 2; m++) {
-            make_map(counts[m]);
+            points = maps[m].points;
+            make_map(maps[m].lanes);
             taken[m] = touched(functions[i].run) - own;
-            status |= taken[m] > VOLDREKKA_STACK / 2;
+            status |= taken[m] >= maps[m].most;
         }
         printf("%-24s%10zu%10zu\n", functions[i].name, taken[0], taken[1]);
     }

@@ -1,3 +1,2 @@
-pub mod Applies
 pub mod Counters
 pub mod Claim

@@ -1,7 +1,4 @@
 // ops.rs: a command made on lent memory. The map is tested once, whatever the command; then the edit is made.
-ghost use mathlib.Core.Path.{_≡_};
-ghost use mathlib.Core.Bool.{true};
-ghost use Rattle.tables.specs.Formed.{soundTables};
 ghost use Rattle.report.specs.Report.{counterBehind};
 ghost use Rattle.step.specs.Step as S;
 ghost use Rattle.ops.specs.Calls.{Applied};
@@ -10,148 +7,6 @@ use entities::Counter;
 use entities::Refusal;
 use entities::Tolerance;
 use report::Answer;
-
-// A command on a sound map.
-fn dispatch(
-    counter: u64,
-    tolerance: Tolerance,
-    lanes: &mut [u64],
-    boundaries: &mut [u64],
-    roads: &mut [u64],
-    junctions: &mut [u64],
-    rules: &mut [u64],
-    stop_lines: &mut [u64],
-    crosswalks: &mut [u64],
-    coordinates: &mut [f64],
-    command: Command,
-    created: &mut [u64],
-    modified: &mut [u64],
-    deleted: &mut [u64],
-    warnings: &mut [u64],
-) -> Answer
-    requires { ⌜ soundTables counter (S.tablesOf (now lanes) (now boundaries) (now roads) (now junctions) (now rules) (now «stop_lines») (now crosswalks) (now coordinates)) ≡ true ⌝ }
-    ensures { λ r. ⌜ Applied tolerance command (S.lentOf counter (now (lanes .entry)) (now (boundaries .entry)) (now (roads .entry)) (now (junctions .entry)) (now (rules .entry)) (now («stop_lines» .entry)) (now (crosswalks .entry)) (now (coordinates .entry)) (now (created .entry)) (now (modified .entry)) (now (deleted .entry)) (now (warnings .entry))) (S.ended (S.lentOf (counterBehind counter r) (now (lanes .exit)) (now (boundaries .exit)) (now (roads .exit)) (now (junctions .exit)) (now (rules .exit)) (now («stop_lines» .exit)) (now (crosswalks .exit)) (now (coordinates .exit)) (now (created .exit)) (now (modified .exit)) (now (deleted .exit)) (now (warnings .exit))) r) ⌝ }
-{
-    match command {
-        Command::SplitLane {
-            lane,
-            at,
-            include_neighbors,
-        } => edit_split::split_lane(
-            counter,
-            tolerance,
-            lanes,
-            boundaries,
-            roads,
-            junctions,
-            rules,
-            stop_lines,
-            crosswalks,
-            coordinates,
-            lane,
-            at,
-            include_neighbors,
-            created,
-            modified,
-            deleted,
-            warnings,
-        ),
-        Command::MergeLanes { first, second } => edit_merge::merge_lanes(
-            counter,
-            tolerance,
-            lanes,
-            boundaries,
-            roads,
-            junctions,
-            rules,
-            stop_lines,
-            crosswalks,
-            coordinates,
-            first,
-            second,
-            created,
-            modified,
-            deleted,
-            warnings,
-        ),
-        Command::ConnectLanes { from, to } => edit::connect(
-            counter,
-            tolerance,
-            lanes,
-            boundaries,
-            roads,
-            junctions,
-            rules,
-            stop_lines,
-            crosswalks,
-            coordinates,
-            from,
-            to,
-            created,
-            modified,
-            deleted,
-            warnings,
-        ),
-        Command::DisconnectLanes { from, to } => edit::disconnect(
-            counter,
-            tolerance,
-            lanes,
-            boundaries,
-            roads,
-            junctions,
-            rules,
-            stop_lines,
-            crosswalks,
-            coordinates,
-            from,
-            to,
-            created,
-            modified,
-            deleted,
-            warnings,
-        ),
-        Command::SetNeighbor {
-            lane,
-            side,
-            neighbor,
-        } => edit::set_neighbor(
-            counter,
-            tolerance,
-            lanes,
-            boundaries,
-            roads,
-            junctions,
-            rules,
-            stop_lines,
-            crosswalks,
-            coordinates,
-            lane,
-            side,
-            neighbor,
-            created,
-            modified,
-            deleted,
-            warnings,
-        ),
-        Command::RemoveLane { lane } => edit_lane::remove_lane(
-            counter,
-            tolerance,
-            lanes,
-            boundaries,
-            roads,
-            junctions,
-            rules,
-            stop_lines,
-            crosswalks,
-            coordinates,
-            lane,
-            created,
-            modified,
-            deleted,
-            warnings,
-        ),
-    }
-}
 
 // Map::apply: makes a command on the map that is lent, or refuses it. Every list of contents, whatever its length, has its answer.
 pub fn apply(
@@ -185,7 +40,7 @@ pub fn apply(
         crosswalks,
         coordinates,
     ) {
-        return dispatch(
+        return dispatch::dispatch(
             next,
             tolerance,
             lanes,

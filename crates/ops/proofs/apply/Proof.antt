@@ -3,7 +3,7 @@ use Rattle.ops.proofs.apply.Statement.{statement}
 use Rattle.ops.proofs.apply.Tie as tie
 use Rattle.ops.proofs.apply.Reads as reads
 use Rattle.ops.proofs.apply.Lts as lts
-use Rattle.ops.proofs.dispatch.Reads as dispatch-reads
+use Rattle.dispatch.proofs.dispatch.Reads as dispatch-reads
 use Rattle.sound_map.proofs.sound.Reads as sound-reads
 use Rattle.step.specs.Step.{Lent, lentOf}
 use Rattle.step.proofs.Steps.{step-unsound}

@@ -1,8 +1,8 @@
 use borrow.Author.Needs.{needs}
-use Rattle.ops.proofs.dispatch.Statement.{statement}
-use Rattle.ops.proofs.dispatch.Tie as tie
-use Rattle.ops.proofs.dispatch.Reads as reads
-use Rattle.ops.proofs.dispatch.Lts as lts
+use Rattle.dispatch.proofs.dispatch.Statement.{statement}
+use Rattle.dispatch.proofs.dispatch.Tie as tie
+use Rattle.dispatch.proofs.dispatch.Reads as reads
+use Rattle.dispatch.proofs.dispatch.Lts as lts
 use Rattle.edit.proofs.connect.Reads as connect-reads
 use Rattle.edit.proofs.disconnect.Reads as disconnect-reads
 use Rattle.edit.proofs.set_neighbor.Reads as set-neighbor-reads
@@ -10,7 +10,7 @@ use Rattle.edit_lane.proofs.remove_lane.Reads as remove-lane-reads
 use Rattle.edit_merge.proofs.merge_lanes.Reads as merge-lanes-reads
 use Rattle.edit_split.proofs.split_lane.Reads as split-lane-reads
 use Rattle.step.specs.Step.{lentOf}
-use Rattle.ops.proofs.Applies.{made, made-as}
+use Rattle.dispatch.proofs.Applies.{made, made-as}
 use mathlib.Core.Path.{refl}
 
 enum-known-command : tie.Need-enum-known-command

@@ -1,4 +1,4 @@
--- The ends of `apply`. Assumes nothing.
+-- The ends of a command, whichever edit makes it. Assumes nothing.
 use mathlib.Core.Path.{_≡_}
 use Rattle.rules.specs.Names.{Tolerance}
 use Rattle.rules.specs.Ops as O
