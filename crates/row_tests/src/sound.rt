@@ -3,7 +3,7 @@
 ghost use mathlib.Core.Path.{_≡_};
 ghost use mathlib.Core.Bool.{true};
 ghost use Prim.Native.Nat.{_+_, _≤_};
-ghost use lib.ListN.{length};
+ghost use lib.ListN.{length, take};
 ghost use Rattle.lists.specs.Every.{all};
 ghost use Rattle.geometry.specs.Point.{inReach};
 ghost use Rattle.geometry.specs.Float.{coordinate};
@@ -16,6 +16,9 @@ use lists::both;
 const REACH: f64 = 16777216.0;
 
 const LEAST: f64 = -16777216.0;
+
+// The coordinates of a point.
+const POINT: usize = 3;
 
 const MOST_POINTS: u64 = 65536;
 
@@ -58,21 +61,25 @@ fn coordinate(x: f64) -> bool
     both(LEAST <= x, x <= REACH)
 }
 
+// Whether n coordinates lie within reach. No way out of the loop: several are tested at a time.
+fn all_coordinates(line: &[f64], n: usize) -> bool
+    requires { ⌜ n ≤ length (now line) ⌝ }
+    ensures { λ r. ⌜ r ≡ all coordinate (take n (now (line .entry))) ⌝ }
+{
+    let mut good = true;
+    let mut i = 0;
+    while i < n {
+        good = both(good, coordinate(line[i]));
+        i += 1;
+    }
+    good
+}
+
 // Whether every coordinate of a part's points lies within reach.
 fn in_reach(line: &[f64]) -> bool
     ensures { λ r. ⌜ r ≡ all inReach (points (now (line .entry))) ⌝ }
 {
-    let n = polyline::count(line);
-    let mut i = 0;
-    while i < n {
-        let p = polyline::point(line, i);
-        if both(both(coordinate(p.x), coordinate(p.y)), coordinate(p.z)) {
-            i += 1;
-        } else {
-            return false;
-        }
-    }
-    true
+    all_coordinates(line, polyline::count(line) * POINT)
 }
 
 // A line's start and length, in points.

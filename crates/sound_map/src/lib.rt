@@ -84,7 +84,8 @@ pub fn sound(
             coordinates,
         ) {
             if clear::lines_clear(lanes, boundaries, stop_lines, crosswalks) {
-                return link_tests::all_returned(lanes);
+                let returned = link_tests::all_returned(lanes);
+                return returned;
             }
         }
     }
