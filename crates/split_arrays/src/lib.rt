@@ -5,6 +5,7 @@ ghost use lib.ListN.{length};
 ghost use Rattle.layout.specs.Layout as L;
 ghost use Rattle.split_relay.specs.Relaying as W;
 use geometry::Point2;
+use lists::both;
 
 // Floats of the two arrays of work, for 2,048 points and for as many as a map holds.
 const SMALL: usize = 6144;
@@ -145,8 +146,8 @@ pub fn relay(
     requires { ⌜ (W.Relayable (W.cutting point reach (now seen) (now cut) next (now marks) (now pieces) m (now lines) (now centers)) (L.lineTables (now lanes) (now boundaries) (now «stop_lines») (now crosswalks) (now coordinates))) × (points ≡ W.drawnPoints (W.cutting point reach (now seen) (now cut) next (now marks) (now pieces) m (now lines) (now centers)) (L.lineTables (now lanes) (now boundaries) (now «stop_lines») (now crosswalks) (now coordinates))) ⌝ }
     ensures { λ _. ⌜ L.lineTables (now (lanes .exit)) (now (boundaries .exit)) (now («stop_lines» .exit)) (now (crosswalks .exit)) (now (coordinates .exit)) ≡ W.relaid (W.cutting point reach (now (seen .entry)) (now (cut .entry)) next (now (marks .entry)) (now (pieces .entry)) m (now (lines .entry)) (now (centers .entry))) (W.blank (W.workFloats (length (now (cut .entry))) points)) (L.lineTables (now (lanes .entry)) (now (boundaries .entry)) (now («stop_lines» .entry)) (now (crosswalks .entry)) (now (coordinates .entry))) ⌝ }
 {
-    if SMALL_GROUP < cut.len() {
-        relay_large(
+    if both(cut.len() <= SMALL_GROUP, points <= SMALL_DRAWN) {
+        relay_small(
             lanes,
             boundaries,
             stop_lines,
@@ -165,27 +166,7 @@ pub fn relay(
         );
         return;
     }
-    if SMALL_DRAWN < points {
-        relay_large(
-            lanes,
-            boundaries,
-            stop_lines,
-            crosswalks,
-            coordinates,
-            point,
-            reach,
-            seen,
-            cut,
-            next,
-            marks,
-            pieces,
-            m,
-            lines,
-            centers,
-        );
-        return;
-    }
-    relay_small(
+    relay_large(
         lanes,
         boundaries,
         stop_lines,

@@ -1,12 +1,14 @@
 -- The tables with lines after a split, put together from what each step leaves. Assumes nothing.
 use mathlib.Core.Path.{_≡_, refl, sym, ap, _∙_}
-use mathlib.Core.Bool.{true, false}
+use mathlib.Core.Bool.{Bool, true, false, _&&_, true≢false}
 use mathlib.Core.List.{List}
 use Prim.Native.Nat.{ℕ, _+_, _*_, _≤_, _<_}
 use native.Mathlib.Omega.{arith}
 use lib.Ieee.{Float}
 use lib.ListN.{length}
-use borrow.Author.Tests.{lt-ltb, le-ltb}
+use lib.Dec.{leb}
+use borrow.Author.Tests.{lt-ltb, le-ltb, leb-true, leb-false}
+use Rattle.geometry.proofs.Both.{left, right}
 use Rattle.lists.specs.Rows.{over}
 use Rattle.polyline.specs.Polyline.{flat}
 use Rattle.tables.specs.View.{Tables}
@@ -57,6 +59,13 @@ module _ (k : Cutting) (lanes boundaries stops crosswalks : List ℕ) (c work : 
 
 -- ---- which array of work is taken
 
+-- what the test of the small array tells
+pub few-lanes : (lanes points : ℕ) → (leb lanes 64 && leb points 2048) ≡ true → lanes ≤ 64
+few-lanes lanes points h = leb-true lanes 64 (left (leb lanes 64) (leb points 2048) h)
+
+pub few-points : (lanes points : ℕ) → (leb lanes 64 && leb points 2048) ≡ true → points ≤ 2048
+few-points lanes points h = leb-true points 2048 (right (leb lanes 64) (leb points 2048) h)
+
 module _ (k : Cutting) (t x : Tables) (n : ℕ) (e : x ≡ relaid k (blank n) t) (lanes points : ℕ) where
   with-work : workFloats lanes points ≡ n → x ≡ relaid k (blank (workFloats lanes points)) t
   with-work w = e ∙ ap (λ z. relaid k (blank z) t) (sym w)
@@ -69,3 +78,12 @@ module _ (k : Cutting) (t x : Tables) (n : ℕ) (e : x ≡ relaid k (blank n) t)
 
   pub small-relaid : n ≡ 6144 → lanes ≤ 64 → points ≤ 2048 → x ≡ relaid k (blank (workFloats lanes points)) t
   small-relaid i g h = with-work (rw (i, le-ltb 64 lanes g, le-ltb 2048 points h))
+
+  -- the larger array for whatever is not small
+  pub large-relaid : n ≡ 196608 → (leb lanes 64 && leb points 2048) ≡ false → x ≡ relaid k (blank (workFloats lanes points)) t
+  large-relaid i h = go (leb lanes 64) (leb points 2048) refl refl h
+    where
+      go : (a b : Bool) → leb lanes 64 ≡ a → leb points 2048 ≡ b → (a && b) ≡ false → x ≡ relaid k (blank (workFloats lanes points)) t
+      go false b p q e = many-relaid i (leb-false lanes 64 p)
+      go true false p q e = long-relaid i (leb-true lanes 64 p) (leb-false points 2048 q)
+      go true true p q e = absurd (true≢false e)
