@@ -5,12 +5,11 @@ use super::HIDDEN;
 // The exponent field of a double in 1 to 2, less one: a significand of 53 digits adds the one.
 const ONE: u64 = 1022;
 
-// 1 / √u for u from 1 to 2, within 1 in 80,000: the polynomial of degree 5 whose largest relative error there is least. A table would be
+// 1 / √u for u from 1 to 2, within 1 in 13,500: the polynomial of degree 4 whose largest relative error there is least. A table would be
 // copied to the stack at each call.
 fn seed(u: f64) -> f64 {
     let w = u * u;
-    2.2787871778 - 2.6669132011 * u
-        + w * (2.2201862757 - 1.0871257162 * u + w * (0.2864577353 - 0.0314039177 * u))
+    2.0719950874 - 1.9361700651 * u + w * (1.2029578421 - 0.3896728571 * u + w * 0.0508159780)
 }
 
 // 1 / √(2 ^ odd).
