@@ -1,4 +1,4 @@
--- The whole number nearest a root, `Rounded` of specs/: there is one, it has 53 digits, and `mend` finds it. Assumes nothing.
+-- The whole number nearest a root, `Rounded` of specs/: there is one, it has 53 digits, and `settle` finds it. Assumes nothing.
 use mathlib.Core.Path.{_≡_, ap}
 use mathlib.Core.Bool.{Bool, true, false, not, cond}
 use Prim.Native.Nat.{ℕ, suc, _+_, _-_, _*_, _^_, _≤_, _<_}

@@ -9,12 +9,11 @@ use super::HIDDEN;
 // q is taken in two halves of this size: high * HALF + low.
 const HALF: u64 = 0x400_0000;
 
-// What is added to the rest a * 2 ^ 52 - q * q, so that it is never negative: BIAS * 2 ^ 27 + HIDDEN.
-const BIAS: u64 = 0x2000_0000;
+// a - high * high stays below this for every q near the root.
+const NEAR: u64 = 0x4000_0000;
 
-const MIDDLE: u64 = 0x110_0000_0000_0000;
-
-// The rest is taken a half at a time, and followed as long as it is small. A far guess is dropped.
+// The rest a * 2 ^ 52 - q * q is taken a half at a time. `rest` and `middle` differ by it, and high * 2 ^ 27 is added to both, so that neither
+// is negative where q is near. A far guess is dropped: one test holds the rest between -3 * q and 3 * q, so that q or a neighbour is nearest.
 pub fn settle(a: u64, q: u64) -> u64
     requires { ⌜ (2 ^ 52 ≤ a) × ((a ≤ 2 ^ 54 - 2) × ((2 ^ 52 ≤ q) × (q < 2 ^ 53))) ⌝ }
     ensures { λ r. ⌜ Rounded a r ⌝ }
@@ -25,32 +24,20 @@ pub fn settle(a: u64, q: u64) -> u64
     if a < square {
         return bisect(a);
     }
-    if 0x4000_0000 <= a - square {
+    if NEAR <= a - square {
         return bisect(a);
     }
-    let upper = (a - square) * (HALF / 2) + BIAS;
+    let upper = (a - square) * (HALF / 2) + high;
     let cross = high * low;
     if upper < cross {
         return bisect(a);
     }
-    if 0x8000_0000 <= upper - cross {
+    if 5 * (q / (HALF * 2)) < upper - cross {
         return bisect(a);
     }
-    mend(a, q, (upper - cross) * (HALF * 2) + HIDDEN - low * low)
-}
-
-// rest is a * 2 ^ 52 - q * q, with MIDDLE added: q, a neighbour, or, further off, a search.
-fn mend(a: u64, q: u64, rest: u64) -> u64
-    requires { ⌜ (2 ^ 52 ≤ a) × ((a ≤ 2 ^ 54 - 2) × ((2 ^ 52 ≤ q) × ((q < 2 ^ 53) × ((rest < 2 ^ 60) × (rest + q * q ≡ a * 2 ^ 52 + 76561193665298432))))) ⌝ }
-    ensures { λ r. ⌜ Rounded a r ⌝ }
-{
-    if MIDDLE + 3 * q < rest {
-        return bisect(a);
-    }
-    if rest + 3 * q <= MIDDLE + 2 {
-        return bisect(a);
-    }
-    q + above(MIDDLE + q, rest) - above(rest + q, MIDDLE + 1)
+    let rest = (upper - cross) * (HALF * 2);
+    let middle = high * (HALF * 2) + low * low;
+    q + above(middle + q, rest) - above(rest + q, middle + 1)
 }
 
 // 1 where x is below y, else 0.
