@@ -1,43 +1,53 @@
-// A guess at the root of a * 2 ^ 52 in float arithmetic, good to about one unit. Nothing that is proved rests on it: `settle` mends it.
-ghost use Prim.Native.Nat.{_≤_, _<_, _^_};
+// The whole number nearest the root of m * 2 ^ odd * 2 ^ 52: a guess in float arithmetic, good to about one unit, which `settle` mends. Nothing
+// that is proved rests on the guess.
+ghost use Prim.Native.Nat.{_+_, _*_, _≤_, _<_, _^_};
+ghost use Rattle.root.specs.Steps.{Rounded};
 use super::HIDDEN;
+use super::settle;
 
 // The exponent field of a double in 1 to 2, less one: a significand of 53 digits adds the one.
 const ONE: u64 = 1022;
 
-// The 3 / 2 of Newton's step. With it alone y falls short by up to 3 / 2 of the square of the seed's error; half of that is added.
-const STEP: f64 = 1.5000000041;
+// The factor of `seed` for an even place, and that over √2 for an odd one. It takes 1 / √v times 0.63, the cube root of 1 / 4, so that
+// Newton's step needs no factor of its own and ends at half of 1 / √v.
+const EVEN: f64 = 0.0320120602063385;
 
-// 1 / √u for u from 1 to 2, within 1 in 13,500: the polynomial of degree 4 whose largest relative error there is least. A table would be
-// copied to the stack at each call.
+const ODD: f64 = 0.022635944851653978;
+
+// Three times the square of that 0.63, for Newton's step. With it alone the step always falls short; half of what it may lose is added.
+const STEP: f64 = 1.1905507922371992;
+
+// EVEN * seed(u) is 0.63 / √u for u from 1 to 2, within 1 in 13,500: the polynomial of degree 4 whose largest relative error there is least,
+// as two factors. A table would be copied to the stack at each call.
 fn seed(u: f64) -> f64 {
-    let w = u * u;
-    2.0719950874 - 1.9361700651 * u + w * (1.2029578421 - 0.3896728571 * u + w * 0.0508159780)
+    (u * (u - 1.3711668696) + 3.5488291326) * (u * (u - 6.2971467609) + 11.4895585591)
 }
 
-// 1 / √(2 ^ odd).
-fn turn(odd: u64) -> f64 {
-    if odd == 0 { 1.0 } else { 0.7071067811865476 }
+fn factor(odd: u64) -> f64 {
+    if odd == 0 { EVEN } else { ODD }
 }
 
-// The whole number nearest √(m * 2 ^ odd * 2 ^ 52), or a neighbour of it.
-pub fn guess(m: u64, odd: u64) -> u64
+// √(m * 2 ^ odd / 2 ^ 52), from 1 to 2.
+fn guess(m: u64, odd: u64) -> f64
     requires { ⌜ (2 ^ 52 ≤ m) × ((m < 2 ^ 53) × (odd < 2)) ⌝ }
-    ensures { λ r. ⌜ (2 ^ 52 ≤ r) × (r < 2 ^ 53) ⌝ }
 {
     let v = f64::from_bits((ONE + odd) * HIDDEN + m);
-    let s = seed(f64::from_bits(ONE * HIDDEN + m)) * turn(odd);
-    let y = s * (STEP - 0.5 * v * s * s);
-    let g = v * y;
-    significand(g + (v - g * g) * (0.5 * y))
+    let s = seed(f64::from_bits(ONE * HIDDEN + m)) * factor(odd);
+    let w = v * s;
+    let k = STEP - w * s;
+    let g = (w + w) * k;
+    g + (v - g * g) * (s * k)
 }
 
-// The significand of a float from 1 to 2; the largest there is where the guess went astray.
-fn significand(g: f64) -> u64
-    ensures { λ r. ⌜ (2 ^ 52 ≤ r) × (r < 2 ^ 53) ⌝ }
+// The test keeps a NaN from `to_bits`.
+pub fn nearest(m: u64, odd: u64) -> u64
+    requires { ⌜ (2 ^ 52 ≤ m) × ((m < 2 ^ 53) × (odd < 2)) ⌝ }
+    ensures { λ r. ⌜ Rounded (m * (1 + odd)) r ⌝ }
 {
+    let a = m * (1 + odd);
+    let g = guess(m, odd);
     if g < 2.0 {
-        return f64::to_bits(g) % HIDDEN + HIDDEN;
+        return settle::settle(a, f64::to_bits(g) % HIDDEN + HIDDEN);
     }
-    HIDDEN * 2 - 1
+    settle::bisect(a)
 }

@@ -37,6 +37,6 @@ fn positive(x: f64) -> f64
     ensures { λ r. ⌜ r ≡ root x ⌝ }
 {
     let s = scale::scale(f64::to_bits(x));
-    let q = settle::settle(s.digits * (1 + s.odd), guess::guess(s.digits, s.odd));
+    let q = guess::nearest(s.digits, s.odd);
     f64::from_bits(s.half * HIDDEN + q)
 }

@@ -48,7 +48,7 @@ fn above(x: u64, y: u64) -> u64
 }
 
 // The search by halves, a digit a turn: `low` reaches below the root of a * 2 ^ 52 rounded up, `high` does not.
-fn bisect(a: u64) -> u64
+pub fn bisect(a: u64) -> u64
     requires { ⌜ (2 ^ 52 ≤ a) × (a ≤ 2 ^ 54 - 2) ⌝ }
     ensures { λ r. ⌜ Rounded a r ⌝ }
 {

@@ -1,4 +1,4 @@
--- `root::positive` meets its contract: the digits that `scale` finds and the root that `settle` finds are those of `root`. Assumes nothing.
+-- `root::positive` meets its contract: the digits that `scale` finds and the root that `nearest` finds are those of `root`. Assumes nothing.
 use mathlib.Core.Path.{_≡_, sym, subst}
 use mathlib.Core.Bool.{true}
 use Prim.Native.Nat.{ℕ, _*_, _^_, _<_}
@@ -23,8 +23,8 @@ held c = subst T (sym (c .good .0 .1)) tt
 above : (c : tie.Start) → positive (c .args .x) ≡ true
 above c = positive-between (c .args .x) (c .pre .0) (c .pre .1)
 
-settled : (c : tie.After-settle) → c .settle .result < 2 ^ 53
-settled c = rounded-most _ _ (scaled-least (c .before .before .before .before .scale .ensures)) (scaled-most (c .before .before .before .before .scale .ensures)) (c .settle .ensures)
+settled : (c : tie.After-nearest) → c .nearest .result < 2 ^ 53
+settled c = rounded-most _ _ (scaled-least (c .before .scale .ensures)) (scaled-most (c .before .scale .ensures)) (c .nearest .ensures)
 
 float-to-bits-scale : tie.Need-float-to-bits-scale
 float-to-bits-scale c = positive-no-nan (c .args .x) (above c)
@@ -32,17 +32,8 @@ float-to-bits-scale c = positive-no-nan (c .args .x) (above c)
 scale-requires : tie.Need-scale-requires
 scale-requires c κs = (bits-above (c .args .x) (held c) (above c), bits-below (c .args .x) (held c) (above c))
 
-add-settle : tie.Need-add-settle
-add-settle c = search needs
-
-mul-settle : tie.Need-mul-settle
-mul-settle c = omega (arith, scaled-most (c .before .before .scale .ensures))
-
-guess-requires : tie.Need-guess-requires
-guess-requires c κs = search needs
-
-settle-requires : tie.Need-settle-requires
-settle-requires c κs = (scaled-least (c .before .before .before .scale .ensures), (scaled-most (c .before .before .before .scale .ensures), c .guess .ensures))
+nearest-requires : tie.Need-nearest-requires
+nearest-requires c κs = search needs
 
 mul-result : tie.Need-mul-result
 mul-result c = search needs
@@ -55,11 +46,11 @@ float-from-bits-result c = no-nan-bits _ (omega (arith, settled (c .before)))
 
 returns : tie.Need-returns
 returns c =
-    let x = c .before .before .before .before .before .before .args .x in
-    let s = c .before .before .before .before .before .scale .result in
-    root-bits x (held (c .before .before .before .before .before .before)) (above (c .before .before .before .before .before .before)) (s .digits) (s .odd) (s .half)
-    (subst (λ (n : ℕ). Scaled (n * 2 ^ 1074) (s .digits) (s .odd) (s .half)) (magnitude-units x (held (c .before .before .before .before .before .before)) (above (c .before .before .before .before .before .before))) (c .before .before .before .before .before .scale .ensures))
-    (c .before .settle .result) (c .before .settle .ensures)
+    let x = c .before .before .before .args .x in
+    let s = c .before .before .scale .result in
+    root-bits x (held (c .before .before .before)) (above (c .before .before .before)) (s .digits) (s .odd) (s .half)
+    (subst (λ (n : ℕ). Scaled (n * 2 ^ 1074) (s .digits) (s .odd) (s .half)) (magnitude-units x (held (c .before .before .before)) (above (c .before .before .before))) (c .before .before .scale .ensures))
+    (c .before .nearest .result) (c .before .nearest .ensures)
 
 pub positive-spec : {M : Type 1} → statement M
 positive-spec =
@@ -67,10 +58,7 @@ positive-spec =
     (tie.spec
     float-to-bits-scale
     scale-requires
-    add-settle
-    mul-settle
-    guess-requires
-    settle-requires
+    nearest-requires
     mul-result
     add-result
     float-from-bits-result

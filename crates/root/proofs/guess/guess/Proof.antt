@@ -29,11 +29,8 @@ float-from-bits-seed c = no-nan-bits _ (omega arith)
 seed-requires : tie.Need-seed-requires
 seed-requires c κs = search needs
 
-turn-requires : tie.Need-turn-requires
-turn-requires c κs = search needs
-
-significand-requires : tie.Need-significand-requires
-significand-requires c κs = search needs
+factor-requires : tie.Need-factor-requires
+factor-requires c κs = search needs
 
 returns : tie.Need-returns
 returns c = search needs
@@ -50,6 +47,5 @@ guess-spec =
     add-seed
     float-from-bits-seed
     seed-requires
-    turn-requires
-    significand-requires
+    factor-requires
     returns)
