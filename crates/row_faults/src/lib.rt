@@ -304,7 +304,15 @@ fn row_passes(clause: u64, table: u64, w: &[u64], most: u64, coordinates: &[f64]
 }
 
 // The first row of a table that does not pass a clause; the count of rows where all do.
-pub fn first_failing(clause: u64, table: u64, t: &[u64], limit: u64, row: usize, most: u64, coordinates: &[f64]) -> usize
+pub fn first_failing(
+    clause: u64,
+    table: u64,
+    t: &[u64],
+    limit: u64,
+    row: usize,
+    most: u64,
+    coordinates: &[f64],
+) -> usize
     requires { ⌜ (row ≡ P.rowWords table) × (counted limit row (now t) ≡ true) ⌝ }
     ensures { λ r. ⌜ r ≡ firstFalse (rows row (P.rowPasses clause table most (now (coordinates .entry))) (now (t .entry))) ⌝ }
 {
