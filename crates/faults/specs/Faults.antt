@@ -46,14 +46,16 @@ countsFault t =
 abbrev pub rowsIn : ℕ → ℕ → ℕ → ℕ → Tables → List ℕ → Fault
 rowsIn clause table s most t w = faultIn clause table (rows s (rowPasses clause table most (t .coordinates)) w)
 
+abbrev pub laterRowsFault : ℕ → ℕ → Tables → Fault
+laterRowsFault clause most t =
+    earlier (rowsIn clause junctionTable junctionWords most t (t .junctions))
+    (earlier (rowsIn clause ruleTable ruleWords most t (t .rules))
+    (earlier (rowsIn clause stopLineTable stopLineWords most t (t .stop-lines)) (rowsIn clause crosswalkTable crosswalkWords most t (t .crosswalks))))
+
 unfoldable pub rowsFault : ℕ → ℕ → Tables → Fault
 rowsFault clause most t =
     earlier (rowsIn clause laneTable laneWords most t (t .lanes))
-    (earlier (rowsIn clause boundaryTable boundaryWords most t (t .boundaries))
-    (earlier (rowsIn clause roadTable roadWords most t (t .roads))
-    (earlier (rowsIn clause junctionTable junctionWords most t (t .junctions))
-    (earlier (rowsIn clause ruleTable ruleWords most t (t .rules))
-    (earlier (rowsIn clause stopLineTable stopLineWords most t (t .stop-lines)) (rowsIn clause crosswalkTable crosswalkWords most t (t .crosswalks)))))))
+    (earlier (rowsIn clause boundaryTable boundaryWords most t (t .boundaries)) (earlier (rowsIn clause roadTable roadWords most t (t .roads)) (laterRowsFault clause most t)))
 
 -- the ids of a table
 abbrev pub idsIn : ℕ → ℕ → List ℕ → Fault
@@ -69,11 +71,16 @@ idsFault t =
 
 -- ---- the clauses in their order
 
--- what rows are asked: most is the largest id that the counter allows
+-- most is the largest id that the counter allows
+abbrev pub linkFaults : ℕ → Tables → Fault
+linkFaults most t = earlier (rowsFault linksClause most t) (rowsFault linesClause most t)
+
+abbrev pub idFaults : ℕ → Tables → Fault
+idFaults most t = earlier (idsFault t) (earlier (rowsFault namesClause most t) (linkFaults most t))
+
+-- what is asked of rows and ids
 unfoldable pub rowFaults : ℕ → Tables → Fault
-rowFaults most t =
-    earlier (rowsFault marksClause most t)
-    (earlier (rowsFault kindsClause most t) (earlier (idsFault t) (earlier (rowsFault namesClause most t) (earlier (rowsFault linksClause most t) (rowsFault linesClause most t)))))
+rowFaults most t = earlier (rowsFault marksClause most t) (earlier (rowsFault kindsClause most t) (idFaults most t))
 
 -- points shared by two lines are told of the coordinates as a whole
 unfoldable pub tieFaults : Tables → Fault

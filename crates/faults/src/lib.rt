@@ -149,6 +149,58 @@ fn row_fault(
     told(clause, table, first, t[0] as usize)
 }
 
+// One clause, of the rows of the last four tables.
+fn later_rows_fault(
+    clause: u64,
+    most: u64,
+    lanes: &[u64],
+    boundaries: &[u64],
+    roads: &[u64],
+    junctions: &[u64],
+    rules: &[u64],
+    stop_lines: &[u64],
+    crosswalks: &[u64],
+    coordinates: &[f64],
+) -> Fault
+    requires { ⌜ allCounted (tablesOf (now lanes) (now boundaries) (now roads) (now junctions) (now rules) (now «stop_lines») (now crosswalks) (now coordinates)) ≡ true ⌝ }
+    ensures { λ r. ⌜ r ≡ F.laterRowsFault clause most (tablesOf (now (lanes .entry)) (now (boundaries .entry)) (now (roads .entry)) (now (junctions .entry)) (now (rules .entry)) (now («stop_lines» .entry)) (now (crosswalks .entry)) (now (coordinates .entry))) ⌝ }
+{
+    earlier(
+        row_fault(
+            clause,
+            JUNCTION_TABLE,
+            junctions,
+            JUNCTIONS,
+            JUNCTION,
+            most,
+            coordinates,
+        ),
+        earlier(
+            row_fault(clause, RULE_TABLE, rules, RULES, RULE, most, coordinates),
+            earlier(
+                row_fault(
+                    clause,
+                    STOP_LINE_TABLE,
+                    stop_lines,
+                    STOP_LINES,
+                    STOP_LINE,
+                    most,
+                    coordinates,
+                ),
+                row_fault(
+                    clause,
+                    CROSSWALK_TABLE,
+                    crosswalks,
+                    CROSSWALKS,
+                    CROSSWALK,
+                    most,
+                    coordinates,
+                ),
+            ),
+        ),
+    )
+}
+
 // One clause, of the rows of every table.
 fn rows_fault(
     clause: u64,
@@ -165,6 +217,18 @@ fn rows_fault(
     requires { ⌜ allCounted (tablesOf (now lanes) (now boundaries) (now roads) (now junctions) (now rules) (now «stop_lines») (now crosswalks) (now coordinates)) ≡ true ⌝ }
     ensures { λ r. ⌜ r ≡ F.rowsFault clause most (tablesOf (now (lanes .entry)) (now (boundaries .entry)) (now (roads .entry)) (now (junctions .entry)) (now (rules .entry)) (now («stop_lines» .entry)) (now (crosswalks .entry)) (now (coordinates .entry))) ⌝ }
 {
+    let later = later_rows_fault(
+        clause,
+        most,
+        lanes,
+        boundaries,
+        roads,
+        junctions,
+        rules,
+        stop_lines,
+        crosswalks,
+        coordinates,
+    );
     earlier(
         row_fault(clause, LANE_TABLE, lanes, LANES, LANE, most, coordinates),
         earlier(
@@ -179,40 +243,7 @@ fn rows_fault(
             ),
             earlier(
                 row_fault(clause, ROAD_TABLE, roads, ROADS, ROAD, most, coordinates),
-                earlier(
-                    row_fault(
-                        clause,
-                        JUNCTION_TABLE,
-                        junctions,
-                        JUNCTIONS,
-                        JUNCTION,
-                        most,
-                        coordinates,
-                    ),
-                    earlier(
-                        row_fault(clause, RULE_TABLE, rules, RULES, RULE, most, coordinates),
-                        earlier(
-                            row_fault(
-                                clause,
-                                STOP_LINE_TABLE,
-                                stop_lines,
-                                STOP_LINES,
-                                STOP_LINE,
-                                most,
-                                coordinates,
-                            ),
-                            row_fault(
-                                clause,
-                                CROSSWALK_TABLE,
-                                crosswalks,
-                                CROSSWALKS,
-                                CROSSWALK,
-                                most,
-                                coordinates,
-                            ),
-                        ),
-                    ),
-                ),
+                later,
             ),
         ),
     )
@@ -260,8 +291,101 @@ fn ids_fault(
     )
 }
 
+// Links that ascend, and lines.
+fn link_faults(
+    most: u64,
+    lanes: &[u64],
+    boundaries: &[u64],
+    roads: &[u64],
+    junctions: &[u64],
+    rules: &[u64],
+    stop_lines: &[u64],
+    crosswalks: &[u64],
+    coordinates: &[f64],
+) -> Fault
+    requires { ⌜ allCounted (tablesOf (now lanes) (now boundaries) (now roads) (now junctions) (now rules) (now «stop_lines») (now crosswalks) (now coordinates)) ≡ true ⌝ }
+    ensures { λ r. ⌜ r ≡ F.linkFaults most (tablesOf (now (lanes .entry)) (now (boundaries .entry)) (now (roads .entry)) (now (junctions .entry)) (now (rules .entry)) (now («stop_lines» .entry)) (now (crosswalks .entry)) (now (coordinates .entry))) ⌝ }
+{
+    let links = rows_fault(
+        LINKS,
+        most,
+        lanes,
+        boundaries,
+        roads,
+        junctions,
+        rules,
+        stop_lines,
+        crosswalks,
+        coordinates,
+    );
+    let lines = rows_fault(
+        LINES,
+        most,
+        lanes,
+        boundaries,
+        roads,
+        junctions,
+        rules,
+        stop_lines,
+        crosswalks,
+        coordinates,
+    );
+    earlier(links, lines)
+}
+
+// The clauses of ids, and those behind them.
+fn id_faults(
+    most: u64,
+    lanes: &[u64],
+    boundaries: &[u64],
+    roads: &[u64],
+    junctions: &[u64],
+    rules: &[u64],
+    stop_lines: &[u64],
+    crosswalks: &[u64],
+    coordinates: &[f64],
+) -> Fault
+    requires { ⌜ allCounted (tablesOf (now lanes) (now boundaries) (now roads) (now junctions) (now rules) (now «stop_lines») (now crosswalks) (now coordinates)) ≡ true ⌝ }
+    ensures { λ r. ⌜ r ≡ F.idFaults most (tablesOf (now (lanes .entry)) (now (boundaries .entry)) (now (roads .entry)) (now (junctions .entry)) (now (rules .entry)) (now («stop_lines» .entry)) (now (crosswalks .entry)) (now (coordinates .entry))) ⌝ }
+{
+    let ids = ids_fault(
+        lanes,
+        boundaries,
+        roads,
+        junctions,
+        rules,
+        stop_lines,
+        crosswalks,
+        coordinates,
+    );
+    let names = rows_fault(
+        NAMES,
+        most,
+        lanes,
+        boundaries,
+        roads,
+        junctions,
+        rules,
+        stop_lines,
+        crosswalks,
+        coordinates,
+    );
+    let links = link_faults(
+        most,
+        lanes,
+        boundaries,
+        roads,
+        junctions,
+        rules,
+        stop_lines,
+        crosswalks,
+        coordinates,
+    );
+    earlier(ids, earlier(names, links))
+}
+
 // The clauses that are asked of rows and ids, in their order.
-fn told_of_rows(
+fn form_faults(
     most: u64,
     lanes: &[u64],
     boundaries: &[u64],
@@ -299,18 +423,7 @@ fn told_of_rows(
         crosswalks,
         coordinates,
     );
-    let ids = ids_fault(
-        lanes,
-        boundaries,
-        roads,
-        junctions,
-        rules,
-        stop_lines,
-        crosswalks,
-        coordinates,
-    );
-    let names = rows_fault(
-        NAMES,
+    let ids = id_faults(
         most,
         lanes,
         boundaries,
@@ -321,34 +434,7 @@ fn told_of_rows(
         crosswalks,
         coordinates,
     );
-    let links = rows_fault(
-        LINKS,
-        most,
-        lanes,
-        boundaries,
-        roads,
-        junctions,
-        rules,
-        stop_lines,
-        crosswalks,
-        coordinates,
-    );
-    let lines = rows_fault(
-        LINES,
-        most,
-        lanes,
-        boundaries,
-        roads,
-        junctions,
-        rules,
-        stop_lines,
-        crosswalks,
-        coordinates,
-    );
-    earlier(
-        marks,
-        earlier(kinds, earlier(ids, earlier(names, earlier(links, lines)))),
-    )
+    earlier(marks, earlier(kinds, ids))
 }
 
 // ---- what ties rows to each other
@@ -398,7 +484,7 @@ pub fn first_fault(
     if counts.clause != 0 {
         return counts;
     }
-    let rows = told_of_rows(
+    let rows = form_faults(
         row_tests::sound::largest_id(counter),
         lanes,
         boundaries,

@@ -1,10 +1,7 @@
+-- `faults::back_fault` meets its contract. What the search found. Assumes nothing.
 use borrow.Author.Needs.{needs}
 use Rattle.faults.proofs.back_fault.Statement.{statement}
 use Rattle.faults.proofs.back_fault.Tie as tie
-use Rattle.faults.proofs.back_fault.Reads as reads
-use Rattle.faults.proofs.back_fault.Lts as lts
-use Rattle.faults.proofs.told.Reads as told-reads
-use Rattle.row_returns.proofs.first_unreturned.Reads as first-unreturned-reads
 use native.Mathlib.Omega.{arith}
 use lib.ListN.{getD}
 use Rattle.tables.specs.View.{rows}
@@ -13,19 +10,15 @@ use Rattle.row_returns.specs.Returns.{namedBack}
 use Rattle.row_faults.proofs.First.{tests-length}
 use Rattle.faults.proofs.Laws.{told-in}
 
--- src/lib.rt:370:9
 first-unreturned-requires : tie.Need-first-unreturned-requires
 first-unreturned-requires c κs = search needs
 
--- src/lib.rt:371:37
 shared-slice-read-told : tie.Need-shared-slice-read-told
 shared-slice-read-told c = omega (arith, lanes-some (c .before .before .before .args .lanes .now) (c .before .before .before .pre))
 
--- src/lib.rt:371:5
 told-requires : tie.Need-told-requires
 told-requires c κs = search needs
 
--- src/lib.rt:366:1
 returns : tie.Need-returns
 returns c =
     let p = namedBack (c .before .before .before .before .args .clause) (c .before .before .before .before .args .lanes .now) in

@@ -1,31 +1,23 @@
+-- `faults::count_fault` meets its contract. By the test. Assumes nothing.
 use borrow.Author.Needs.{needs}
 use Rattle.faults.proofs.count_fault.Statement.{statement}
 use Rattle.faults.proofs.count_fault.Tie as tie
-use Rattle.faults.proofs.count_fault.Reads as reads
-use Rattle.faults.proofs.count_fault.Lts as lts
-use Rattle.faults.proofs.told.Reads as told-reads
-use Rattle.row_tests.proofs.sound.counted.Reads as counted-reads
 use mathlib.Core.Path.{sym, _∙_}
 use Rattle.tables.specs.Formed.{counted}
 use Rattle.faults.proofs.Laws.{told-passed, told-failed}
 
--- src/lib.rt:95:8
 counted-requires : tie.Need-counted-requires
 counted-requires c κs = search needs
 
--- src/lib.rt:96:9
 told-requires : tie.Need-told-requires
 told-requires c κs = search needs
 
--- src/lib.rt:96:9
 returns : tie.Need-returns
 returns c = c .told .ensures ∙ told-passed 1 (c .before .before .before .before .args .table) (counted (c .before .before .before .before .args .limit) (c .before .before .before .before .args .row) (c .before .before .before .before .args .t .now)) (sym (c .before .before .counted .ensures) ∙ c .before .if1 .taken)
 
--- src/lib.rt:98:5
 told-requires-2 : tie.Need-told-requires-2
 told-requires-2 c κs = search needs
 
--- src/lib.rt:91:1
 returns-2 : tie.Need-returns-2
 returns-2 c = c .told2 .ensures ∙ told-failed 1 (c .before .before .before .before .args .table) (counted (c .before .before .before .before .args .limit) (c .before .before .before .before .args .row) (c .before .before .before .before .args .t .now)) (sym (c .before .before .counted .ensures) ∙ c .before .if1 .left)
 

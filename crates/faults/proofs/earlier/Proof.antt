@@ -1,14 +1,11 @@
+-- `faults::earlier` meets its contract. By whether the first is one. Assumes nothing.
 use Rattle.faults.proofs.earlier.Statement.{statement}
 use Rattle.faults.proofs.earlier.Tie as tie
-use Rattle.faults.proofs.earlier.Reads as reads
-use Rattle.faults.proofs.earlier.Lts as lts
 use Rattle.faults.proofs.Laws.{earlier-first, earlier-second}
 
--- src/lib.rt:66:9
 returns : tie.Need-returns
 returns c = earlier-second (c .before .before .args .a) (c .before .before .args .b) (c .if1 .taken)
 
--- src/lib.rt:62:1
 returns-2 : tie.Need-returns-2
 returns-2 c = earlier-first (c .before .before .args .a) (c .before .before .args .b) (c .if1 .left)
 

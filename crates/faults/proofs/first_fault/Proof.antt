@@ -1,15 +1,8 @@
+-- `faults::first_fault` meets its contract. The three ends, each by its law; where the counts and rows pass, lines and links may be looked at. Assumes nothing.
 use borrow.Author.Needs.{needs}
 use Rattle.faults.proofs.first_fault.Statement.{statement}
 use Rattle.faults.proofs.first_fault.Tie as tie
-use Rattle.faults.proofs.first_fault.Reads as reads
-use Rattle.faults.proofs.first_fault.Lts as lts
-use Rattle.faults.proofs.back_fault.Reads as back-fault-reads
-use Rattle.faults.proofs.counts_fault.Reads as counts-fault-reads
-use Rattle.faults.proofs.earlier.Reads as earlier-reads
-use Rattle.faults.proofs.points_fault.Reads as points-fault-reads
-use Rattle.faults.proofs.told_of_rows.Reads as told-of-rows-reads
-use Rattle.row_tests.proofs.sound.largest_id.Reads as largest-id-reads
-use mathlib.Core.Path.{_≡_, sym, ap, _∙_}
+use mathlib.Core.Path.{sym, ap, _∙_}
 use Prim.Native.Nat.{_≤_}
 use native.Mathlib.Omega.{arith}
 use Rattle.lists.proofs.Booleans.{and-fst}
@@ -21,72 +14,61 @@ use Rattle.soundness.proofs.Ends.{words-of, may-take, may-search}
 use Rattle.faults.proofs.Sound.{none-counted, rows-found}
 use Rattle.faults.proofs.Whole.{rowed, at-counts, at-rows, at-ties}
 
--- src/lib.rt:388:9
 counts-fault-requires : tie.Need-counts-fault-requires
 counts-fault-requires c κs = search needs
 
--- src/lib.rt:399:9
 returns : tie.Need-returns
 returns c = at-counts (c .before .before .before .before .before .before .before .before .before .before .before .args .counter) (tablesOf (c .before .before .before .before .before .before .before .before .before .before .before .args .lanes .now) (c .before .before .before .before .before .before .before .before .before .before .before .args .boundaries .now) (c .before .before .before .before .before .before .before .before .before .before .before .args .roads .now) (c .before .before .before .before .before .before .before .before .before .before .before .args .junctions .now) (c .before .before .before .before .before .before .before .before .before .before .before .args .rules .now) (c .before .before .before .before .before .before .before .before .before .before .before .args .stop-lines .now) (c .before .before .before .before .before .before .before .before .before .before .before .args .crosswalks .now) (c .before .before .before .before .before .before .before .before .before .before .before .args .coordinates .now)) (c .before .before .counts-fault .result) (c .before .before .counts-fault .ensures) (c .if1 .taken)
 
--- src/lib.rt:402:9
 largest-id-requires : tie.Need-largest-id-requires
 largest-id-requires c κs = search needs
 
--- src/lib.rt:401:9
-told-of-rows-requires : tie.Need-told-of-rows-requires
-told-of-rows-requires c κs =
+form-faults-requires : tie.Need-form-faults-requires
+form-faults-requires c κs =
     let t = (tablesOf (c .before .before .before .before .before .before .before .before .before .before .before .before .args .lanes .now) (c .before .before .before .before .before .before .before .before .before .before .before .before .args .boundaries .now) (c .before .before .before .before .before .before .before .before .before .before .before .before .args .roads .now) (c .before .before .before .before .before .before .before .before .before .before .before .before .args .junctions .now) (c .before .before .before .before .before .before .before .before .before .before .before .before .args .rules .now) (c .before .before .before .before .before .before .before .before .before .before .before .before .args .stop-lines .now) (c .before .before .before .before .before .before .before .before .before .before .before .before .args .crosswalks .now) (c .before .before .before .before .before .before .before .before .before .before .before .before .args .coordinates .now)) in
     (none-counted t (ap (λ f. f .clause) (sym (c .before .before .before .counts-fault .ensures)) ∙ c .before .if1 .left))
 
--- src/lib.rt:413:9
 returns-2 : tie.Need-returns-2
 returns-2 c =
     let t = (tablesOf (c .before .before .before .before .before .before .before .before .before .before .before .before .before .before .before .args .lanes .now) (c .before .before .before .before .before .before .before .before .before .before .before .before .before .before .before .args .boundaries .now) (c .before .before .before .before .before .before .before .before .before .before .before .before .before .before .before .args .roads .now) (c .before .before .before .before .before .before .before .before .before .before .before .before .before .before .before .args .junctions .now) (c .before .before .before .before .before .before .before .before .before .before .before .before .before .before .before .args .rules .now) (c .before .before .before .before .before .before .before .before .before .before .before .before .before .before .before .args .stop-lines .now) (c .before .before .before .before .before .before .before .before .before .before .before .before .before .before .before .args .crosswalks .now) (c .before .before .before .before .before .before .before .before .before .before .before .before .before .before .before .args .coordinates .now)) in
     let k = c .before .before .before .before .before .before .before .before .before .before .before .before .before .before .before .args .counter in
-    at-rows k t (c .before .before .before .before .before .before .counts-fault .result) (c .before .before .told-of-rows .result) (c .before .before .before .before .before .before .counts-fault .ensures) (c .before .before .before .before .if1 .left) (rowed k t (c .before .before .before .largest-id .result) (c .before .before .told-of-rows .result) (c .before .before .before .largest-id .ensures) (c .before .before .told-of-rows .ensures)) (c .if2 .taken)
+    at-rows k t (c .before .before .before .before .before .before .counts-fault .result) (c .before .before .form-faults .result) (c .before .before .before .before .before .before .counts-fault .ensures) (c .before .before .before .before .if1 .left) (rowed k t (c .before .before .before .largest-id .result) (c .before .before .form-faults .result) (c .before .before .before .largest-id .ensures) (c .before .before .form-faults .ensures)) (c .if2 .taken)
 
--- src/lib.rt:415:9
 points-fault-requires : tie.Need-points-fault-requires
 points-fault-requires c κs =
     let t = (tablesOf (c .before .before .before .before .before .before .before .before .before .before .before .before .before .before .before .args .lanes .now) (c .before .before .before .before .before .before .before .before .before .before .before .before .before .before .before .args .boundaries .now) (c .before .before .before .before .before .before .before .before .before .before .before .before .before .before .before .args .roads .now) (c .before .before .before .before .before .before .before .before .before .before .before .before .before .before .before .args .junctions .now) (c .before .before .before .before .before .before .before .before .before .before .before .before .before .before .before .args .rules .now) (c .before .before .before .before .before .before .before .before .before .before .before .before .before .before .before .args .stop-lines .now) (c .before .before .before .before .before .before .before .before .before .before .before .before .before .before .before .args .crosswalks .now) (c .before .before .before .before .before .before .before .before .before .before .before .before .before .before .before .args .coordinates .now)) in
     let k = c .before .before .before .before .before .before .before .before .before .before .before .before .before .before .before .args .counter in
     let small : k ≤ lastCounter = omega (arith, c .before .before .before .before .before .before .before .before .before .before .before .before .before .before .before .good .0 .1) in
     let w = words-of t (c .before .before .before .before .before .before .before .before .before .before .before .before .before .before .shared-slice-known .given) (c .before .before .before .before .before .before .before .before .before .before .before .before .before .shared-slice-known2 .given) (c .before .before .before .before .before .before .before .before .before .before .before .before .shared-slice-known3 .given) (c .before .before .before .before .before .before .before .before .before .before .before .shared-slice-known4 .given) (c .before .before .before .before .before .before .before .before .before .before .shared-slice-known5 .given) (c .before .before .before .before .before .before .before .before .before .shared-slice-known6 .given) (c .before .before .before .before .before .before .before .before .shared-slice-known7 .given) in
-    may-take k t small w (none-counted t (ap (λ f. f .clause) (sym (c .before .before .before .before .before .before .counts-fault .ensures)) ∙ c .before .before .before .before .if1 .left)) (and-fst (allGood (largestId k) t) (allAscend t) (rows-found t (largestId k) (ap (λ f. f .clause) (sym (rowed k t (c .before .before .before .largest-id .result) (c .before .before .told-of-rows .result) (c .before .before .before .largest-id .ensures) (c .before .before .told-of-rows .ensures))) ∙ c .if2 .left)))
+    may-take k t small w (none-counted t (ap (λ f. f .clause) (sym (c .before .before .before .before .before .before .counts-fault .ensures)) ∙ c .before .before .before .before .if1 .left)) (and-fst (allGood (largestId k) t) (allAscend t) (rows-found t (largestId k) (ap (λ f. f .clause) (sym (rowed k t (c .before .before .before .largest-id .result) (c .before .before .form-faults .result) (c .before .before .before .largest-id .ensures) (c .before .before .form-faults .ensures))) ∙ c .if2 .left)))
 
--- src/lib.rt:416:9
 back-fault-requires : tie.Need-back-fault-requires
 back-fault-requires c κs =
     let t = (tablesOf (c .before .before .before .before .before .before .before .before .before .before .before .before .before .before .before .before .args .lanes .now) (c .before .before .before .before .before .before .before .before .before .before .before .before .before .before .before .before .args .boundaries .now) (c .before .before .before .before .before .before .before .before .before .before .before .before .before .before .before .before .args .roads .now) (c .before .before .before .before .before .before .before .before .before .before .before .before .before .before .before .before .args .junctions .now) (c .before .before .before .before .before .before .before .before .before .before .before .before .before .before .before .before .args .rules .now) (c .before .before .before .before .before .before .before .before .before .before .before .before .before .before .before .before .args .stop-lines .now) (c .before .before .before .before .before .before .before .before .before .before .before .before .before .before .before .before .args .crosswalks .now) (c .before .before .before .before .before .before .before .before .before .before .before .before .before .before .before .before .args .coordinates .now)) in
     let k = c .before .before .before .before .before .before .before .before .before .before .before .before .before .before .before .before .args .counter in
     let small : k ≤ lastCounter = omega (arith, c .before .before .before .before .before .before .before .before .before .before .before .before .before .before .before .before .good .0 .1) in
     let w = words-of t (c .before .before .before .before .before .before .before .before .before .before .before .before .before .before .before .shared-slice-known .given) (c .before .before .before .before .before .before .before .before .before .before .before .before .before .before .shared-slice-known2 .given) (c .before .before .before .before .before .before .before .before .before .before .before .before .before .shared-slice-known3 .given) (c .before .before .before .before .before .before .before .before .before .before .before .before .shared-slice-known4 .given) (c .before .before .before .before .before .before .before .before .before .before .before .shared-slice-known5 .given) (c .before .before .before .before .before .before .before .before .before .before .shared-slice-known6 .given) (c .before .before .before .before .before .before .before .before .before .shared-slice-known7 .given) in
-    may-search k t small w (none-counted t (ap (λ f. f .clause) (sym (c .before .before .before .before .before .before .before .counts-fault .ensures)) ∙ c .before .before .before .before .before .if1 .left)) (rows-found t (largestId k) (ap (λ f. f .clause) (sym (rowed k t (c .before .before .before .before .largest-id .result) (c .before .before .before .told-of-rows .result) (c .before .before .before .before .largest-id .ensures) (c .before .before .before .told-of-rows .ensures))) ∙ c .before .if2 .left))
+    may-search k t small w (none-counted t (ap (λ f. f .clause) (sym (c .before .before .before .before .before .before .before .counts-fault .ensures)) ∙ c .before .before .before .before .before .if1 .left)) (rows-found t (largestId k) (ap (λ f. f .clause) (sym (rowed k t (c .before .before .before .before .largest-id .result) (c .before .before .before .form-faults .result) (c .before .before .before .before .largest-id .ensures) (c .before .before .before .form-faults .ensures))) ∙ c .before .if2 .left))
 
--- src/lib.rt:417:36
 back-fault-requires-2 : tie.Need-back-fault-requires-2
 back-fault-requires-2 c κs =
     let t = (tablesOf (c .before .before .before .before .before .before .before .before .before .before .before .before .before .before .before .before .before .args .lanes .now) (c .before .before .before .before .before .before .before .before .before .before .before .before .before .before .before .before .before .args .boundaries .now) (c .before .before .before .before .before .before .before .before .before .before .before .before .before .before .before .before .before .args .roads .now) (c .before .before .before .before .before .before .before .before .before .before .before .before .before .before .before .before .before .args .junctions .now) (c .before .before .before .before .before .before .before .before .before .before .before .before .before .before .before .before .before .args .rules .now) (c .before .before .before .before .before .before .before .before .before .before .before .before .before .before .before .before .before .args .stop-lines .now) (c .before .before .before .before .before .before .before .before .before .before .before .before .before .before .before .before .before .args .crosswalks .now) (c .before .before .before .before .before .before .before .before .before .before .before .before .before .before .before .before .before .args .coordinates .now)) in
     let k = c .before .before .before .before .before .before .before .before .before .before .before .before .before .before .before .before .before .args .counter in
     let small : k ≤ lastCounter = omega (arith, c .before .before .before .before .before .before .before .before .before .before .before .before .before .before .before .before .before .good .0 .1) in
     let w = words-of t (c .before .before .before .before .before .before .before .before .before .before .before .before .before .before .before .before .shared-slice-known .given) (c .before .before .before .before .before .before .before .before .before .before .before .before .before .before .before .shared-slice-known2 .given) (c .before .before .before .before .before .before .before .before .before .before .before .before .before .before .shared-slice-known3 .given) (c .before .before .before .before .before .before .before .before .before .before .before .before .before .shared-slice-known4 .given) (c .before .before .before .before .before .before .before .before .before .before .before .before .shared-slice-known5 .given) (c .before .before .before .before .before .before .before .before .before .before .before .shared-slice-known6 .given) (c .before .before .before .before .before .before .before .before .before .before .shared-slice-known7 .given) in
-    may-search k t small w (none-counted t (ap (λ f. f .clause) (sym (c .before .before .before .before .before .before .before .before .counts-fault .ensures)) ∙ c .before .before .before .before .before .before .if1 .left)) (rows-found t (largestId k) (ap (λ f. f .clause) (sym (rowed k t (c .before .before .before .before .before .largest-id .result) (c .before .before .before .before .told-of-rows .result) (c .before .before .before .before .before .largest-id .ensures) (c .before .before .before .before .told-of-rows .ensures))) ∙ c .before .before .if2 .left))
+    may-search k t small w (none-counted t (ap (λ f. f .clause) (sym (c .before .before .before .before .before .before .before .before .counts-fault .ensures)) ∙ c .before .before .before .before .before .before .if1 .left)) (rows-found t (largestId k) (ap (λ f. f .clause) (sym (rowed k t (c .before .before .before .before .before .largest-id .result) (c .before .before .before .before .form-faults .result) (c .before .before .before .before .before .largest-id .ensures) (c .before .before .before .before .form-faults .ensures))) ∙ c .before .before .if2 .left))
 
--- src/lib.rt:417:21
 earlier-requires : tie.Need-earlier-requires
 earlier-requires c κs = search needs
 
--- src/lib.rt:417:5
 earlier-requires-2 : tie.Need-earlier-requires-2
 earlier-requires-2 c κs = search needs
 
--- src/lib.rt:375:1
 returns-3 : tie.Need-returns-3
 returns-3 c =
     let t = (tablesOf (c .before .before .before .before .before .before .before .before .before .before .before .before .before .before .before .before .before .before .before .before .args .lanes .now) (c .before .before .before .before .before .before .before .before .before .before .before .before .before .before .before .before .before .before .before .before .args .boundaries .now) (c .before .before .before .before .before .before .before .before .before .before .before .before .before .before .before .before .before .before .before .before .args .roads .now) (c .before .before .before .before .before .before .before .before .before .before .before .before .before .before .before .before .before .before .before .before .args .junctions .now) (c .before .before .before .before .before .before .before .before .before .before .before .before .before .before .before .before .before .before .before .before .args .rules .now) (c .before .before .before .before .before .before .before .before .before .before .before .before .before .before .before .before .before .before .before .before .args .stop-lines .now) (c .before .before .before .before .before .before .before .before .before .before .before .before .before .before .before .before .before .before .before .before .args .crosswalks .now) (c .before .before .before .before .before .before .before .before .before .before .before .before .before .before .before .before .before .before .before .before .args .coordinates .now)) in
     let k = c .before .before .before .before .before .before .before .before .before .before .before .before .before .before .before .before .before .before .before .before .args .counter in
-    at-ties k t (c .before .before .before .before .before .before .before .before .before .before .before .counts-fault .result) (c .before .before .before .before .before .before .before .told-of-rows .result) (c .before .before .before .before .points-fault .result) (c .before .before .before .back-fault .result) (c .before .before .back-fault2 .result) (c .before .earlier .result) (c .earlier2 .result) (c .before .before .before .before .before .before .before .before .before .before .before .counts-fault .ensures) (c .before .before .before .before .before .before .before .before .before .if1 .left) (rowed k t (c .before .before .before .before .before .before .before .before .largest-id .result) (c .before .before .before .before .before .before .before .told-of-rows .result) (c .before .before .before .before .before .before .before .before .largest-id .ensures) (c .before .before .before .before .before .before .before .told-of-rows .ensures)) (c .before .before .before .before .before .if2 .left) (c .before .before .before .before .points-fault .ensures) (c .before .before .before .back-fault .ensures) (c .before .before .back-fault2 .ensures) (c .before .earlier .ensures) (c .earlier2 .ensures)
+    at-ties k t (c .before .before .before .before .before .before .before .before .before .before .before .counts-fault .result) (c .before .before .before .before .before .before .before .form-faults .result) (c .before .before .before .before .points-fault .result) (c .before .before .before .back-fault .result) (c .before .before .back-fault2 .result) (c .before .earlier .result) (c .earlier2 .result) (c .before .before .before .before .before .before .before .before .before .before .before .counts-fault .ensures) (c .before .before .before .before .before .before .before .before .before .if1 .left) (rowed k t (c .before .before .before .before .before .before .before .before .largest-id .result) (c .before .before .before .before .before .before .before .form-faults .result) (c .before .before .before .before .before .before .before .before .largest-id .ensures) (c .before .before .before .before .before .before .before .form-faults .ensures)) (c .before .before .before .before .before .if2 .left) (c .before .before .before .before .points-fault .ensures) (c .before .before .before .back-fault .ensures) (c .before .before .back-fault2 .ensures) (c .before .earlier .ensures) (c .earlier2 .ensures)
 
 pub first-fault-spec : {M : Type 1} → statement M
 first-fault-spec =
@@ -95,7 +77,7 @@ first-fault-spec =
     counts-fault-requires
     returns
     largest-id-requires
-    told-of-rows-requires
+    form-faults-requires
     returns-2
     points-fault-requires
     back-fault-requires

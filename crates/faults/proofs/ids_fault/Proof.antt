@@ -1,68 +1,51 @@
+-- `faults::ids_fault` meets its contract. What the calls found, in the order of the tables. Assumes nothing.
 use borrow.Author.Needs.{needs}
 use Rattle.faults.proofs.ids_fault.Statement.{statement}
 use Rattle.faults.proofs.ids_fault.Tie as tie
-use Rattle.faults.proofs.ids_fault.Reads as reads
-use Rattle.faults.proofs.ids_fault.Lts as lts
-use Rattle.faults.proofs.earlier.Reads as earlier-reads
-use Rattle.faults.proofs.id_fault.Reads as id-fault-reads
 use native.Mathlib.Omega.{arith}
 use Rattle.tables.specs.View.{tablesOf}
 use Rattle.soundness.proofs.Counts.{counts}
 use Rattle.faults.specs.Faults.{idsFault}
 
--- src/lib.rt:243:9
 id-fault-requires : tie.Need-id-fault-requires
 id-fault-requires c κs = (omega arith, counts (tablesOf (c .before .before .before .before .before .before .before .before .args .lanes .now) (c .before .before .before .before .before .before .before .before .args .boundaries .now) (c .before .before .before .before .before .before .before .before .args .roads .now) (c .before .before .before .before .before .before .before .before .args .junctions .now) (c .before .before .before .before .before .before .before .before .args .rules .now) (c .before .before .before .before .before .before .before .before .args .stop-lines .now) (c .before .before .before .before .before .before .before .before .args .crosswalks .now) (c .before .before .before .before .before .before .before .before .args .coordinates .now)) (c .before .before .before .before .before .before .before .before .pre) .lanes)
 
--- src/lib.rt:245:13
 id-fault-requires-2 : tie.Need-id-fault-requires-2
 id-fault-requires-2 c κs = (omega arith, counts (tablesOf (c .before .before .before .before .before .before .before .before .before .args .lanes .now) (c .before .before .before .before .before .before .before .before .before .args .boundaries .now) (c .before .before .before .before .before .before .before .before .before .args .roads .now) (c .before .before .before .before .before .before .before .before .before .args .junctions .now) (c .before .before .before .before .before .before .before .before .before .args .rules .now) (c .before .before .before .before .before .before .before .before .before .args .stop-lines .now) (c .before .before .before .before .before .before .before .before .before .args .crosswalks .now) (c .before .before .before .before .before .before .before .before .before .args .coordinates .now)) (c .before .before .before .before .before .before .before .before .before .pre) .boundaries)
 
--- src/lib.rt:247:17
 id-fault-requires-3 : tie.Need-id-fault-requires-3
 id-fault-requires-3 c κs = (omega arith, counts (tablesOf (c .before .before .before .before .before .before .before .before .before .before .args .lanes .now) (c .before .before .before .before .before .before .before .before .before .before .args .boundaries .now) (c .before .before .before .before .before .before .before .before .before .before .args .roads .now) (c .before .before .before .before .before .before .before .before .before .before .args .junctions .now) (c .before .before .before .before .before .before .before .before .before .before .args .rules .now) (c .before .before .before .before .before .before .before .before .before .before .args .stop-lines .now) (c .before .before .before .before .before .before .before .before .before .before .args .crosswalks .now) (c .before .before .before .before .before .before .before .before .before .before .args .coordinates .now)) (c .before .before .before .before .before .before .before .before .before .before .pre) .roads)
 
--- src/lib.rt:249:21
 id-fault-requires-4 : tie.Need-id-fault-requires-4
 id-fault-requires-4 c κs = (omega arith, counts (tablesOf (c .before .before .before .before .before .before .before .before .before .before .before .args .lanes .now) (c .before .before .before .before .before .before .before .before .before .before .before .args .boundaries .now) (c .before .before .before .before .before .before .before .before .before .before .before .args .roads .now) (c .before .before .before .before .before .before .before .before .before .before .before .args .junctions .now) (c .before .before .before .before .before .before .before .before .before .before .before .args .rules .now) (c .before .before .before .before .before .before .before .before .before .before .before .args .stop-lines .now) (c .before .before .before .before .before .before .before .before .before .before .before .args .crosswalks .now) (c .before .before .before .before .before .before .before .before .before .before .before .args .coordinates .now)) (c .before .before .before .before .before .before .before .before .before .before .before .pre) .junctions)
 
--- src/lib.rt:251:25
 id-fault-requires-5 : tie.Need-id-fault-requires-5
 id-fault-requires-5 c κs = (omega arith, counts (tablesOf (c .before .before .before .before .before .before .before .before .before .before .before .before .args .lanes .now) (c .before .before .before .before .before .before .before .before .before .before .before .before .args .boundaries .now) (c .before .before .before .before .before .before .before .before .before .before .before .before .args .roads .now) (c .before .before .before .before .before .before .before .before .before .before .before .before .args .junctions .now) (c .before .before .before .before .before .before .before .before .before .before .before .before .args .rules .now) (c .before .before .before .before .before .before .before .before .before .before .before .before .args .stop-lines .now) (c .before .before .before .before .before .before .before .before .before .before .before .before .args .crosswalks .now) (c .before .before .before .before .before .before .before .before .before .before .before .before .args .coordinates .now)) (c .before .before .before .before .before .before .before .before .before .before .before .before .pre) .rules)
 
--- src/lib.rt:253:29
 id-fault-requires-6 : tie.Need-id-fault-requires-6
 id-fault-requires-6 c κs = (omega arith, counts (tablesOf (c .before .before .before .before .before .before .before .before .before .before .before .before .before .args .lanes .now) (c .before .before .before .before .before .before .before .before .before .before .before .before .before .args .boundaries .now) (c .before .before .before .before .before .before .before .before .before .before .before .before .before .args .roads .now) (c .before .before .before .before .before .before .before .before .before .before .before .before .before .args .junctions .now) (c .before .before .before .before .before .before .before .before .before .before .before .before .before .args .rules .now) (c .before .before .before .before .before .before .before .before .before .before .before .before .before .args .stop-lines .now) (c .before .before .before .before .before .before .before .before .before .before .before .before .before .args .crosswalks .now) (c .before .before .before .before .before .before .before .before .before .before .before .before .before .args .coordinates .now)) (c .before .before .before .before .before .before .before .before .before .before .before .before .before .pre) .stop-lines)
 
--- src/lib.rt:254:29
 id-fault-requires-7 : tie.Need-id-fault-requires-7
 id-fault-requires-7 c κs = (omega arith, counts (tablesOf (c .before .before .before .before .before .before .before .before .before .before .before .before .before .before .args .lanes .now) (c .before .before .before .before .before .before .before .before .before .before .before .before .before .before .args .boundaries .now) (c .before .before .before .before .before .before .before .before .before .before .before .before .before .before .args .roads .now) (c .before .before .before .before .before .before .before .before .before .before .before .before .before .before .args .junctions .now) (c .before .before .before .before .before .before .before .before .before .before .before .before .before .before .args .rules .now) (c .before .before .before .before .before .before .before .before .before .before .before .before .before .before .args .stop-lines .now) (c .before .before .before .before .before .before .before .before .before .before .before .before .before .before .args .crosswalks .now) (c .before .before .before .before .before .before .before .before .before .before .before .before .before .before .args .coordinates .now)) (c .before .before .before .before .before .before .before .before .before .before .before .before .before .before .pre) .crosswalks)
 
--- src/lib.rt:252:25
 earlier-requires : tie.Need-earlier-requires
 earlier-requires c κs = search needs
 
--- src/lib.rt:250:21
 earlier-requires-2 : tie.Need-earlier-requires-2
 earlier-requires-2 c κs = search needs
 
--- src/lib.rt:248:17
 earlier-requires-3 : tie.Need-earlier-requires-3
 earlier-requires-3 c κs = search needs
 
--- src/lib.rt:246:13
 earlier-requires-4 : tie.Need-earlier-requires-4
 earlier-requires-4 c κs = search needs
 
--- src/lib.rt:244:9
 earlier-requires-5 : tie.Need-earlier-requires-5
 earlier-requires-5 c κs = search needs
 
--- src/lib.rt:242:5
 earlier-requires-6 : tie.Need-earlier-requires-6
 earlier-requires-6 c κs = search needs
 
--- src/lib.rt:229:1
 returns : tie.Need-returns
 unfolding idsFault
 returns c = rw (c .earlier6 .ensures, c .before .earlier5 .ensures, c .before .before .earlier4 .ensures, c .before .before .before .earlier3 .ensures, c .before .before .before .before .earlier2 .ensures, c .before .before .before .before .before .earlier .ensures, c .before .before .before .before .before .before .before .before .before .before .before .before .id-fault .ensures, c .before .before .before .before .before .before .before .before .before .before .before .id-fault2 .ensures, c .before .before .before .before .before .before .before .before .before .before .id-fault3 .ensures, c .before .before .before .before .before .before .before .before .before .id-fault4 .ensures, c .before .before .before .before .before .before .before .before .id-fault5 .ensures, c .before .before .before .before .before .before .before .id-fault6 .ensures, c .before .before .before .before .before .before .id-fault7 .ensures)

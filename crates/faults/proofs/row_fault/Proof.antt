@@ -1,10 +1,7 @@
+-- `faults::row_fault` meets its contract. What the search found. Assumes nothing.
 use borrow.Author.Needs.{needs}
 use Rattle.faults.proofs.row_fault.Statement.{statement}
 use Rattle.faults.proofs.row_fault.Tie as tie
-use Rattle.faults.proofs.row_fault.Reads as reads
-use Rattle.faults.proofs.row_fault.Lts as lts
-use Rattle.faults.proofs.told.Reads as told-reads
-use Rattle.row_faults.proofs.first_failing.Reads as first-failing-reads
 use native.Mathlib.Omega.{arith}
 use lib.ListN.{getD}
 use Rattle.tables.specs.View.{rows}
@@ -13,19 +10,15 @@ use Rattle.row_faults.specs.Passes.{rowPasses}
 use Rattle.row_faults.proofs.First.{tests-length}
 use Rattle.faults.proofs.Laws.{told-in}
 
--- src/lib.rt:148:9
 first-failing-requires : tie.Need-first-failing-requires
 first-failing-requires c κs = search needs
 
--- src/lib.rt:149:32
 shared-slice-read-told : tie.Need-shared-slice-read-told
 shared-slice-read-told c = omega (arith, table-some (c .before .before .before .before .args .limit) (c .before .before .before .before .args .row) (c .before .before .before .before .args .t .now) (c .before .before .before .before .pre .1))
 
--- src/lib.rt:149:5
 told-requires : tie.Need-told-requires
 told-requires c κs = search needs
 
--- src/lib.rt:136:1
 returns : tie.Need-returns
 returns c =
     let p = rowPasses (c .before .before .before .before .before .args .clause) (c .before .before .before .before .before .args .table) (c .before .before .before .before .before .args .most) (c .before .before .before .before .before .args .coordinates .now) in

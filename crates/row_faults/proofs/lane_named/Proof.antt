@@ -1,12 +1,7 @@
+-- `row_faults::lane_named` meets its contract. A formed row's lists lie in the row; the parts lent are the lists. Assumes nothing.
 use borrow.Author.Needs.{needs}
 use Rattle.row_faults.proofs.lane_named.Statement.{statement}
 use Rattle.row_faults.proofs.lane_named.Tie as tie
-use Rattle.row_faults.proofs.lane_named.Reads as reads
-use Rattle.row_faults.proofs.lane_named.Lts as lts
-use Rattle.entity_tests.proofs.lane_formed.Reads as lane-formed-reads
-use Rattle.entity_tests.proofs.lane_numbers.Reads as lane-numbers-reads
-use Rattle.lists.proofs.all_at_most.Reads as all-at-most-reads
-use Rattle.lists.proofs.both.Reads as both-reads
 use mathlib.Core.Path.{_≡_, sym, _∙_}
 use Prim.Native.Nat.{_+_, _-_}
 use native.Mathlib.Omega.{arith}
@@ -15,71 +10,54 @@ use Rattle.lists.proofs.Booleans.{and-fst}
 use Rattle.row_tests.proofs.Formed.{lane-before, lane-after}
 use Rattle.row_faults.specs.Passes.{laneNamed}
 
--- src/lib.rt:93:9
 lane-formed-requires : tie.Need-lane-formed-requires
 lane-formed-requires c κs = search needs
 
--- src/lib.rt:94:9
 lane-numbers-requires : tie.Need-lane-numbers-requires
 lane-numbers-requires c κs = search needs
 
--- src/lib.rt:92:8
 both-requires : tie.Need-both-requires
 both-requires c κs = search needs
 
--- src/lib.rt:96:42
 shared-slice-read-before : tie.Need-shared-slice-read-before
 shared-slice-read-before c = search needs
 
--- src/lib.rt:96:22
 add-before : tie.Need-add-before
 add-before c = omega (arith, lane-before (c .before .before .before .before .before .before .args .w .now) (sym (c .before .before .before .before .lane-formed .ensures) ∙ and-fst (c .before .before .before .before .lane-formed .result) (c .before .before .before .lane-numbers .result) (sym (c .before .before .both .ensures) ∙ c .before .if1 .taken)))
 
--- src/lib.rt:97:39
 shared-slice-read-after : tie.Need-shared-slice-read-after
 shared-slice-read-after c = search needs
 
--- src/lib.rt:97:21
 add-after : tie.Need-add-after
 add-after c = omega (arith, lane-after (c .before .before .before .before .before .before .before .args .w .now) (sym (c .before .before .before .before .before .lane-formed .ensures) ∙ and-fst (c .before .before .before .before .before .lane-formed .result) (c .before .before .before .before .lane-numbers .result) (sym (c .before .before .before .both .ensures) ∙ c .before .before .if1 .taken)))
 
--- src/lib.rt:99:32
 sub-all-at-most : tie.Need-sub-all-at-most
 sub-all-at-most c = search needs
 
--- src/lib.rt:99:32
 part-all-at-most-start : tie.Need-part-all-at-most-start
 part-all-at-most-start c = search needs
 
--- src/lib.rt:99:32
 part-all-at-most-end : tie.Need-part-all-at-most-end
 part-all-at-most-end c = omega (arith, lane-before (c .before .before .before .before .before .before .before .args .w .now) (sym (c .before .before .before .before .before .lane-formed .ensures) ∙ and-fst (c .before .before .before .before .before .lane-formed .result) (c .before .before .before .before .lane-numbers .result) (sym (c .before .before .before .both .ensures) ∙ c .before .before .if1 .taken)))
 
--- src/lib.rt:99:13
 all-at-most-requires : tie.Need-all-at-most-requires
 all-at-most-requires c κs = search needs
 
--- src/lib.rt:100:32
 sub-all-at-most-2 : tie.Need-sub-all-at-most-2
 sub-all-at-most-2 c = search needs
 
--- src/lib.rt:100:32
 part-all-at-most-start-2 : tie.Need-part-all-at-most-start-2
 part-all-at-most-start-2 c = search needs
 
--- src/lib.rt:100:32
 part-all-at-most-end-2 : tie.Need-part-all-at-most-end-2
 part-all-at-most-end-2 c = omega (arith, lane-after (c .before .before .before .before .before .before .before .before .before .args .w .now) (sym (c .before .before .before .before .before .before .before .lane-formed .ensures) ∙ and-fst (c .before .before .before .before .before .before .before .lane-formed .result) (c .before .before .before .before .before .before .lane-numbers .result) (sym (c .before .before .before .before .before .both .ensures) ∙ c .before .before .before .before .if1 .taken)))
 
--- src/lib.rt:100:13
 all-at-most-requires-2 : tie.Need-all-at-most-requires-2
 all-at-most-requires-2 c κs = search needs
 
--- src/lib.rt:98:9
 both-requires-2 : tie.Need-both-requires-2
 both-requires-2 c κs = search needs
 
--- src/lib.rt:98:9
 returns : tie.Need-returns
 unfolding laneNamed
 returns c =
@@ -88,7 +66,6 @@ returns c =
     let f : 36 + getD w 35 0 - 36 ≡ getD w 35 0 = omega arith in
     rw (c .both2 .ensures, c .before .before .before .all-at-most .ensures, c .before .all-at-most2 .ensures, e, f, ← c .before .before .before .before .before .before .before .before .before .before .lane-formed .ensures, ← c .before .before .before .before .before .before .before .before .before .lane-numbers .ensures, ← c .before .before .before .before .before .before .before .before .both .ensures, c .before .before .before .before .before .before .before .if1 .taken)
 
--- src/lib.rt:88:1
 returns-2 : tie.Need-returns-2
 unfolding laneNamed
 returns-2 c = rw (← c .before .before .before .lane-formed .ensures, ← c .before .before .lane-numbers .ensures, ← c .before .both .ensures, c .if1 .left)

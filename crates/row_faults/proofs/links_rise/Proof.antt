@@ -1,11 +1,7 @@
+-- `row_faults::links_rise` meets its contract. A formed row's lists lie in the row; the parts lent are the lists. Assumes nothing.
 use borrow.Author.Needs.{needs}
 use Rattle.row_faults.proofs.links_rise.Statement.{statement}
 use Rattle.row_faults.proofs.links_rise.Tie as tie
-use Rattle.row_faults.proofs.links_rise.Reads as reads
-use Rattle.row_faults.proofs.links_rise.Lts as lts
-use Rattle.entity_tests.proofs.lane_formed.Reads as lane-formed-reads
-use Rattle.lists.proofs.ascends.Reads as ascends-reads
-use Rattle.lists.proofs.both.Reads as both-reads
 use mathlib.Core.Path.{_≡_, sym, _∙_}
 use Prim.Native.Nat.{_+_, _-_}
 use native.Mathlib.Omega.{arith}
@@ -13,63 +9,48 @@ use lib.ListN.{getD}
 use Rattle.row_tests.proofs.Formed.{lane-before, lane-after}
 use Rattle.row_faults.specs.Passes.{linksRise}
 
--- src/lib.rt:110:8
 lane-formed-requires : tie.Need-lane-formed-requires
 lane-formed-requires c κs = search needs
 
--- src/lib.rt:111:42
 shared-slice-read-before : tie.Need-shared-slice-read-before
 shared-slice-read-before c = search needs
 
--- src/lib.rt:111:22
 add-before : tie.Need-add-before
 add-before c = omega (arith, lane-before (c .before .before .before .before .args .w .now) (sym (c .before .before .lane-formed .ensures) ∙ c .before .if1 .taken))
 
--- src/lib.rt:112:39
 shared-slice-read-after : tie.Need-shared-slice-read-after
 shared-slice-read-after c = search needs
 
--- src/lib.rt:112:21
 add-after : tie.Need-add-after
 add-after c = omega (arith, lane-after (c .before .before .before .before .before .args .w .now) (sym (c .before .before .before .lane-formed .ensures) ∙ c .before .before .if1 .taken))
 
--- src/lib.rt:114:28
 sub-ascends : tie.Need-sub-ascends
 sub-ascends c = search needs
 
--- src/lib.rt:114:28
 part-ascends-start : tie.Need-part-ascends-start
 part-ascends-start c = search needs
 
--- src/lib.rt:114:28
 part-ascends-end : tie.Need-part-ascends-end
 part-ascends-end c = omega (arith, lane-before (c .before .before .before .before .before .args .w .now) (sym (c .before .before .before .lane-formed .ensures) ∙ c .before .before .if1 .taken))
 
--- src/lib.rt:114:13
 ascends-requires : tie.Need-ascends-requires
 ascends-requires c κs = search needs
 
--- src/lib.rt:115:28
 sub-ascends-2 : tie.Need-sub-ascends-2
 sub-ascends-2 c = search needs
 
--- src/lib.rt:115:28
 part-ascends-start-2 : tie.Need-part-ascends-start-2
 part-ascends-start-2 c = search needs
 
--- src/lib.rt:115:28
 part-ascends-end-2 : tie.Need-part-ascends-end-2
 part-ascends-end-2 c = omega (arith, lane-after (c .before .before .before .before .before .before .before .args .w .now) (sym (c .before .before .before .before .before .lane-formed .ensures) ∙ c .before .before .before .before .if1 .taken))
 
--- src/lib.rt:115:13
 ascends-requires-2 : tie.Need-ascends-requires-2
 ascends-requires-2 c κs = search needs
 
--- src/lib.rt:113:9
 both-requires : tie.Need-both-requires
 both-requires c κs = search needs
 
--- src/lib.rt:113:9
 returns : tie.Need-returns
 unfolding linksRise
 returns c =
@@ -78,7 +59,6 @@ returns c =
     let f : 36 + getD w 35 0 - 36 ≡ getD w 35 0 = omega arith in
     rw (c .both .ensures, c .before .before .before .ascends .ensures, c .before .ascends2 .ensures, e, f, ← c .before .before .before .before .before .before .before .before .lane-formed .ensures, c .before .before .before .before .before .before .before .if1 .taken)
 
--- src/lib.rt:106:1
 returns-2 : tie.Need-returns-2
 unfolding linksRise
 returns-2 c = rw (← c .before .lane-formed .ensures, c .if1 .left)

@@ -1,54 +1,42 @@
+-- `row_faults::rises_at` meets its contract. Two rows lie in the table; the first has none before it. Assumes nothing.
 use borrow.Author.Needs.{needs}
 use Rattle.row_faults.proofs.rises_at.Statement.{statement}
 use Rattle.row_faults.proofs.rises_at.Tie as tie
-use Rattle.row_faults.proofs.rises_at.Reads as reads
-use Rattle.row_faults.proofs.rises_at.Lts as lts
 use Prim.Native.Nat.{_-_}
 use native.Mathlib.Omega.{arith}
 use Rattle.row_tests.proofs.Tables.{row-room}
 use Rattle.row_faults.proofs.First.{id-first, id-later}
 
--- src/lib.rt:331:9
 returns : tie.Need-returns
 returns c = id-first (c .before .args .row) (c .before .args .t .now) (c .before .pre .0) (c .before .args .i) (c .if1 .taken)
 
--- src/lib.rt:333:12
 sub-result : tie.Need-sub-result
 sub-result c = search needs
 
--- src/lib.rt:333:11
 mul-result : tie.Need-mul-result
 mul-result c = omega (arith, row-room (c .before .args .limit) (c .before .args .row) (c .before .args .t .now) (c .before .pre .1 .0) (c .before .args .i - 1) (omega (arith, c .before .pre .1 .1)), row-room (c .before .args .limit) (c .before .args .row) (c .before .args .t .now) (c .before .pre .1 .0) (c .before .args .i) (c .before .pre .1 .1))
 
--- src/lib.rt:333:7
 add-result : tie.Need-add-result
 add-result c = omega (arith, row-room (c .before .args .limit) (c .before .args .row) (c .before .args .t .now) (c .before .pre .1 .0) (c .before .args .i - 1) (omega (arith, c .before .pre .1 .1)), row-room (c .before .args .limit) (c .before .args .row) (c .before .args .t .now) (c .before .pre .1 .0) (c .before .args .i) (c .before .pre .1 .1))
 
--- src/lib.rt:333:5
 mul-result-2 : tie.Need-mul-result-2
 mul-result-2 c = omega (arith, row-room (c .before .args .limit) (c .before .args .row) (c .before .args .t .now) (c .before .pre .1 .0) (c .before .args .i - 1) (omega (arith, c .before .pre .1 .1)), row-room (c .before .args .limit) (c .before .args .row) (c .before .args .t .now) (c .before .pre .1 .0) (c .before .args .i) (c .before .pre .1 .1))
 
--- src/lib.rt:333:5
 shared-slice-read-result : tie.Need-shared-slice-read-result
 shared-slice-read-result c = omega (arith, row-room (c .before .before .args .limit) (c .before .before .args .row) (c .before .before .args .t .now) (c .before .before .pre .1 .0) (c .before .before .args .i - 1) (omega (arith, c .before .before .pre .1 .1)), row-room (c .before .before .args .limit) (c .before .before .args .row) (c .before .before .args .t .now) (c .before .before .pre .1 .0) (c .before .before .args .i) (c .before .before .pre .1 .1))
 
--- src/lib.rt:333:34
 mul-result-3 : tie.Need-mul-result-3
 mul-result-3 c = omega (arith, row-room (c .before .before .args .limit) (c .before .before .args .row) (c .before .before .args .t .now) (c .before .before .pre .1 .0) (c .before .before .args .i - 1) (omega (arith, c .before .before .pre .1 .1)), row-room (c .before .before .args .limit) (c .before .before .args .row) (c .before .before .args .t .now) (c .before .before .pre .1 .0) (c .before .before .args .i) (c .before .before .pre .1 .1))
 
--- src/lib.rt:333:30
 add-result-2 : tie.Need-add-result-2
 add-result-2 c = omega (arith, row-room (c .before .before .args .limit) (c .before .before .args .row) (c .before .before .args .t .now) (c .before .before .pre .1 .0) (c .before .before .args .i - 1) (omega (arith, c .before .before .pre .1 .1)), row-room (c .before .before .args .limit) (c .before .before .args .row) (c .before .before .args .t .now) (c .before .before .pre .1 .0) (c .before .before .args .i) (c .before .before .pre .1 .1))
 
--- src/lib.rt:333:28
 mul-result-4 : tie.Need-mul-result-4
 mul-result-4 c = omega (arith, row-room (c .before .before .args .limit) (c .before .before .args .row) (c .before .before .args .t .now) (c .before .before .pre .1 .0) (c .before .before .args .i - 1) (omega (arith, c .before .before .pre .1 .1)), row-room (c .before .before .args .limit) (c .before .before .args .row) (c .before .before .args .t .now) (c .before .before .pre .1 .0) (c .before .before .args .i) (c .before .before .pre .1 .1))
 
--- src/lib.rt:333:28
 shared-slice-read-result-2 : tie.Need-shared-slice-read-result-2
 shared-slice-read-result-2 c = omega (arith, row-room (c .before .before .before .args .limit) (c .before .before .before .args .row) (c .before .before .before .args .t .now) (c .before .before .before .pre .1 .0) (c .before .before .before .args .i - 1) (omega (arith, c .before .before .before .pre .1 .1)), row-room (c .before .before .before .args .limit) (c .before .before .before .args .row) (c .before .before .before .args .t .now) (c .before .before .before .pre .1 .0) (c .before .before .before .args .i) (c .before .before .before .pre .1 .1))
 
--- src/lib.rt:326:1
 returns-2 : tie.Need-returns-2
 returns-2 c = id-later (c .before .before .before .args .row) (c .before .before .before .args .t .now) (c .before .before .before .pre .0) (c .before .before .before .args .i) (c .before .before .if1 .left) (c .before .before .before .pre .1 .1)
 

@@ -1,8 +1,6 @@
+-- `row_returns::first_unreturned` meets its contract. The invariant: the first row that fails is the first from i on. The measure is how many rows are left. Assumes nothing.
 use Rattle.row_returns.proofs.first_unreturned.Statement.{statement}
 use Rattle.row_returns.proofs.first_unreturned.Tie as tie
-use Rattle.row_returns.proofs.first_unreturned.Reads as reads
-use Rattle.row_returns.proofs.first_unreturned.Lts as lts
-use Rattle.row_returns.proofs.named_back.Reads as named-back-reads
 use mathlib.Core.Path.{_≡_, sym, ap, _∙_}
 use Prim.Native.Nat.{_+_, _-_, _≤_}
 use native.Mathlib.Omega.{arith}
@@ -19,35 +17,27 @@ Inv-loop clause t n i₀ i = (i ≤ n) × (firstFalse (rows 52 (namedBack clause
 abbrev μ-loop : tie.MeasureT-loop
 μ-loop clause t n i₀ i = n - i
 
--- src/lib.rt:125:13
 shared-slice-read-n : tie.Need-shared-slice-read-n Inv-loop μ-loop
 shared-slice-read-n c = omega (arith, lanes-some (c .before .before .args .t .now) (c .before .before .pre))
 
--- src/lib.rt:127:5
 loop-holds : tie.Need-loop-holds Inv-loop μ-loop
 loop-holds c = (omega arith, first-begins (rows 52 (namedBack (c .before .before .args .clause) (c .before .before .args .t .now)) (c .before .before .args .t .now)))
 
--- src/lib.rt:128:12
 named-back-requires : tie.Need-named-back-requires Inv-loop μ-loop
 named-back-requires c κs = (c .before .before .before .before .pre, c .loop-test .taken)
 
--- src/lib.rt:129:13
 add-i : tie.Need-add-i Inv-loop μ-loop
 add-i c = omega (arith, lanes-few (c .before .before .before .before .before .before .args .t .now) (c .before .before .before .before .before .before .pre))
 
--- src/lib.rt:127:5
 loop-less : tie.Need-loop-less Inv-loop μ-loop
 loop-less c = omega arith
 
--- src/lib.rt:127:5
 loop-again : tie.Need-loop-again Inv-loop μ-loop
 loop-again c = (omega arith, first-goes-on (rows 52 (namedBack (c .before .before .before .before .before .before .args .clause) (c .before .before .before .before .before .before .args .t .now)) (c .before .before .before .before .before .before .args .t .now)) (c .before .before .before .loop .i) (c .before .before .before .loop .inv .1) (rw (tests-length 52 (namedBack (c .before .before .before .before .before .before .args .clause) (c .before .before .before .before .before .before .args .t .now)) (c .before .before .before .before .before .before .args .t .now)) (c .before .before .loop-test .taken)) (test-at 52 (namedBack (c .before .before .before .before .before .before .args .clause) (c .before .before .before .before .before .before .args .t .now)) (c .before .before .before .before .before .before .args .t .now) (c .before .before .before .loop .i) (c .before .before .loop-test .taken) ∙ (ap (namedBack (c .before .before .before .before .before .before .args .clause) (c .before .before .before .before .before .before .args .t .now)) (lane-row (c .before .before .before .before .before .before .args .t .now) (c .before .before .before .loop .i)) ∙ (sym (c .before .named-back .ensures) ∙ c .if1 .taken))))
 
--- src/lib.rt:131:13
 returns : tie.Need-returns Inv-loop μ-loop
 returns c = first-stops (rows 52 (namedBack (c .before .before .before .before .before .before .args .clause) (c .before .before .before .before .before .before .args .t .now)) (c .before .before .before .before .before .before .args .t .now)) (c .before .before .before .loop .i) (c .before .before .before .loop .inv .1) (rw (tests-length 52 (namedBack (c .before .before .before .before .before .before .args .clause) (c .before .before .before .before .before .before .args .t .now)) (c .before .before .before .before .before .before .args .t .now)) (c .before .before .loop-test .taken)) (test-at 52 (namedBack (c .before .before .before .before .before .before .args .clause) (c .before .before .before .before .before .before .args .t .now)) (c .before .before .before .before .before .before .args .t .now) (c .before .before .before .loop .i) (c .before .before .loop-test .taken) ∙ (ap (namedBack (c .before .before .before .before .before .before .args .clause) (c .before .before .before .before .before .before .args .t .now)) (lane-row (c .before .before .before .before .before .before .args .t .now) (c .before .before .before .loop .i)) ∙ (sym (c .before .named-back .ensures) ∙ c .if1 .left)))
 
--- src/lib.rt:121:1
 returns-2 : tie.Need-returns-2 Inv-loop μ-loop
 returns-2 c = first-ends (rows 52 (namedBack (c .before .before .before .before .args .clause) (c .before .before .before .before .args .t .now)) (c .before .before .before .before .args .t .now)) (c .before .loop .i) (c .before .loop .inv .1) (rw (tests-length 52 (namedBack (c .before .before .before .before .args .clause) (c .before .before .before .before .args .t .now)) (c .before .before .before .before .args .t .now)) (c .loop-test .left))
 
