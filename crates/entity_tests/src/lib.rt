@@ -89,13 +89,13 @@ const BOUNDARY_KINDS: u64 = 13;
 
 const IDS: u64 = 64;
 
-fn handle(h: u64) -> bool
+pub fn handle(h: u64) -> bool
     ensures { λ r. ⌜ r ≡ G.handleGood h ⌝ }
 {
     h < HANDLES
 }
 
-fn lane_formed(w: &[u64]) -> bool
+pub fn lane_formed(w: &[u64]) -> bool
     requires { ⌜ length (now w) ≡ 52 ⌝ }
     ensures { λ r. ⌜ r ≡ laneFormed (now (w .entry)) ⌝ }
 {
@@ -130,7 +130,7 @@ fn slot_good(mark: u64, lane: u64, most: u64) -> bool
     lane <= most
 }
 
-fn lane_numbers(w: &[u64], most: u64) -> bool
+pub fn lane_numbers(w: &[u64], most: u64) -> bool
     requires { ⌜ length (now w) ≡ 52 ⌝ }
     ensures { λ r. ⌜ r ≡ G.laneNumbers most (now (w .entry)) ⌝ }
 {
@@ -237,13 +237,13 @@ fn list_good(w: &[u64], k: usize, most: u64) -> bool
     lists::all_at_most(&w[start..end], most)
 }
 
-fn either(a: bool, b: bool) -> bool
+pub fn either(a: bool, b: bool) -> bool
     ensures { λ r. ⌜ r ≡ (a || b) ⌝ }
 {
     a || b
 }
 
-fn rule_formed(w: &[u64]) -> bool
+pub fn rule_formed(w: &[u64]) -> bool
     requires { ⌜ length (now w) ≡ 330 ⌝ }
     ensures { λ r. ⌜ r ≡ ruleFormed (now (w .entry)) ⌝ }
 {
@@ -257,7 +257,7 @@ fn rule_formed(w: &[u64]) -> bool
 }
 
 // How many stop lines a rule's kind may have.
-fn stops_fit(kind: u64, n: u64) -> bool
+pub fn stops_fit(kind: u64, n: u64) -> bool
     ensures { λ r. ⌜ r ≡ stopLinesFit kind n ⌝ }
 {
     if kind <= TRAFFIC_SIGN {
@@ -273,7 +273,7 @@ fn stops_fit(kind: u64, n: u64) -> bool
 }
 
 // The signals, sign data or other kind of a rule, where its kind has them.
-fn content_good(kind: u64, content: u64) -> bool
+pub fn content_good(kind: u64, content: u64) -> bool
     ensures { λ r. ⌜ r ≡ (not (hasContent kind) || G.handleGood content) ⌝ }
 {
     if kind <= TRAFFIC_SIGN {

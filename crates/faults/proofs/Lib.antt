@@ -1,0 +1,4 @@
+pub mod Laws
+pub mod Sound
+pub mod Whole
+pub mod Cases
