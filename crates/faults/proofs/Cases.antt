@@ -7,10 +7,9 @@ use Rattle.lists.specs.Rows.{reads, keys}
 use Rattle.tables.specs.View.{Tables, rows, tablesOf}
 use Rattle.tables.specs.Formed.{spans, allClear}
 use Rattle.lists.specs.Select.{each}
-use Rattle.row_tests.specs.Good.{boundaryGood, stopLineGood, crosswalkGood, lineGood}
+use Rattle.row_tests.specs.Good.{boundaryGood, lineGood}
 use Rattle.row_faults.specs.First.{firstFalse, rises, risesFrom}
 use Rattle.row_faults.specs.Passes.{boundaryPasses, stopLinePasses, rowPasses}
-use Rattle.faults.specs.declared.Fault.{Fault}
 use Rattle.faults.specs.Faults.{noFault, faultIn, earlier, countsFault, rowsFault, idsFault, rowFaults, tieFaults, faultOf}
 
 none : List ℕ

@@ -1,8 +1,8 @@
 -- There is no fault exactly where the map is sound. Assumes nothing.
-use mathlib.Core.Path.{_≡_, refl, sym, ap, _∙_}
+use mathlib.Core.Path.{_≡_, refl, sym, _∙_}
 use mathlib.Core.Bool.{Bool, true, false, not, _&&_, _||_, cond, true≢false}
-use mathlib.Core.List.{List, [], _∷_}
-use Prim.Native.Nat.{ℕ, suc, _≤_, _<_}
+use mathlib.Core.List.{List}
+use Prim.Native.Nat.{ℕ, _≤_}
 use native.Mathlib.Omega.{arith}
 use lib.Dec.{eqb, leb, ltb}
 use lib.ListN.{drop}
@@ -14,9 +14,9 @@ use Rattle.lists.proofs.Booleans.{and-both, and-fst, and-snd}
 use Rattle.lists.proofs.Select.{all-weaken}
 use Rattle.rules.specs.Sound.{lastCounter, hasContent, stopLinesFit}
 use Rattle.tables.specs.View.{Tables, word, rows, idsAt}
-use Rattle.tables.specs.Formed.{Span, spanAt, counted, spans, allClear, laneFormed, ruleFormed, soundTables}
+use Rattle.tables.specs.Formed.{spanAt, counted, spans, allClear, laneFormed, ruleFormed, soundTables}
 use Rattle.row_tests.specs.Good.{largestId, allRows, handleGood, idsGood, slotGood, laneNumbers, linksGood, lineGood, ruleNumbers, ruleLists, laneGood, boundaryGood, roadGood, junctionGood, ruleGood, stopLineGood, crosswalkGood}
-use Rattle.row_tests.specs.Returned.{laneReturned, slotsReturned, searchable}
+use Rattle.row_tests.specs.Returned.{laneReturned, slotsReturned}
 use Rattle.row_faults.specs.First.{rises}
 use Rattle.row_faults.specs.Passes.{laneKinds, laneNamed, linksRise, lanePasses, boundaryPasses, stopLinePasses, crosswalkPasses, roadPasses, junctionPasses, ruleKinds, rulePasses, rowPasses}
 use Rattle.row_faults.proofs.First.{rises-all}
@@ -27,8 +27,8 @@ use Rattle.soundness.proofs.Pointwise.{and3, and5, and8}
 use Rattle.soundness.proofs.Back.{and7}
 use Rattle.soundness.proofs.Counts.{counts}
 use Rattle.soundness.proofs.Ends.{Words, end-tied, end-touching, end-bad, end-uncounted}
-use Rattle.faults.specs.Faults.{faultIn, earlier, countsFault, rowsIn, rowsFault, idsIn, idsFault, rowFaults, tieFaults, faultOf}
-use Rattle.faults.proofs.Laws.{fault-none, none-fault, one-none, none-one, earlier-none, none-earlier, Seven, seven-none, none-seven, seven-and}
+use Rattle.faults.specs.Faults.{countsFault, rowsFault, idsIn, idsFault, rowFaults, tieFaults, faultOf}
+use Rattle.faults.proofs.Laws.{fault-none, none-fault, one-none, none-one, earlier-none, none-earlier, seven-none, none-seven, seven-and}
 
 -- ---- a good row passes every clause
 

@@ -1,9 +1,9 @@
 -- The whole answer, from the answers of its parts. Assumes nothing.
-use mathlib.Core.Path.{_≡_, sym, ap, _∙_}
+use mathlib.Core.Path.{_≡_, _∙_}
 use mathlib.Core.List.{[], _∷_}
 use Prim.Native.Nat.{ℕ}
 use Rattle.tables.specs.View.{Tables, rows}
-use Rattle.tables.specs.Formed.{allClear, spans}
+use Rattle.tables.specs.Formed.{allClear}
 use Rattle.apart.specs.Marks.{lineSpans}
 use Rattle.apart.proofs.Stored.{spans-lines}
 use Rattle.row_tests.specs.Good.{largestId}

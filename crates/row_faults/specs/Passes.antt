@@ -1,7 +1,7 @@
 -- What each clause asks of a row by itself. A row is asked in the order of the clauses, so a later clause may ask for an earlier one again: rows of tables
 -- with no lines must pass whole (`roadGood` ..) from clause 5 on, rows with lines at clause 7, where only a line is left to fail.
 use Prim.Native.Nat.{ℕ}
-use mathlib.Core.Bool.{Bool, true, false, not, _&&_, _||_, cond}
+use mathlib.Core.Bool.{Bool, true, not, _&&_, _||_, cond}
 use mathlib.Core.List.{List}
 use lib.Dec.{eqb, leb, ltb}
 use lib.Ieee.{Float}

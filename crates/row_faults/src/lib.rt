@@ -1,8 +1,7 @@
 // Which row of a table fails a clause of soundness first. Clauses and tables are numbered as in specs/Clauses.antt.
 ghost use mathlib.Core.Path.{_≡_};
-ghost use mathlib.Core.Bool.{true, cond};
+ghost use mathlib.Core.Bool.{true};
 ghost use Prim.Native.Nat.{_<_};
-ghost use lib.Dec.{eqb, ltb};
 ghost use lib.ListN.{length, drop, getD};
 ghost use Rattle.lists.specs.Rows.{keys};
 ghost use Rattle.tables.specs.View.{rows, word};

@@ -55,7 +55,6 @@ loop-less c = omega arith
 
 loop-again : tie.Need-loop-again Inv-loop μ-loop
 loop-again c =
-    let a = c .before .before .before .before .before .before .before .before .args in
     let p = (rowPasses (c .before .before .before .before .before .before .before .before .args .clause) (c .before .before .before .before .before .before .before .before .args .table) (c .before .before .before .before .before .before .before .before .args .most) (c .before .before .before .before .before .before .before .before .args .coordinates .now)) in
     (omega arith, first-goes-on (rows (c .before .before .before .before .before .before .before .before .args .row) (rowPasses (c .before .before .before .before .before .before .before .before .args .clause) (c .before .before .before .before .before .before .before .before .args .table) (c .before .before .before .before .before .before .before .before .args .most) (c .before .before .before .before .before .before .before .before .args .coordinates .now)) (c .before .before .before .before .before .before .before .before .args .t .now)) (c .before .before .before .before .loop .i) (c .before .before .before .before .loop .inv .1) (rw (tests-length (c .before .before .before .before .before .before .before .before .args .row) p (c .before .before .before .before .before .before .before .before .args .t .now)) (c .before .before .before .loop-test .taken)) (test-at (c .before .before .before .before .before .before .before .before .args .row) p (c .before .before .before .before .before .before .before .before .args .t .now) (c .before .before .before .before .loop .i) (c .before .before .before .loop-test .taken) ∙ (sym (c .before .row-passes .ensures) ∙ c .if1 .taken)))
 

@@ -24,7 +24,7 @@ loop-holds : tie.Need-loop-holds Inv-loop μ-loop
 loop-holds c = (omega arith, first-begins (rows 52 (namedBack (c .before .before .args .clause) (c .before .before .args .t .now)) (c .before .before .args .t .now)))
 
 named-back-requires : tie.Need-named-back-requires Inv-loop μ-loop
-named-back-requires c κs = (c .before .before .before .before .pre, c .loop-test .taken)
+named-back-requires c κs = (c .before .before .before .before .pre, omega (arith, c .loop-test .taken))
 
 add-i : tie.Need-add-i Inv-loop μ-loop
 add-i c = omega (arith, lanes-few (c .before .before .before .before .before .before .args .t .now) (c .before .before .before .before .before .before .pre))
@@ -33,13 +33,13 @@ loop-less : tie.Need-loop-less Inv-loop μ-loop
 loop-less c = omega arith
 
 loop-again : tie.Need-loop-again Inv-loop μ-loop
-loop-again c = (omega arith, first-goes-on (rows 52 (namedBack (c .before .before .before .before .before .before .args .clause) (c .before .before .before .before .before .before .args .t .now)) (c .before .before .before .before .before .before .args .t .now)) (c .before .before .before .loop .i) (c .before .before .before .loop .inv .1) (rw (tests-length 52 (namedBack (c .before .before .before .before .before .before .args .clause) (c .before .before .before .before .before .before .args .t .now)) (c .before .before .before .before .before .before .args .t .now)) (c .before .before .loop-test .taken)) (test-at 52 (namedBack (c .before .before .before .before .before .before .args .clause) (c .before .before .before .before .before .before .args .t .now)) (c .before .before .before .before .before .before .args .t .now) (c .before .before .before .loop .i) (c .before .before .loop-test .taken) ∙ (ap (namedBack (c .before .before .before .before .before .before .args .clause) (c .before .before .before .before .before .before .args .t .now)) (lane-row (c .before .before .before .before .before .before .args .t .now) (c .before .before .before .loop .i)) ∙ (sym (c .before .named-back .ensures) ∙ c .if1 .taken))))
+loop-again c = (omega arith, first-goes-on (rows 52 (namedBack (c .before .before .before .before .before .before .args .clause) (c .before .before .before .before .before .before .args .t .now)) (c .before .before .before .before .before .before .args .t .now)) (c .before .before .before .loop .i) (c .before .before .before .loop .inv .1) (rw (tests-length 52 (namedBack (c .before .before .before .before .before .before .args .clause) (c .before .before .before .before .before .before .args .t .now)) (c .before .before .before .before .before .before .args .t .now)) (omega (arith, c .before .before .loop-test .taken))) (test-at 52 (namedBack (c .before .before .before .before .before .before .args .clause) (c .before .before .before .before .before .before .args .t .now)) (c .before .before .before .before .before .before .args .t .now) (c .before .before .before .loop .i) (omega (arith, c .before .before .loop-test .taken)) ∙ (ap (namedBack (c .before .before .before .before .before .before .args .clause) (c .before .before .before .before .before .before .args .t .now)) (lane-row (c .before .before .before .before .before .before .args .t .now) (c .before .before .before .loop .i)) ∙ (sym (c .before .named-back .ensures) ∙ c .if1 .taken))))
 
 returns : tie.Need-returns Inv-loop μ-loop
-returns c = first-stops (rows 52 (namedBack (c .before .before .before .before .before .before .args .clause) (c .before .before .before .before .before .before .args .t .now)) (c .before .before .before .before .before .before .args .t .now)) (c .before .before .before .loop .i) (c .before .before .before .loop .inv .1) (rw (tests-length 52 (namedBack (c .before .before .before .before .before .before .args .clause) (c .before .before .before .before .before .before .args .t .now)) (c .before .before .before .before .before .before .args .t .now)) (c .before .before .loop-test .taken)) (test-at 52 (namedBack (c .before .before .before .before .before .before .args .clause) (c .before .before .before .before .before .before .args .t .now)) (c .before .before .before .before .before .before .args .t .now) (c .before .before .before .loop .i) (c .before .before .loop-test .taken) ∙ (ap (namedBack (c .before .before .before .before .before .before .args .clause) (c .before .before .before .before .before .before .args .t .now)) (lane-row (c .before .before .before .before .before .before .args .t .now) (c .before .before .before .loop .i)) ∙ (sym (c .before .named-back .ensures) ∙ c .if1 .left)))
+returns c = first-stops (rows 52 (namedBack (c .before .before .before .before .before .before .args .clause) (c .before .before .before .before .before .before .args .t .now)) (c .before .before .before .before .before .before .args .t .now)) (c .before .before .before .loop .i) (c .before .before .before .loop .inv .1) (rw (tests-length 52 (namedBack (c .before .before .before .before .before .before .args .clause) (c .before .before .before .before .before .before .args .t .now)) (c .before .before .before .before .before .before .args .t .now)) (omega (arith, c .before .before .loop-test .taken))) (test-at 52 (namedBack (c .before .before .before .before .before .before .args .clause) (c .before .before .before .before .before .before .args .t .now)) (c .before .before .before .before .before .before .args .t .now) (c .before .before .before .loop .i) (omega (arith, c .before .before .loop-test .taken)) ∙ (ap (namedBack (c .before .before .before .before .before .before .args .clause) (c .before .before .before .before .before .before .args .t .now)) (lane-row (c .before .before .before .before .before .before .args .t .now) (c .before .before .before .loop .i)) ∙ (sym (c .before .named-back .ensures) ∙ c .if1 .left)))
 
 returns-2 : tie.Need-returns-2 Inv-loop μ-loop
-returns-2 c = first-ends (rows 52 (namedBack (c .before .before .before .before .args .clause) (c .before .before .before .before .args .t .now)) (c .before .before .before .before .args .t .now)) (c .before .loop .i) (c .before .loop .inv .1) (rw (tests-length 52 (namedBack (c .before .before .before .before .args .clause) (c .before .before .before .before .args .t .now)) (c .before .before .before .before .args .t .now)) (c .loop-test .left))
+returns-2 c = first-ends (rows 52 (namedBack (c .before .before .before .before .args .clause) (c .before .before .before .before .args .t .now)) (c .before .before .before .before .args .t .now)) (c .before .loop .i) (c .before .loop .inv .1) (rw (tests-length 52 (namedBack (c .before .before .before .before .args .clause) (c .before .before .before .before .args .t .now)) (c .before .before .before .before .args .t .now)) (omega (arith, c .loop-test .left)))
 
 pub first-unreturned-spec : {M : Type 1} → statement M
 first-unreturned-spec =
