@@ -307,6 +307,13 @@ typedef struct voldrekka_answer {
     uint64_t counter;  /* the next id, as the counter has it after the call */
 } voldrekka_answer;
 
+/* Why a map is not sound. */
+typedef struct voldrekka_flaw {
+    uint64_t clause; /* 0 sound, else the clause of soundness that fails first (docs/HOST.md) */
+    uint64_t table;  /* where: 0 lanes, 1 boundaries, 2 roads, 3 junctions, 4 rules, 5 stop lines, 6 crosswalks, 7 coordinates */
+    uint64_t row;    /* at which row, from 0 */
+} voldrekka_flaw;
+
 /* ---- room: lengths of slices with which 10 is given for a limit above alone, never for what was lent */
 
 enum {
@@ -365,6 +372,17 @@ bool voldrekka_sound(uint64_t counter,
                      const uint64_t *crosswalks, size_t crosswalks_len,
                      const double *coordinates, size_t coordinates_len);
 
+/* Which clause of soundness fails first of the map that is lent, and where; clause 0 where voldrekka_sound holds. Writes nothing. */
+voldrekka_flaw voldrekka_fault(uint64_t counter,
+                               const uint64_t *lanes, size_t lanes_len,
+                               const uint64_t *boundaries, size_t boundaries_len,
+                               const uint64_t *roads, size_t roads_len,
+                               const uint64_t *junctions, size_t junctions_len,
+                               const uint64_t *rules, size_t rules_len,
+                               const uint64_t *stop_lines, size_t stop_lines_len,
+                               const uint64_t *crosswalks, size_t crosswalks_len,
+                               const double *coordinates, size_t coordinates_len);
+
 /* Makes a command on the map that is lent, or refuses it. Accepted: tables and coordinates hold the edited map, a sound one; the lists
  * hold what was created, modified and deleted and the warnings, as many as the answer says; what lies past them in their slices, and
  * what the map does not use, is as it was; the counter has moved on, last of all. Refused: nothing that was lent has changed, the counter neither. A map that is not sound is refused before all else. */
@@ -418,6 +436,20 @@ typedef struct voldrekka_lists {
 static inline bool voldrekka_map_sound(const voldrekka_map *map)
 {
     return voldrekka_sound(map->counter.next,
+                           map->lanes.at, map->lanes.len,
+                           map->boundaries.at, map->boundaries.len,
+                           map->roads.at, map->roads.len,
+                           map->junctions.at, map->junctions.len,
+                           map->rules.at, map->rules.len,
+                           map->stop_lines.at, map->stop_lines.len,
+                           map->crosswalks.at, map->crosswalks.len,
+                           map->coordinates.at, map->coordinates.len);
+}
+
+/* Why the map is not sound; clause 0 if it is. */
+static inline voldrekka_flaw voldrekka_map_fault(const voldrekka_map *map)
+{
+    return voldrekka_fault(map->counter.next,
                            map->lanes.at, map->lanes.len,
                            map->boundaries.at, map->boundaries.len,
                            map->roads.at, map->roads.len,

@@ -44,6 +44,9 @@ pub struct Fault {
     pub entity: Option<EntityRef>,
 }
 
+/// The clauses of soundness in words, each at the place of its number; 0 is none.
+const CLAUSES: [&str; 1] = ["sound"];
+
 /// A lane map that owns its tables.
 ///
 /// It is built by inserting records and changed by the edits ([`Map::apply`]); records come back by value. A map need not be sound while it
@@ -195,7 +198,16 @@ impl Map {
 
     /// Why the map is not sound; none if it is.
     pub fn fault(&self) -> Option<Fault> {
-        (!self.is_sound()).then_some(Fault { clause: "the map is not sound", entity: None })
+        let words = &self.lent.tables.words;
+        let flaw = sys::fault(self.lent.counter, std::array::from_fn(|t| &words[t][..]), &self.lent.tables.coordinates);
+        let clause = CLAUSES.get(flaw.clause as usize).copied().unwrap_or("a clause of soundness fails");
+        (flaw.clause != 0).then(|| Fault { clause, entity: self.entity_at(flaw.table, flaw.row) })
+    }
+
+    fn entity_at(&self, table: u64, row: u64) -> Option<EntityRef> {
+        let table = *Table::ALL.get(table as usize)?;
+        let row = usize::try_from(row).ok().filter(|row| *row < self.lent.tables.count(table))?;
+        Some(EntityRef::new(table.kind(), self.lent.tables.row(table, row)[ROW_ID]))
     }
 
     /// Whether an entity is in the map.

@@ -47,6 +47,18 @@ pub struct Answer {
     pub counter: u64,
 }
 
+/// Why a map is not sound (`voldrekka_flaw` of the header).
+#[repr(C)]
+#[derive(Debug, Clone, Copy, PartialEq, Eq, Default)]
+pub struct Flaw {
+    /// 0 sound, else the clause that fails first.
+    pub clause: u64,
+    /// In which table, in the order in which they are lent; behind them come the coordinates.
+    pub table: u64,
+    /// At which row, from 0.
+    pub row: u64,
+}
+
 unsafe extern "C" {
     /// The IEEE 754-2019 square root of any double.
     pub safe fn voldrekka_sqrt(x: f64) -> f64;
@@ -90,6 +102,26 @@ unsafe extern "C" {
         coordinates: *const f64,
         coordinates_len: usize,
     ) -> bool;
+
+    fn voldrekka_fault(
+        counter: u64,
+        lanes: *const u64,
+        lanes_len: usize,
+        boundaries: *const u64,
+        boundaries_len: usize,
+        roads: *const u64,
+        roads_len: usize,
+        junctions: *const u64,
+        junctions_len: usize,
+        rules: *const u64,
+        rules_len: usize,
+        stop_lines: *const u64,
+        stop_lines_len: usize,
+        crosswalks: *const u64,
+        crosswalks_len: usize,
+        coordinates: *const f64,
+        coordinates_len: usize,
+    ) -> Flaw;
 
     fn voldrekka_apply(
         counter: *mut Counter,
@@ -148,6 +180,33 @@ pub fn sound(counter: u64, tables: [&[u64]; TABLES], coordinates: &[f64]) -> boo
     let [lanes, boundaries, roads, junctions, rules, stop_lines, crosswalks] = tables;
     unsafe {
         voldrekka_sound(
+            counter,
+            lanes.as_ptr(),
+            lanes.len(),
+            boundaries.as_ptr(),
+            boundaries.len(),
+            roads.as_ptr(),
+            roads.len(),
+            junctions.as_ptr(),
+            junctions.len(),
+            rules.as_ptr(),
+            rules.len(),
+            stop_lines.as_ptr(),
+            stop_lines.len(),
+            crosswalks.as_ptr(),
+            crosswalks.len(),
+            coordinates.as_ptr(),
+            coordinates.len(),
+        )
+    }
+}
+
+/// Which clause of soundness fails first, and where; clause 0 of a sound map.
+#[inline]
+pub fn fault(counter: u64, tables: [&[u64]; TABLES], coordinates: &[f64]) -> Flaw {
+    let [lanes, boundaries, roads, junctions, rules, stop_lines, crosswalks] = tables;
+    unsafe {
+        voldrekka_fault(
             counter,
             lanes.as_ptr(),
             lanes.len(),

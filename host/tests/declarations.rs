@@ -47,9 +47,10 @@ type Parts = Vec<(String, String)>;
 type Declared = BTreeMap<String, Parts>;
 
 /// The structs that go by value or behind a pointer: the file that declares it, and its names in Rattle, C and Rust.
-const STRUCTS: [(&str, &str, &str, &str); 2] = [
+const STRUCTS: [(&str, &str, &str, &str); 3] = [
     ("crates/words/src/lib.rt", "Told", "voldrekka_answer", "Answer"),
     ("crates/entities/src/lib.rt", "Counter", "voldrekka_counter", "Counter"),
+    ("crates/words/src/lib.rt", "Flaw", "voldrekka_flaw", "Flaw"),
 ];
 
 /// A parameter of Rattle: a slice is a pointer and a length.
