@@ -307,9 +307,24 @@ typedef struct voldrekka_answer {
     uint64_t counter;  /* the next id, as the counter has it after the call */
 } voldrekka_answer;
 
+/* The clauses of soundness, in the order in which they are told: the lowest that fails, in it the first table, in that the first row. */
+enum voldrekka_clause {
+    VOLDREKKA_CLAUSE_SOUND = 0,
+    VOLDREKKA_CLAUSE_COUNT = 1,     /* a table has more rows than its limit or than its memory holds */
+    VOLDREKKA_CLAUSE_MARK = 2,      /* a mark is out of range, or a list of the row is longer than its limit */
+    VOLDREKKA_CLAUSE_KIND = 3,      /* a kind or a handle is out of range, or a rule has other stop lines than its kind */
+    VOLDREKKA_CLAUSE_ORDER = 4,     /* ids do not ascend in their table */
+    VOLDREKKA_CLAUSE_COUNTER = 5,   /* an id is not below the next id to be given */
+    VOLDREKKA_CLAUSE_LINKS = 6,     /* a list of links does not ascend */
+    VOLDREKKA_CLAUSE_LINE = 7,      /* a line is not stored, has more than 256 points, or leaves the range of coordinates */
+    VOLDREKKA_CLAUSE_POINT = 8,     /* two lines share a stored point; told of the coordinates as a whole */
+    VOLDREKKA_CLAUSE_LINK = 9,      /* a link names a lane that is absent or does not name it back */
+    VOLDREKKA_CLAUSE_NEIGHBOR = 10  /* a neighbour is absent or does not name the lane back */
+};
+
 /* Why a map is not sound. */
 typedef struct voldrekka_flaw {
-    uint64_t clause; /* 0 sound, else the clause of soundness that fails first (docs/HOST.md) */
+    uint64_t clause; /* 0 sound, else the clause of soundness that fails first (enum voldrekka_clause) */
     uint64_t table;  /* where: 0 lanes, 1 boundaries, 2 roads, 3 junctions, 4 rules, 5 stop lines, 6 crosswalks, 7 coordinates */
     uint64_t row;    /* at which row, from 0 */
 } voldrekka_flaw;

@@ -45,7 +45,19 @@ pub struct Fault {
 }
 
 /// The clauses of soundness in words, each at the place of its number; 0 is none.
-const CLAUSES: [&str; 1] = ["sound"];
+const CLAUSES: [&str; 11] = [
+    "sound",
+    "a table has more rows than its limit or than its memory holds",
+    "a mark is out of range, or a list of the row is longer than its limit",
+    "a kind or a handle is out of range, or a rule has other stop lines than its kind",
+    "ids do not ascend in their table",
+    "an id is not below the next id to be given",
+    "a list of links does not ascend",
+    "a line is not stored, has more than 256 points, or leaves the range of coordinates",
+    "two lines share a stored point",
+    "a link names a lane that is absent or does not name it back",
+    "a neighbour is absent or does not name the lane back",
+];
 
 /// A lane map that owns its tables.
 ///

@@ -50,7 +50,7 @@ type Declared = BTreeMap<String, Parts>;
 const STRUCTS: [(&str, &str, &str, &str); 3] = [
     ("crates/words/src/lib.rt", "Told", "voldrekka_answer", "Answer"),
     ("crates/entities/src/lib.rt", "Counter", "voldrekka_counter", "Counter"),
-    ("crates/words/src/lib.rt", "Flaw", "voldrekka_flaw", "Flaw"),
+    ("crates/faults/src/lib.rt", "Fault", "voldrekka_flaw", "Flaw"),
 ];
 
 /// A parameter of Rattle: a slice is a pointer and a length.

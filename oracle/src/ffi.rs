@@ -52,6 +52,17 @@ pub fn sound(t: &Tables, counter: u64) -> Option<bool> {
     }
 }
 
+/// The clause of soundness that the library says fails first (0: none), if this program was built with it.
+pub fn clause(t: &Tables, counter: u64) -> Option<u64> {
+    #[cfg(feature = "against")]
+    return Some(linked::clause(t, counter));
+    #[cfg(not(feature = "against"))]
+    {
+        let _ = (t, counter);
+        None
+    }
+}
+
 #[cfg(feature = "against")]
 mod linked {
     use voldrekka::sys;
@@ -60,6 +71,10 @@ mod linked {
 
     pub fn sound(t: &Tables, counter: u64) -> bool {
         sys::sound(counter, t.words.each_ref().map(|w| &w[..]), &t.xyz)
+    }
+
+    pub fn clause(t: &Tables, counter: u64) -> u64 {
+        sys::fault(counter, t.words.each_ref().map(|w| &w[..]), &t.xyz).clause
     }
 
     pub struct Library;

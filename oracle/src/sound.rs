@@ -27,6 +27,28 @@ fn stop_line_count(kind: u64) -> Option<(u64, u64)> {
     }
 }
 
+/// The number that the library gives a clause (crates/row_faults); 0 is none.
+pub fn number(fault: Fault) -> u64 {
+    match fault {
+        None => 0,
+        Some(name) => match name {
+            "a table without a count" | "a count past its limit" | "a count past the lent length" => 1,
+            "a lane's mark" | "a neighbour's mark" | "a link list's count" | "a list's count" => 2,
+            "a lane's kind" | "a lane's turn" | "a boundary's kind" | "a rule's kind" => 3,
+            "a handle" | "a rule's stop lines" => 3,
+            "ids that do not ascend" => 4,
+            "an id not below the counter" | "a named id not below the counter" => 5,
+            "links that do not ascend" => 6,
+            "a line past what is stored" | "a line of more than 256 points" => 7,
+            "a coordinate out of range" => 7,
+            "a point in two lines" => 8,
+            "a link to an absent lane" | "a link one way only" => 9,
+            "an absent neighbour" | "a neighbour that does not name the lane back" => 10,
+            other => unreachable!("{other}"),
+        },
+    }
+}
+
 pub fn fault(t: &Tables, counter: u64) -> Fault {
     for k in 0..7 {
         clause!(!t.words[k].is_empty(), "a table without a count");

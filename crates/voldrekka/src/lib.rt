@@ -13,10 +13,12 @@ ghost use Rattle.polyline.specs.Polyline.{points, flat};
 ghost use Rattle.root.specs.Root.{root};
 ghost use Rattle.tables.specs.Formed.{soundTables};
 ghost use Rattle.step.specs.Step.{tablesOf, lentOf};
+ghost use Rattle.faults.specs.Faults.{faultOf};
 ghost use Rattle.words.specs.Words.{commandOf};
 ghost use Rattle.voldrekka.specs.Edits.{called, calling};
 use entities::Counter;
 use entities::Tolerance;
+use faults::Fault;
 use geometry::Point2;
 use polyline::OptionNearest;
 use words::Told;
@@ -111,6 +113,35 @@ pub extern "C" fn voldrekka_sound(
     ensures { λ r. ⌜ r ≡ soundTables counter (tablesOf (now (lanes .entry)) (now (boundaries .entry)) (now (roads .entry)) (now (junctions .entry)) (now (rules .entry)) (now («stop_lines» .entry)) (now (crosswalks .entry)) (now (coordinates .entry))) ⌝ }
 {
     sound_map::sound(
+        counter,
+        lanes,
+        boundaries,
+        roads,
+        junctions,
+        rules,
+        stop_lines,
+        crosswalks,
+        coordinates,
+    )
+}
+
+// Which clause of soundness fails first, in which table and at which row (crates/row_faults/specs/Clauses.antt); all 0 where the map is sound. For a person who drew a
+// map, after a refusal of 9.
+#[no_mangle]
+pub extern "C" fn voldrekka_fault(
+    counter: u64,
+    lanes: &[u64],
+    boundaries: &[u64],
+    roads: &[u64],
+    junctions: &[u64],
+    rules: &[u64],
+    stop_lines: &[u64],
+    crosswalks: &[u64],
+    coordinates: &[f64],
+) -> Fault
+    ensures { λ r. ⌜ r ≡ faultOf counter (tablesOf (now (lanes .entry)) (now (boundaries .entry)) (now (roads .entry)) (now (junctions .entry)) (now (rules .entry)) (now («stop_lines» .entry)) (now (crosswalks .entry)) (now (coordinates .entry))) ⌝ }
+{
+    faults::first_fault(
         counter,
         lanes,
         boundaries,
