@@ -115,6 +115,25 @@ fn unsound_maps_are_told() {
 }
 
 #[test]
+fn the_clause_that_fails_is_told_with_its_line() {
+    let folder = Folder::new("clauses");
+    let damaged = |from: &str, to: &str| {
+        let text = folder.text("gate.yard");
+        assert_eq!(text.matches(from).count(), 1, "{from}");
+        fs::write(folder.0.join("damaged.yard"), text.replacen(from, to, 1)).expect("a file");
+        folder.told("check damaged.yard", 9)
+    };
+    assert_eq!(
+        damaged("left-neighbor=3:same", "left-neighbor=2:same"),
+        "damaged.yard: not sound: a neighbour is absent or does not name the lane back, at lane:3 on line 8\n"
+    );
+    assert_eq!(
+        damaged("next 204", "next 105"),
+        "damaged.yard: not sound: an id is not below the next id to be given, at lane:3 on line 8\n"
+    );
+}
+
+#[test]
 fn bad_input_is_told_with_its_line_and_changes_nothing() {
     let folder = Folder::new("input");
     let text = "voldrekka 1\nlane 1 left=10 wright=11\n";
