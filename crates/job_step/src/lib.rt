@@ -1,0 +1,1 @@
+// A job on lent memory: definitions and theorems, no code.
