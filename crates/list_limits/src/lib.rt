@@ -1,0 +1,1 @@
+// How long the lists of one call's change set can get: theorems, no code.
