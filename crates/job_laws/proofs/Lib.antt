@@ -4,3 +4,4 @@ pub mod Among
 pub mod Fresh
 pub mod Past
 pub mod Net
+pub mod Claim
