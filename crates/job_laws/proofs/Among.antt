@@ -23,9 +23,11 @@ use Rattle.laws.proofs.Shrink.{none-of}
 
 -- ---- one entity
 
+-- the kind that has a number
 abbrev kindAt : ℕ → EntityKind
 kindAt n =
-    cond (eqb n 0) K.Lane (cond (eqb n 1) K.Boundary (cond (eqb n 2) K.Road (cond (eqb n 3) K.Junction (cond (eqb n 4) K.StopLine (cond (eqb n 5) K.TrafficSignal (cond (eqb n 6) K.Crosswalk K.RegulatoryElement))))))
+    cond (eqb n 0) K.Lane (cond (eqb n 1) K.Boundary (cond (eqb n 2) K.Road (cond (eqb n 3) K.Junction (cond (eqb n 4) K.StopLine
+    (cond (eqb n 5) K.TrafficSignal (cond (eqb n 6) K.Crosswalk K.RegulatoryElement))))))
 
 numbered-back : (k : EntityKind) → kindAt (kindNumber k) ≡ k
 numbered-back K.Lane = refl
@@ -67,7 +69,7 @@ pub among-keep : (e : EntityRef) (p : EntityRef → Bool) (es : List EntityRef) 
 unfolding among
 among-keep e p es = any-keep (sameEntity e) p es ∙ passing e p es
 
--- two lists of those that pass are apart where none that passes the first test is among the second
+-- those that pass are apart from another list where none that passes is among it
 pub kept-apart : (p : EntityRef → Bool) (es fs : List EntityRef) → ((e : EntityRef) → p e ≡ true → among e fs ≡ false) → apartFrom (keep p es) fs ≡ true
 unfolding apartFrom
 kept-apart p es fs h = ap not (none-of (λ e. among e fs) (keep p es) (all-weaken p (λ e. not (among e fs)) (keep p es) (λ e t. ap not (h e t)) (kept-pass p es)))

@@ -67,7 +67,8 @@ side-from m (fresh c) next i r h = go (boundary m (r .boundary))
         → all (λ (x : Boundary). leb next (x .id)) (elim o [ none ↦ [] | some b ↦ record { id = i; kind = b .kind; geometry = c; attributes = b .attributes } ∷ [] ]) ≡ true
     go none = all-nil (λ (x : Boundary). leb next (x .id))
     go (some b) =
-        all-cons (λ (x : Boundary). leb next (x .id)) (record { id = i; kind = b .kind; geometry = c; attributes = b .attributes }) [] (le-leb next i h) (all-nil (λ (x : Boundary). leb next (x .id)))
+        all-cons (λ (x : Boundary). leb next (x .id)) (record { id = i; kind = b .kind; geometry = c; attributes = b .attributes }) [] (le-leb next i h)
+        (all-nil (λ (x : Boundary). leb next (x .id)))
 
 merged-from : (tol : Tolerance) (next : ℕ) (m : Map) (a b : Lane) (pl pr : SidePlan) → CreatedFrom next (merged tol next m a b pl pr)
 unfolding merged

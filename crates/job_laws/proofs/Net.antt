@@ -99,6 +99,7 @@ module _ (m n : Map) (up : sorted (entities m) ≡ true) (up' : sorted (entities
 pub net-exact : (tol : Tolerance) (room : Room) (place : ℕ) (cs : List Command) (s t : State) (css : List ChangeSet) → sound (s .counter) (s .map) ≡ true
     → edits tol room place cs s ≡ done t css → Exact (s .map) (net (s .map) (t .map) css) (t .map)
 net-exact tol room place cs s t css sane made =
-    let up : (s : State) → sound (s .counter) (s .map) ≡ true → sorted (entities (s .map)) ≡ true = λ s h. entities-sorted (s .map) (keys-of (s .map) (sound-facts (s .counter) (s .map) h .ids)) in
+    let up : (s : State) → sound (s .counter) (s .map) ≡ true → sorted (entities (s .map)) ≡ true =
+    λ s h. entities-sorted (s .map) (keys-of (s .map) (sound-facts (s .counter) (s .map) h .ids)) in
     net-lists (s .map) (t .map) (up s sane) (up t (edits-sound tol room place cs s t css sane made)) css
     (λ e a b h. rows-same tol room e (trail tol room place cs s t css made) sane a b h)

@@ -28,6 +28,9 @@ own-fit cs = rw (fits (length (cs .created)), fits (length (cs .modified)), fits
     fits : (n : ℕ) → leb n n ≡ true
     fits n = le-leb n n (omega arith)
 
+abbrev pub calling : Command → Lists → Call
+calling c ls = record { command = c; lists = ls }
+
 -- what an accepted edit keeps
 pub record OnceKept (tol : Tolerance) (c : Command) (s : State) (e : Edited) : Type 0 where
   pub edited : edit tol c s ≡ yield e
@@ -36,19 +39,16 @@ pub record OnceKept (tol : Tolerance) (c : Command) (s : State) (e : Edited) : T
   pub exact : Exact (s .map) (e .changes) (e .result)
 
 module _ (tol : Tolerance) (room : Room) (c : Command) (s : State) (sane : sound (s .counter) (s .map) ≡ true) where
-  abbrev calling : Lists → Call
-  calling ls = record { command = c; lists = ls }
-
-  pub once-refused : (ls : Lists) (r : Refusal) → editOnce tol room c s ≡ refuse r → stepMap tol room (calling ls) s ≡ refusedAs s r
+  pub once-refused : (ls : Lists) (r : Refusal) → editOnce tol room c s ≡ refuse r → stepMap tol room (calling c ls) s ≡ refusedAs s r
   unfolding editOnce stepMap
   once-refused ls r h = rw sane (ap (λ x. outcomeOf s (listable ls x)) h)
 
   -- with any lists in which its own have room
-  pub once-listed : (ls : Lists) (e : Edited) → editOnce tol room c s ≡ yield e → fitsLists ls (e .changes) ≡ true → stepMap tol room (calling ls) s ≡ acceptedAs s e
+  pub once-listed : (ls : Lists) (e : Edited) → editOnce tol room c s ≡ yield e → fitsLists ls (e .changes) ≡ true → stepMap tol room (calling c ls) s ≡ acceptedAs s e
   unfolding editOnce stepMap
   once-listed ls e h fits = rw sane (ap (λ x. outcomeOf s (listable ls x)) h ∙ ap (λ b. outcomeOf s (check b R.NoRoom >>= (λ _. yield e))) fits)
 
-  pub once-call : (e : Edited) → editOnce tol room c s ≡ yield e → stepMap tol room (calling (lengths (e .changes))) s ≡ acceptedAs s e
+  pub once-call : (e : Edited) → editOnce tol room c s ≡ yield e → stepMap tol room (calling c (lengths (e .changes))) s ≡ acceptedAs s e
   once-call e h = once-listed (lengths (e .changes)) e h (own-fit (e .changes))
 
   once-edited : (e : Edited) → editOnce tol room c s ≡ yield e → (edit tol c s ≡ yield e) × (leb (counterAfter (s .counter) (e .ids)) lastCounter ≡ true)
@@ -61,7 +61,7 @@ module _ (tol : Tolerance) (room : Room) (c : Command) (s : State) (sane : sound
 
   pub once-kept : (e : Edited) → editOnce tol room c s ≡ yield e → OnceKept tol c s e
   once-kept e h =
-      let call = calling (lengths (e .changes)) in
+      let call = calling c (lengths (e .changes)) in
       let k = subst (Kept tol room call s) (once-call e h) (step-kept tol room call s sane (lawful tol c)) in
       let (edited, ids) = once-edited e h in
       record { edited = edited; ids-left = ids; sound-left = k .sound-left; exact = k .told }
