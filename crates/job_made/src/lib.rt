@@ -1,0 +1,551 @@
+// A job that has passed its first tests: its edits made in place, the net lists, and the way back where it is refused.
+ghost use mathlib.Core.Path.{_≡_};
+ghost use mathlib.Core.Bool.{true};
+ghost use mathlib.Core.List.{[]};
+ghost use Prim.Native.Nat.{_*_, _≤_};
+ghost use lib.ListN.{length};
+ghost use Rattle.tables.specs.View.{tablesOf};
+ghost use Rattle.tables.specs.Formed.{soundTables};
+ghost use Rattle.jobs.specs.Job.{commands};
+ghost use Rattle.step.specs.Step as S;
+ghost use Rattle.room.specs.Room.{listsFit};
+ghost use Rattle.job_step.specs.Job.{ending, tableEdits};
+ghost use Rattle.job_marks.specs.Marks.{sortedTables};
+ghost use Rattle.job_run.specs.Runs.{warningsOf, ToldAs};
+ghost use Rattle.job_made.specs.Made.{jobEnded, unmarked, AllMade, Left, NetListed, NetReady, WrittenAs};
+use entities::Tolerance;
+use job_marks::MARKS;
+use job_run::Ran;
+use job_turn::ENTITY_LIST;
+use job_turn::WARNING_LIST;
+use jobs::Job;
+use jobs::JobAnswer;
+use report::Counts;
+use report::ENTITY;
+
+// What a job leaves of the counter, and its answer.
+pub struct JobEnd {
+    pub counter: u64,
+    pub answer: JobAnswer,
+}
+
+// The warnings of a job that is made, where there are any: the map is put back, and the edits are made again.
+fn tell_warnings(
+    counter: u64,
+    tolerance: Tolerance,
+    lanes: &mut [u64],
+    boundaries: &mut [u64],
+    roads: &mut [u64],
+    junctions: &mut [u64],
+    rules: &mut [u64],
+    stop_lines: &mut [u64],
+    crosswalks: &mut [u64],
+    coordinates: &mut [f64],
+    job: Job,
+    old_lanes: &[u64],
+    old_boundaries: &[u64],
+    old_roads: &[u64],
+    old_junctions: &[u64],
+    old_rules: &[u64],
+    old_stop_lines: &[u64],
+    old_crosswalks: &[u64],
+    old_coordinates: &[f64],
+    all_created: &mut [u64],
+    all_modified: &mut [u64],
+    all_deleted: &mut [u64],
+    n: usize,
+    warnings: &mut [u64],
+)
+    requires { ⌜ (soundTables counter (tablesOf (now «old_lanes») (now «old_boundaries») (now «old_roads») (now «old_junctions») (now «old_rules») (now «old_stop_lines») (now «old_crosswalks») (now «old_coordinates»)) ≡ true) × ((job .count ≤ 64) × ((Left (tableEdits tolerance 1 (commands job) (record { counter = counter; tables = (tablesOf (now «old_lanes») (now «old_boundaries») (now «old_roads») (now «old_junctions») (now «old_rules») (now «old_stop_lines») (now «old_crosswalks») (now «old_coordinates»)) })) (tablesOf (now lanes) (now boundaries) (now roads) (now junctions) (now rules) (now «stop_lines») (now crosswalks) (now coordinates))) × ((n ≡ warningsOf (tableEdits tolerance 1 (commands job) (record { counter = counter; tables = (tablesOf (now «old_lanes») (now «old_boundaries») (now «old_roads») (now «old_junctions») (now «old_rules») (now «old_stop_lines») (now «old_crosswalks») (now «old_coordinates»)) }))) × ((n * 10 ≤ length (now warnings)) × ((length (now «all_created») ≡ 13568) × ((length (now «all_modified») ≡ 13568) × ((length (now «all_deleted») ≡ 13568)))))))) ⌝ }
+    ensures { λ _. ⌜ ToldAs (now (warnings .entry)) (tableEdits tolerance 1 (commands job) (record { counter = counter; tables = (tablesOf (now («old_lanes» .entry)) (now («old_boundaries» .entry)) (now («old_roads» .entry)) (now («old_junctions» .entry)) (now («old_rules» .entry)) (now («old_stop_lines» .entry)) (now («old_crosswalks» .entry)) (now («old_coordinates» .entry))) })) (tablesOf (now (lanes .exit)) (now (boundaries .exit)) (now (roads .exit)) (now (junctions .exit)) (now (rules .exit)) (now («stop_lines» .exit)) (now (crosswalks .exit)) (now (coordinates .exit))) (now (warnings .exit)) ⌝ }
+{
+    if n == 0 {
+        return;
+    }
+    area::put_back(
+        old_lanes,
+        old_boundaries,
+        old_roads,
+        old_junctions,
+        old_rules,
+        old_stop_lines,
+        old_crosswalks,
+        old_coordinates,
+        lanes,
+        boundaries,
+        roads,
+        junctions,
+        rules,
+        stop_lines,
+        crosswalks,
+        coordinates,
+    );
+    job_run::tell_all(
+        counter,
+        tolerance,
+        lanes,
+        boundaries,
+        roads,
+        junctions,
+        rules,
+        stop_lines,
+        crosswalks,
+        coordinates,
+        job,
+        all_created,
+        all_modified,
+        all_deleted,
+        warnings,
+    );
+}
+
+// The lists of a job that is made.
+fn tell(
+    counter: u64,
+    tolerance: Tolerance,
+    lanes: &mut [u64],
+    boundaries: &mut [u64],
+    roads: &mut [u64],
+    junctions: &mut [u64],
+    rules: &mut [u64],
+    stop_lines: &mut [u64],
+    crosswalks: &mut [u64],
+    coordinates: &mut [f64],
+    job: Job,
+    old_lanes: &[u64],
+    old_boundaries: &[u64],
+    old_roads: &[u64],
+    old_junctions: &[u64],
+    old_rules: &[u64],
+    old_stop_lines: &[u64],
+    old_crosswalks: &[u64],
+    old_coordinates: &[f64],
+    all_created: &mut [u64],
+    all_modified: &mut [u64],
+    all_deleted: &mut [u64],
+    n: Counts,
+    created: &mut [u64],
+    modified: &mut [u64],
+    deleted: &mut [u64],
+    warnings: &mut [u64],
+)
+    requires { ⌜ (soundTables counter (tablesOf (now «old_lanes») (now «old_boundaries») (now «old_roads») (now «old_junctions») (now «old_rules») (now «old_stop_lines») (now «old_crosswalks») (now «old_coordinates»)) ≡ true) × ((job .count ≤ 64) × ((Left (tableEdits tolerance 1 (commands job) (record { counter = counter; tables = (tablesOf (now «old_lanes») (now «old_boundaries») (now «old_roads») (now «old_junctions») (now «old_rules») (now «old_stop_lines») (now «old_crosswalks») (now «old_coordinates»)) })) (tablesOf (now lanes) (now boundaries) (now roads) (now junctions) (now rules) (now «stop_lines») (now crosswalks) (now coordinates))) × ((NetReady (tablesOf (now «old_lanes») (now «old_boundaries») (now «old_roads») (now «old_junctions») (now «old_rules») (now «old_stop_lines») (now «old_crosswalks») (now «old_coordinates»)) (tableEdits tolerance 1 (commands job) (record { counter = counter; tables = (tablesOf (now «old_lanes») (now «old_boundaries») (now «old_roads») (now «old_junctions») (now «old_rules») (now «old_stop_lines») (now «old_crosswalks») (now «old_coordinates»)) })) n (now «all_created») (now «all_modified») (now «all_deleted»)) × ((listsFit n (now created) (now modified) (now deleted) (now warnings) ≡ true) × ((length (now «all_created») ≡ 13568) × ((length (now «all_modified») ≡ 13568) × ((length (now «all_deleted») ≡ 13568)))))))) ⌝ }
+    ensures { λ _. ⌜ WrittenAs (tablesOf (now («old_lanes» .entry)) (now («old_boundaries» .entry)) (now («old_roads» .entry)) (now («old_junctions» .entry)) (now («old_rules» .entry)) (now («old_stop_lines» .entry)) (now («old_crosswalks» .entry)) (now («old_coordinates» .entry))) (now (created .entry)) (now (modified .entry)) (now (deleted .entry)) (now (warnings .entry)) (tableEdits tolerance 1 (commands job) (record { counter = counter; tables = (tablesOf (now («old_lanes» .entry)) (now («old_boundaries» .entry)) (now («old_roads» .entry)) (now («old_junctions» .entry)) (now («old_rules» .entry)) (now («old_stop_lines» .entry)) (now («old_crosswalks» .entry)) (now («old_coordinates» .entry))) })) (tablesOf (now (lanes .exit)) (now (boundaries .exit)) (now (roads .exit)) (now (junctions .exit)) (now (rules .exit)) (now («stop_lines» .exit)) (now (crosswalks .exit)) (now (coordinates .exit))) (now (created .exit)) (now (modified .exit)) (now (deleted .exit)) (now (warnings .exit)) ⌝ }
+{
+    slots::copy(&all_created[..n.created * ENTITY], created, 0);
+    slots::copy(&all_modified[..n.modified * ENTITY], modified, 0);
+    slots::copy(&all_deleted[..n.deleted * ENTITY], deleted, 0);
+    tell_warnings(
+        counter,
+        tolerance,
+        lanes,
+        boundaries,
+        roads,
+        junctions,
+        rules,
+        stop_lines,
+        crosswalks,
+        coordinates,
+        job,
+        old_lanes,
+        old_boundaries,
+        old_roads,
+        old_junctions,
+        old_rules,
+        old_stop_lines,
+        old_crosswalks,
+        old_coordinates,
+        all_created,
+        all_modified,
+        all_deleted,
+        n.warnings,
+        warnings,
+    );
+}
+
+// The net lists, by way of the lists of the edits, which are no longer wanted.
+fn net_lists(
+    lanes: &[u64],
+    boundaries: &[u64],
+    roads: &[u64],
+    junctions: &[u64],
+    rules: &[u64],
+    stop_lines: &[u64],
+    crosswalks: &[u64],
+    old_lanes: &[u64],
+    old_boundaries: &[u64],
+    old_roads: &[u64],
+    old_junctions: &[u64],
+    old_rules: &[u64],
+    old_stop_lines: &[u64],
+    old_crosswalks: &[u64],
+    marks: &[u64],
+    all_created: &mut [u64],
+    all_modified: &mut [u64],
+    all_deleted: &mut [u64],
+    told: usize,
+) -> Counts
+    requires { ⌜ (sortedTables (tablesOf (now lanes) (now boundaries) (now roads) (now junctions) (now rules) (now «stop_lines») (now crosswalks) []) ≡ true) × ((sortedTables (tablesOf (now «old_lanes») (now «old_boundaries») (now «old_roads») (now «old_junctions») (now «old_rules») (now «old_stop_lines») (now «old_crosswalks») []) ≡ true) × ((length (now marks) ≡ 6784) × ((length (now «all_created») ≡ 13568) × ((length (now «all_modified») ≡ 13568) × ((length (now «all_deleted») ≡ 13568)))))) ⌝ }
+    ensures { λ r. ⌜ NetListed (tablesOf (now (lanes .entry)) (now (boundaries .entry)) (now (roads .entry)) (now (junctions .entry)) (now (rules .entry)) (now («stop_lines» .entry)) (now (crosswalks .entry)) []) (tablesOf (now («old_lanes» .entry)) (now («old_boundaries» .entry)) (now («old_roads» .entry)) (now («old_junctions» .entry)) (now («old_rules» .entry)) (now («old_stop_lines» .entry)) (now («old_crosswalks» .entry)) []) (now (marks .entry)) told (now («all_created» .entry)) (now («all_modified» .entry)) (now («all_deleted» .entry)) r (now («all_created» .exit)) (now («all_modified» .exit)) (now («all_deleted» .exit)) ⌝ }
+{
+    let created = job_net::list_only(
+        lanes,
+        boundaries,
+        roads,
+        junctions,
+        rules,
+        stop_lines,
+        crosswalks,
+        old_lanes,
+        old_boundaries,
+        old_roads,
+        old_junctions,
+        old_rules,
+        old_stop_lines,
+        old_crosswalks,
+        all_created,
+    );
+    let deleted = job_net::list_only(
+        old_lanes,
+        old_boundaries,
+        old_roads,
+        old_junctions,
+        old_rules,
+        old_stop_lines,
+        old_crosswalks,
+        lanes,
+        boundaries,
+        roads,
+        junctions,
+        rules,
+        stop_lines,
+        crosswalks,
+        all_deleted,
+    );
+    let modified = job_net::list_both(
+        old_lanes,
+        old_boundaries,
+        old_roads,
+        old_junctions,
+        old_rules,
+        old_stop_lines,
+        old_crosswalks,
+        lanes,
+        boundaries,
+        roads,
+        junctions,
+        rules,
+        stop_lines,
+        crosswalks,
+        marks,
+        all_modified,
+    );
+    Counts {
+        created,
+        modified,
+        deleted,
+        warnings: told,
+    }
+}
+
+// The end of a job whose edits are all made: the net lists, or the way back where the lent ones are too short.
+fn finish(
+    counter: u64,
+    next: u64,
+    tolerance: Tolerance,
+    lanes: &mut [u64],
+    boundaries: &mut [u64],
+    roads: &mut [u64],
+    junctions: &mut [u64],
+    rules: &mut [u64],
+    stop_lines: &mut [u64],
+    crosswalks: &mut [u64],
+    coordinates: &mut [f64],
+    job: Job,
+    old_lanes: &[u64],
+    old_boundaries: &[u64],
+    old_roads: &[u64],
+    old_junctions: &[u64],
+    old_rules: &[u64],
+    old_stop_lines: &[u64],
+    old_crosswalks: &[u64],
+    old_coordinates: &[f64],
+    marks: &[u64],
+    all_created: &mut [u64],
+    all_modified: &mut [u64],
+    all_deleted: &mut [u64],
+    told: usize,
+    created: &mut [u64],
+    modified: &mut [u64],
+    deleted: &mut [u64],
+    warnings: &mut [u64],
+) -> JobEnd
+    requires { ⌜ (soundTables counter (tablesOf (now «old_lanes») (now «old_boundaries») (now «old_roads») (now «old_junctions») (now «old_rules») (now «old_stop_lines») (now «old_crosswalks») (now «old_coordinates»)) ≡ true) × ((job .count ≤ 64) × ((AllMade (tablesOf (now «old_lanes») (now «old_boundaries») (now «old_roads») (now «old_junctions») (now «old_rules») (now «old_stop_lines») (now «old_crosswalks») []) (tableEdits tolerance 1 (commands job) (record { counter = counter; tables = (tablesOf (now «old_lanes») (now «old_boundaries») (now «old_roads») (now «old_junctions») (now «old_rules») (now «old_stop_lines») (now «old_crosswalks») (now «old_coordinates»)) })) next (tablesOf (now lanes) (now boundaries) (now roads) (now junctions) (now rules) (now «stop_lines») (now crosswalks) (now coordinates)) told (now marks)) × ((length (now marks) ≡ 6784) × ((length (now «all_created») ≡ 13568) × ((length (now «all_modified») ≡ 13568) × ((length (now «all_deleted») ≡ 13568))))))) ⌝ }
+    ensures { λ r. ⌜ jobEnded (S.lentOf (r .counter) (now (lanes .exit)) (now (boundaries .exit)) (now (roads .exit)) (now (junctions .exit)) (now (rules .exit)) (now («stop_lines» .exit)) (now (crosswalks .exit)) (now (coordinates .exit)) (now (created .exit)) (now (modified .exit)) (now (deleted .exit)) (now (warnings .exit))) (tablesOf (now («old_lanes» .entry)) (now («old_boundaries» .entry)) (now («old_roads» .entry)) (now («old_junctions» .entry)) (now («old_rules» .entry)) (now («old_stop_lines» .entry)) (now («old_crosswalks» .entry)) (now («old_coordinates» .entry))) (r .answer) ≡ ending (S.lentOf counter (now («old_lanes» .entry)) (now («old_boundaries» .entry)) (now («old_roads» .entry)) (now («old_junctions» .entry)) (now («old_rules» .entry)) (now («old_stop_lines» .entry)) (now («old_crosswalks» .entry)) (now («old_coordinates» .entry)) (now (created .entry)) (now (modified .entry)) (now (deleted .entry)) (now (warnings .entry))) (tablesOf (now («old_lanes» .entry)) (now («old_boundaries» .entry)) (now («old_roads» .entry)) (now («old_junctions» .entry)) (now («old_rules» .entry)) (now («old_stop_lines» .entry)) (now («old_crosswalks» .entry)) (now («old_coordinates» .entry))) (tableEdits tolerance 1 (commands job) (record { counter = counter; tables = (tablesOf (now («old_lanes» .entry)) (now («old_boundaries» .entry)) (now («old_roads» .entry)) (now («old_junctions» .entry)) (now («old_rules» .entry)) (now («old_stop_lines» .entry)) (now («old_crosswalks» .entry)) (now («old_coordinates» .entry))) })) ⌝ }
+{
+    let n = net_lists(
+        lanes,
+        boundaries,
+        roads,
+        junctions,
+        rules,
+        stop_lines,
+        crosswalks,
+        old_lanes,
+        old_boundaries,
+        old_roads,
+        old_junctions,
+        old_rules,
+        old_stop_lines,
+        old_crosswalks,
+        marks,
+        all_created,
+        all_modified,
+        all_deleted,
+        told,
+    );
+    if !room::lists_fit(n, created, modified, deleted, warnings) {
+        area::put_back(
+            old_lanes,
+            old_boundaries,
+            old_roads,
+            old_junctions,
+            old_rules,
+            old_stop_lines,
+            old_crosswalks,
+            old_coordinates,
+            lanes,
+            boundaries,
+            roads,
+            junctions,
+            rules,
+            stop_lines,
+            crosswalks,
+            coordinates,
+        );
+        return JobEnd {
+            counter,
+            answer: JobAnswer::NoRoom,
+        };
+    }
+    tell(
+        counter,
+        tolerance,
+        lanes,
+        boundaries,
+        roads,
+        junctions,
+        rules,
+        stop_lines,
+        crosswalks,
+        coordinates,
+        job,
+        old_lanes,
+        old_boundaries,
+        old_roads,
+        old_junctions,
+        old_rules,
+        old_stop_lines,
+        old_crosswalks,
+        old_coordinates,
+        all_created,
+        all_modified,
+        all_deleted,
+        n,
+        created,
+        modified,
+        deleted,
+        warnings,
+    );
+    JobEnd {
+        counter: next,
+        answer: JobAnswer::Made(n),
+    }
+}
+
+// The first run, and what follows from it.
+fn make_with(
+    counter: u64,
+    tolerance: Tolerance,
+    lanes: &mut [u64],
+    boundaries: &mut [u64],
+    roads: &mut [u64],
+    junctions: &mut [u64],
+    rules: &mut [u64],
+    stop_lines: &mut [u64],
+    crosswalks: &mut [u64],
+    coordinates: &mut [f64],
+    job: Job,
+    old_lanes: &[u64],
+    old_boundaries: &[u64],
+    old_roads: &[u64],
+    old_junctions: &[u64],
+    old_rules: &[u64],
+    old_stop_lines: &[u64],
+    old_crosswalks: &[u64],
+    old_coordinates: &[f64],
+    marks: &mut [u64],
+    all_created: &mut [u64],
+    all_modified: &mut [u64],
+    all_deleted: &mut [u64],
+    all_warnings: &mut [u64],
+    created: &mut [u64],
+    modified: &mut [u64],
+    deleted: &mut [u64],
+    warnings: &mut [u64],
+) -> JobEnd
+    requires { ⌜ (soundTables counter (tablesOf (now lanes) (now boundaries) (now roads) (now junctions) (now rules) (now «stop_lines») (now crosswalks) (now coordinates)) ≡ true) × ((job .count ≤ 64) × (((tablesOf (now «old_lanes») (now «old_boundaries») (now «old_roads») (now «old_junctions») (now «old_rules») (now «old_stop_lines») (now «old_crosswalks») (now «old_coordinates»)) ≡ (tablesOf (now lanes) (now boundaries) (now roads) (now junctions) (now rules) (now «stop_lines») (now crosswalks) (now coordinates))) × ((now marks ≡ unmarked) × ((length (now «all_warnings») ≡ 20480) × ((length (now «all_created») ≡ 13568) × ((length (now «all_modified») ≡ 13568) × ((length (now «all_deleted») ≡ 13568)))))))) ⌝ }
+    ensures { λ r. ⌜ jobEnded (S.lentOf (r .counter) (now (lanes .exit)) (now (boundaries .exit)) (now (roads .exit)) (now (junctions .exit)) (now (rules .exit)) (now («stop_lines» .exit)) (now (crosswalks .exit)) (now (coordinates .exit)) (now (created .exit)) (now (modified .exit)) (now (deleted .exit)) (now (warnings .exit))) (tablesOf (now («old_lanes» .entry)) (now («old_boundaries» .entry)) (now («old_roads» .entry)) (now («old_junctions» .entry)) (now («old_rules» .entry)) (now («old_stop_lines» .entry)) (now («old_crosswalks» .entry)) (now («old_coordinates» .entry))) (r .answer) ≡ ending (S.lentOf counter (now (lanes .entry)) (now (boundaries .entry)) (now (roads .entry)) (now (junctions .entry)) (now (rules .entry)) (now («stop_lines» .entry)) (now (crosswalks .entry)) (now (coordinates .entry)) (now (created .entry)) (now (modified .entry)) (now (deleted .entry)) (now (warnings .entry))) (tablesOf (now («old_lanes» .entry)) (now («old_boundaries» .entry)) (now («old_roads» .entry)) (now («old_junctions» .entry)) (now («old_rules» .entry)) (now («old_stop_lines» .entry)) (now («old_crosswalks» .entry)) (now («old_coordinates» .entry))) (tableEdits tolerance 1 (commands job) (record { counter = counter; tables = (tablesOf (now (lanes .entry)) (now (boundaries .entry)) (now (roads .entry)) (now (junctions .entry)) (now (rules .entry)) (now («stop_lines» .entry)) (now (crosswalks .entry)) (now (coordinates .entry))) })) ⌝ }
+{
+    let ran = job_run::try_all(
+        counter,
+        tolerance,
+        lanes,
+        boundaries,
+        roads,
+        junctions,
+        rules,
+        stop_lines,
+        crosswalks,
+        coordinates,
+        job,
+        all_created,
+        all_modified,
+        all_deleted,
+        all_warnings,
+        old_lanes,
+        old_boundaries,
+        old_roads,
+        old_junctions,
+        old_rules,
+        old_stop_lines,
+        old_crosswalks,
+        marks,
+    );
+    match ran {
+        Ran::Stopped { place, refusal } => {
+            area::put_back(
+                old_lanes,
+                old_boundaries,
+                old_roads,
+                old_junctions,
+                old_rules,
+                old_stop_lines,
+                old_crosswalks,
+                old_coordinates,
+                lanes,
+                boundaries,
+                roads,
+                junctions,
+                rules,
+                stop_lines,
+                crosswalks,
+                coordinates,
+            );
+            JobEnd {
+                counter,
+                answer: JobAnswer::EditRefused { place, refusal },
+            }
+        }
+        Ran::Done {
+            counter: next,
+            warnings: told,
+        } => finish(
+            counter,
+            next,
+            tolerance,
+            lanes,
+            boundaries,
+            roads,
+            junctions,
+            rules,
+            stop_lines,
+            crosswalks,
+            coordinates,
+            job,
+            old_lanes,
+            old_boundaries,
+            old_roads,
+            old_junctions,
+            old_rules,
+            old_stop_lines,
+            old_crosswalks,
+            old_coordinates,
+            marks,
+            all_created,
+            all_modified,
+            all_deleted,
+            told,
+            created,
+            modified,
+            deleted,
+            warnings,
+        ),
+    }
+}
+
+// The job made on a sound map, of which the old slices are a copy.
+pub fn make(
+    counter: u64,
+    tolerance: Tolerance,
+    lanes: &mut [u64],
+    boundaries: &mut [u64],
+    roads: &mut [u64],
+    junctions: &mut [u64],
+    rules: &mut [u64],
+    stop_lines: &mut [u64],
+    crosswalks: &mut [u64],
+    coordinates: &mut [f64],
+    job: Job,
+    old_lanes: &[u64],
+    old_boundaries: &[u64],
+    old_roads: &[u64],
+    old_junctions: &[u64],
+    old_rules: &[u64],
+    old_stop_lines: &[u64],
+    old_crosswalks: &[u64],
+    old_coordinates: &[f64],
+    created: &mut [u64],
+    modified: &mut [u64],
+    deleted: &mut [u64],
+    warnings: &mut [u64],
+) -> JobEnd
+    requires { ⌜ (soundTables counter (tablesOf (now lanes) (now boundaries) (now roads) (now junctions) (now rules) (now «stop_lines») (now crosswalks) (now coordinates)) ≡ true) × ((job .count ≤ 64) × (((tablesOf (now «old_lanes») (now «old_boundaries») (now «old_roads») (now «old_junctions») (now «old_rules») (now «old_stop_lines») (now «old_crosswalks») (now «old_coordinates»)) ≡ (tablesOf (now lanes) (now boundaries) (now roads) (now junctions) (now rules) (now «stop_lines») (now crosswalks) (now coordinates))))) ⌝ }
+    ensures { λ r. ⌜ jobEnded (S.lentOf (r .counter) (now (lanes .exit)) (now (boundaries .exit)) (now (roads .exit)) (now (junctions .exit)) (now (rules .exit)) (now («stop_lines» .exit)) (now (crosswalks .exit)) (now (coordinates .exit)) (now (created .exit)) (now (modified .exit)) (now (deleted .exit)) (now (warnings .exit))) (tablesOf (now («old_lanes» .entry)) (now («old_boundaries» .entry)) (now («old_roads» .entry)) (now («old_junctions» .entry)) (now («old_rules» .entry)) (now («old_stop_lines» .entry)) (now («old_crosswalks» .entry)) (now («old_coordinates» .entry))) (r .answer) ≡ ending (S.lentOf counter (now (lanes .entry)) (now (boundaries .entry)) (now (roads .entry)) (now (junctions .entry)) (now (rules .entry)) (now («stop_lines» .entry)) (now (crosswalks .entry)) (now (coordinates .entry)) (now (created .entry)) (now (modified .entry)) (now (deleted .entry)) (now (warnings .entry))) (tablesOf (now («old_lanes» .entry)) (now («old_boundaries» .entry)) (now («old_roads» .entry)) (now («old_junctions» .entry)) (now («old_rules» .entry)) (now («old_stop_lines» .entry)) (now («old_crosswalks» .entry)) (now («old_coordinates» .entry))) (tableEdits tolerance 1 (commands job) (record { counter = counter; tables = (tablesOf (now (lanes .entry)) (now (boundaries .entry)) (now (roads .entry)) (now (junctions .entry)) (now (rules .entry)) (now («stop_lines» .entry)) (now (crosswalks .entry)) (now (coordinates .entry))) })) ⌝ }
+{
+    let mut marks = [0; MARKS];
+    let mut all_created = [0; ENTITY_LIST];
+    let mut all_modified = [0; ENTITY_LIST];
+    let mut all_deleted = [0; ENTITY_LIST];
+    let mut all_warnings = [0; WARNING_LIST];
+    make_with(
+        counter,
+        tolerance,
+        lanes,
+        boundaries,
+        roads,
+        junctions,
+        rules,
+        stop_lines,
+        crosswalks,
+        coordinates,
+        job,
+        old_lanes,
+        old_boundaries,
+        old_roads,
+        old_junctions,
+        old_rules,
+        old_stop_lines,
+        old_crosswalks,
+        old_coordinates,
+        &mut marks,
+        &mut all_created,
+        &mut all_modified,
+        &mut all_deleted,
+        &mut all_warnings,
+        created,
+        modified,
+        deleted,
+        warnings,
+    )
+}
