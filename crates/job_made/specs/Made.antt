@@ -31,35 +31,6 @@ AllMade old (stopped place r) counter t n ms = ⊥
 AllMade old (done k css) counter t n ms =
     (counter ≡ k .counter) × ((t ≡ k .tables) × ((n ≡ length (allWarnings css)) × (ms ≡ markAll old (pairsOf (allModified css)) unmarked)))
 
--- the tables that made edits left
-abbrev pub Left : Run Held → Tables → Type 0
-Left (stopped place r) t = ⊥
-Left (done k css) t = t ≡ k .tables
-
--- the net change set
-abbrev pub netOf : Tables → Held → List ChangeSet → ChangeSet
-netOf old k css = net (view old) (view (k .tables)) css
-
--- a list of entities at the front of words
-abbrev pub Fronts : List EntityRef → List ℕ → Type 0
-Fronts es w = take (length es * 2) w ≡ each entityWords es
-
--- the net lists stand ready, and are counted
-abbrev pub NetReady : Tables → Run Held → Counts → List ℕ → List ℕ → List ℕ → Type 0
-NetReady old (stopped place r) n created modified deleted = ⊥
-NetReady old (done k css) n created modified deleted =
-    (n ≡ counts (netOf old k css))
-    × (Fronts (netOf old k css .created) created × (Fronts (netOf old k css .modified) modified × Fronts (netOf old k css .deleted) deleted))
-
--- the job is made: the tables are those that the edits left, and the lists have the net change set
-abbrev pub WrittenAs : Tables → List ℕ → List ℕ → List ℕ → List ℕ → Run Held → Tables → List ℕ → List ℕ → List ℕ → List ℕ → Type 0
-WrittenAs old created modified deleted warnings (stopped place r) t c m d w = t ≡ t
-WrittenAs old created modified deleted warnings (done k css) t c m d w =
-    (t ≡ k .tables)
-    × ((c ≡ listed created (netOf old k css .created))
-    × ((m ≡ listed modified (netOf old k css .modified))
-    × ((d ≡ listed deleted (netOf old k css .deleted)) × (w ≡ warned warnings (netOf old k css .warnings)))))
-
 -- the net lists by rows, written over the lists of the edits
 abbrev pub NetListed : Tables → Tables → List ℕ → ℕ → List ℕ → List ℕ → List ℕ → Counts → List ℕ → List ℕ → List ℕ → Type 0
 NetListed t old ms told created modified deleted n c m d =

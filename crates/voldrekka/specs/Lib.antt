@@ -1,3 +1,4 @@
 pub mod Nearest
 pub mod Split
 pub mod Edits
+pub mod Jobs

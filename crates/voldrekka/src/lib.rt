@@ -16,10 +16,13 @@ ghost use Rattle.step.specs.Step.{tablesOf, lentOf};
 ghost use Rattle.faults.specs.Faults.{faultOf};
 ghost use Rattle.words.specs.Words.{commandOf};
 ghost use Rattle.voldrekka.specs.Edits.{called, calling};
+ghost use Rattle.voldrekka.specs.Jobs.{jobCalled, jobCalling};
+ghost use Rattle.job_words.specs.JobWords.{jobOf};
 use entities::Counter;
 use entities::Tolerance;
 use faults::Fault;
 use geometry::Point2;
+use job_words::ToldJob;
 use polyline::OptionNearest;
 use words::Told;
 
@@ -198,4 +201,63 @@ pub extern "C" fn voldrekka_apply(
         warnings,
     );
     words::tell(before, answer)
+}
+
+// Makes the job that rows of words are (crates/job_words), all of its edits or none, and answers by value. The second area, the slices whose names begin with
+// old_, begins with the map's slices as they came once none of its own is shorter, made or not. A refused job writes nothing else.
+#[no_mangle]
+pub extern "C" fn voldrekka_job(
+    counter: &mut u64,
+    lanes: &mut [u64],
+    boundaries: &mut [u64],
+    roads: &mut [u64],
+    junctions: &mut [u64],
+    rules: &mut [u64],
+    stop_lines: &mut [u64],
+    crosswalks: &mut [u64],
+    coordinates: &mut [f64],
+    commands: &[u64],
+    old_lanes: &mut [u64],
+    old_boundaries: &mut [u64],
+    old_roads: &mut [u64],
+    old_junctions: &mut [u64],
+    old_rules: &mut [u64],
+    old_stop_lines: &mut [u64],
+    old_crosswalks: &mut [u64],
+    old_coordinates: &mut [f64],
+    created: &mut [u64],
+    modified: &mut [u64],
+    deleted: &mut [u64],
+    warnings: &mut [u64],
+) -> ToldJob
+    ensures { λ r. ⌜ jobCalled (lentOf (now (counter .exit)) (now (lanes .exit)) (now (boundaries .exit)) (now (roads .exit)) (now (junctions .exit)) (now (rules .exit)) (now («stop_lines» .exit)) (now (crosswalks .exit)) (now (coordinates .exit)) (now (created .exit)) (now (modified .exit)) (now (deleted .exit)) (now (warnings .exit))) (tablesOf (now («old_lanes» .exit)) (now («old_boundaries» .exit)) (now («old_roads» .exit)) (now («old_junctions» .exit)) (now («old_rules» .exit)) (now («old_stop_lines» .exit)) (now («old_crosswalks» .exit)) (now («old_coordinates» .exit))) r ≡ jobCalling (jobOf (now (commands .entry))) (lentOf (now (counter .entry)) (now (lanes .entry)) (now (boundaries .entry)) (now (roads .entry)) (now (junctions .entry)) (now (rules .entry)) (now («stop_lines» .entry)) (now (crosswalks .entry)) (now (coordinates .entry)) (now (created .entry)) (now (modified .entry)) (now (deleted .entry)) (now (warnings .entry))) (tablesOf (now («old_lanes» .entry)) (now («old_boundaries» .entry)) (now («old_roads» .entry)) (now («old_junctions» .entry)) (now («old_rules» .entry)) (now («old_stop_lines» .entry)) (now («old_crosswalks» .entry)) (now («old_coordinates» .entry))) ⌝ }
+{
+    let made = job_words::job_of(commands);
+    let tolerance = Tolerance::preset();
+    let answer = job::apply(
+        counter,
+        tolerance,
+        lanes,
+        boundaries,
+        roads,
+        junctions,
+        rules,
+        stop_lines,
+        crosswalks,
+        coordinates,
+        made,
+        old_lanes,
+        old_boundaries,
+        old_roads,
+        old_junctions,
+        old_rules,
+        old_stop_lines,
+        old_crosswalks,
+        old_coordinates,
+        created,
+        modified,
+        deleted,
+        warnings,
+    );
+    job_words::tell(*counter, answer)
 }

@@ -137,7 +137,7 @@ pub fn command_of(row: &[u64]) -> Command
 
 // ---- an answer
 
-fn kind_word(entity: OptionEntity) -> u64
+pub fn kind_word(entity: OptionEntity) -> u64
     ensures { λ r. ⌜ r ≡ W.kindWord entity ⌝ }
 {
     match entity {
@@ -149,7 +149,7 @@ fn kind_word(entity: OptionEntity) -> u64
     }
 }
 
-fn id_word(entity: OptionEntity) -> u64
+pub fn id_word(entity: OptionEntity) -> u64
     ensures { λ r. ⌜ r ≡ W.idWord entity ⌝ }
 {
     match entity {
