@@ -1,0 +1,62 @@
+-- What an area that fits has room for, and the way back from a copy. Assumes nothing.
+use mathlib.Core.Path.{_≡_, sym, _∙_}
+use mathlib.Core.Bool.{true, _&&_}
+use mathlib.Core.List.{List}
+use Prim.Native.Nat.{_+_, _≤_}
+use native.Mathlib.Omega.{arith}
+use lib.Dec.{leb}
+use lib.ListN.{length}
+use lib.Seq.{take-all}
+use borrow.Author.Tests.{leb-true}
+use Rattle.lists.specs.Rows.{over}
+use Rattle.lists.proofs.Rows.{length-over, take-over}
+use Rattle.lists.proofs.Booleans.{and-fst, and-snd}
+use Rattle.tables.specs.View.{Tables}
+use Rattle.area.specs.Area.{areaFits}
+
+pub record Fits (t area : Tables) : Type 0 where
+  pub lanes-fit : length (t .lanes) ≤ length (area .lanes)
+  pub boundaries-fit : length (t .boundaries) ≤ length (area .boundaries)
+  pub roads-fit : length (t .roads) ≤ length (area .roads)
+  pub junctions-fit : length (t .junctions) ≤ length (area .junctions)
+  pub rules-fit : length (t .rules) ≤ length (area .rules)
+  pub stop-lines-fit : length (t .stop-lines) ≤ length (area .stop-lines)
+  pub crosswalks-fit : length (t .crosswalks) ≤ length (area .crosswalks)
+  pub coordinates-fit : length (t .coordinates) ≤ length (area .coordinates)
+
+pub fits-of : (t area : Tables) → areaFits t area ≡ true → Fits t area
+unfolding areaFits
+fits-of t area h =
+    let h7 = and-fst (leb (length (t .lanes)) (length (area .lanes)) && leb (length (t .boundaries)) (length (area .boundaries)) && leb (length (t .roads)) (length (area .roads)) && leb (length (t .junctions)) (length (area .junctions)) && leb (length (t .rules)) (length (area .rules)) && leb (length (t .stop-lines)) (length (area .stop-lines)) && leb (length (t .crosswalks)) (length (area .crosswalks))) (leb (length (t .coordinates)) (length (area .coordinates))) h in
+    let p8 = and-snd (leb (length (t .lanes)) (length (area .lanes)) && leb (length (t .boundaries)) (length (area .boundaries)) && leb (length (t .roads)) (length (area .roads)) && leb (length (t .junctions)) (length (area .junctions)) && leb (length (t .rules)) (length (area .rules)) && leb (length (t .stop-lines)) (length (area .stop-lines)) && leb (length (t .crosswalks)) (length (area .crosswalks))) (leb (length (t .coordinates)) (length (area .coordinates))) h in
+    let h6 = and-fst (leb (length (t .lanes)) (length (area .lanes)) && leb (length (t .boundaries)) (length (area .boundaries)) && leb (length (t .roads)) (length (area .roads)) && leb (length (t .junctions)) (length (area .junctions)) && leb (length (t .rules)) (length (area .rules)) && leb (length (t .stop-lines)) (length (area .stop-lines))) (leb (length (t .crosswalks)) (length (area .crosswalks))) h7 in
+    let p7 = and-snd (leb (length (t .lanes)) (length (area .lanes)) && leb (length (t .boundaries)) (length (area .boundaries)) && leb (length (t .roads)) (length (area .roads)) && leb (length (t .junctions)) (length (area .junctions)) && leb (length (t .rules)) (length (area .rules)) && leb (length (t .stop-lines)) (length (area .stop-lines))) (leb (length (t .crosswalks)) (length (area .crosswalks))) h7 in
+    let h5 = and-fst (leb (length (t .lanes)) (length (area .lanes)) && leb (length (t .boundaries)) (length (area .boundaries)) && leb (length (t .roads)) (length (area .roads)) && leb (length (t .junctions)) (length (area .junctions)) && leb (length (t .rules)) (length (area .rules))) (leb (length (t .stop-lines)) (length (area .stop-lines))) h6 in
+    let p6 = and-snd (leb (length (t .lanes)) (length (area .lanes)) && leb (length (t .boundaries)) (length (area .boundaries)) && leb (length (t .roads)) (length (area .roads)) && leb (length (t .junctions)) (length (area .junctions)) && leb (length (t .rules)) (length (area .rules))) (leb (length (t .stop-lines)) (length (area .stop-lines))) h6 in
+    let h4 = and-fst (leb (length (t .lanes)) (length (area .lanes)) && leb (length (t .boundaries)) (length (area .boundaries)) && leb (length (t .roads)) (length (area .roads)) && leb (length (t .junctions)) (length (area .junctions))) (leb (length (t .rules)) (length (area .rules))) h5 in
+    let p5 = and-snd (leb (length (t .lanes)) (length (area .lanes)) && leb (length (t .boundaries)) (length (area .boundaries)) && leb (length (t .roads)) (length (area .roads)) && leb (length (t .junctions)) (length (area .junctions))) (leb (length (t .rules)) (length (area .rules))) h5 in
+    let h3 = and-fst (leb (length (t .lanes)) (length (area .lanes)) && leb (length (t .boundaries)) (length (area .boundaries)) && leb (length (t .roads)) (length (area .roads))) (leb (length (t .junctions)) (length (area .junctions))) h4 in
+    let p4 = and-snd (leb (length (t .lanes)) (length (area .lanes)) && leb (length (t .boundaries)) (length (area .boundaries)) && leb (length (t .roads)) (length (area .roads))) (leb (length (t .junctions)) (length (area .junctions))) h4 in
+    let h2 = and-fst (leb (length (t .lanes)) (length (area .lanes)) && leb (length (t .boundaries)) (length (area .boundaries))) (leb (length (t .roads)) (length (area .roads))) h3 in
+    let p3 = and-snd (leb (length (t .lanes)) (length (area .lanes)) && leb (length (t .boundaries)) (length (area .boundaries))) (leb (length (t .roads)) (length (area .roads))) h3 in
+    let h1 = and-fst (leb (length (t .lanes)) (length (area .lanes))) (leb (length (t .boundaries)) (length (area .boundaries))) h2 in
+    let p2 = and-snd (leb (length (t .lanes)) (length (area .lanes))) (leb (length (t .boundaries)) (length (area .boundaries))) h2 in
+    record {
+      lanes-fit = leb-true (length (t .lanes)) (length (area .lanes)) h1;
+      boundaries-fit = leb-true (length (t .boundaries)) (length (area .boundaries)) p2;
+      roads-fit = leb-true (length (t .roads)) (length (area .roads)) p3;
+      junctions-fit = leb-true (length (t .junctions)) (length (area .junctions)) p4;
+      rules-fit = leb-true (length (t .rules)) (length (area .rules)) p5;
+      stop-lines-fit = leb-true (length (t .stop-lines)) (length (area .stop-lines)) p6;
+      crosswalks-fit = leb-true (length (t .crosswalks)) (length (area .crosswalks)) p7;
+      coordinates-fit = leb-true (length (t .coordinates)) (length (area .coordinates)) p8;
+    }
+
+-- ---- the whole of a list, written over another or taken from its front
+
+-- a list written over one that is as long
+pub over-whole : {A : Type 0} (w l : List A) → length l ≡ length w → over w 0 l ≡ l
+over-whole w l e =
+    let fits : 0 + length l ≤ length w = omega arith in
+    let same : length (over w 0 l) ≤ 0 + length l = omega (arith, length-over w 0 l fits) in
+    sym (take-all (0 + length l) (over w 0 l) same) ∙ take-over w 0 l fits
