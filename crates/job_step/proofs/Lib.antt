@@ -1,3 +1,4 @@
 pub mod Prefix
 pub mod Turn
 pub mod Edits
+pub mod Area
