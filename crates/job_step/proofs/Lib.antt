@@ -2,3 +2,4 @@ pub mod Prefix
 pub mod Turn
 pub mod Edits
 pub mod Area
+pub mod Claim
