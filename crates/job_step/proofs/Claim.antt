@@ -27,7 +27,7 @@ use Rattle.job_laws.specs.Deeds.{Deed, a-job, stateBehind, afterAll}
 use Rattle.job_laws.proofs.Claim.{deed-claim-3}
 use Rattle.area.specs.Area.{areaFits, copied}
 use Rattle.job_step.specs.Job.{JobEnded, refusing, making, ending, jobStep, tableEdits}
-use Rattle.job_step.specs.Run.{JobLending, TableDeed, edit-with, job-with, lendJob, callJob, heldBehind, jobOn, deedOn, heldAfterAll, JobClosed, Closed, AllClosed, TableDeedDemand3, TableDeedClaim3}
+use Rattle.job_step.specs.Run.{JobLending, TableDeed, edit-with, job-with, lendJob, callJob, heldBehind, jobOn, deedOn, heldAfterAll, JobClosed, Closed, AllClosed, TableDeedClaim3}
 use Rattle.job_step.proofs.Edits.{Stays, Left, onMaps, room-same, edits-beside}
 use Rattle.job_step.proofs.Area.{area-same}
 

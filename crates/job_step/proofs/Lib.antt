@@ -3,3 +3,4 @@ pub mod Turn
 pub mod Edits
 pub mod Area
 pub mod Claim
+pub mod Ends
