@@ -2,7 +2,7 @@
 ghost use mathlib.Core.Path.{_≡_};
 ghost use mathlib.Core.Bool.{true};
 ghost use mathlib.Core.List.{[]};
-ghost use Prim.Native.Nat.{_+_, _*_, _≤_};
+ghost use Prim.Native.Nat.{_+_, _*_, _≤_, _<_};
 ghost use lib.ListN.{length};
 ghost use Rattle.tables.specs.View.{tablesOf, word};
 ghost use Rattle.lookup.specs.Lookup.{sortedTable};
@@ -52,7 +52,7 @@ pub const RULE_KIND: u64 = 7;
 
 // The mark of the row with an id, if there is one.
 fn mark_row(table: &[u64], words: usize, first: usize, id: u64, marks: &mut [u64])
-    requires { ⌜ (sortedTable 4096 words (now table) ≡ true) × (first + word 0 (now table) ≤ length (now marks)) ⌝ }
+    requires { ⌜ (0 < words) × ((sortedTable 4096 words (now table) ≡ true) × (first + word 0 (now table) ≤ length (now marks))) ⌝ }
     ensures { λ _. ⌜ now (marks .exit) ≡ M.markRow words first (now (table .entry)) id (now (marks .entry)) ⌝ }
 {
     let n = table[0] as usize;
