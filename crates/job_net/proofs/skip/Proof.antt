@@ -27,7 +27,7 @@ shared-slice-read-if1 : tie.Need-shared-slice-read-if1 Inv-loop μ-loop
 shared-slice-read-if1 c = let a = c .before .before .before .args in omega (arith, row-start (c .before .before .loop .j) (a .n) (a .s) (length (a .rows .now)) (c .before .before .before .pre .0) (c .before .before .before .pre .1 .0) (c .before .loop-test .taken))
 
 returns : tie.Need-returns Inv-loop μ-loop
-returns c = let a = c .before .before .before .before .args in walk-stops (a .s) (a .n) (a .id) (a .rows .now) (c .before .before .before .before .pre .0) (a .from) (c .before .before .before .loop .j) (c .before .before .before .loop .inv) (c .before .before .loop-test .taken) (c .if1 .taken)
+returns c = let a = c .before .before .before .before .args in walk-stops (a .s) (a .n) (a .id) (a .rows .now) (c .before .before .before .before .pre .0) (a .from) (c .before .before .before .loop .j) (c .before .before .before .loop .inv) (c .before .before .loop-test .taken) (omega (arith, c .if1 .taken))
 
 add-j : tie.Need-add-j Inv-loop μ-loop
 add-j c = omega arith
@@ -36,7 +36,7 @@ loop-less : tie.Need-loop-less Inv-loop μ-loop
 loop-less c = omega arith
 
 loop-again : tie.Need-loop-again Inv-loop μ-loop
-loop-again c = let a = c .before .before .before .before .args in walk-turns (a .s) (a .n) (a .id) (a .rows .now) (c .before .before .before .before .pre .0) (a .from) (c .before .before .before .loop .j) (c .before .before .before .loop .inv) (c .before .before .loop-test .taken) (c .if1 .left)
+loop-again c = let a = c .before .before .before .before .args in walk-turns (a .s) (a .n) (a .id) (a .rows .now) (c .before .before .before .before .pre .0) (a .from) (c .before .before .before .loop .j) (c .before .before .before .loop .inv) (c .before .before .loop-test .taken) (omega (arith, c .if1 .left))
 
 returns-2 : tie.Need-returns-2 Inv-loop μ-loop
 returns-2 c = let a = c .before .before .args in walk-ends (a .s) (a .n) (a .id) (a .rows .now) (c .before .before .pre .0) (a .from) (c .before .loop .j) (c .before .loop .inv) (c .loop-test .left)
