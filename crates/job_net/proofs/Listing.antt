@@ -29,7 +29,7 @@ unfolding each
 length-words x [] = refl
 length-words x (i ∷ ids) = let r = length-words x ids in omega arith
 
-when-few : (b : Bool) (x : ℕ) → length (when b x) ≤ 1
+pub when-few : (b : Bool) (x : ℕ) → length (when b x) ≤ 1
 when-few true x = omega arith
 when-few false x = omega arith
 

@@ -1,6 +1,6 @@
 -- Lists of entities written one behind the other, kind by kind. Assumes nothing.
 use mathlib.Core.Path.{_≡_, refl, sym, ap, subst, _∙_}
-use mathlib.Core.Bool.{Bool, true, false, not, _&&_}
+use mathlib.Core.Bool.{true, not, _&&_}
 use mathlib.Core.List.{List, [], _∷_, _++_, append-assoc}
 use Prim.Native.Nat.{ℕ, _+_, _-_, _*_, _≤_, _<_}
 use native.Mathlib.Omega.{arith}
@@ -21,6 +21,7 @@ use Rattle.lookup.specs.Lookup.{sortedTable}
 use Rattle.lookup.proofs.Laws.{sorted-few}
 use Rattle.job_marks.specs.Marks.{laneMarks, boundaryMarks, roadMarks, junctionMarks, stopLineMarks, crosswalkMarks, ruleMarks}
 use Rattle.job_marks.proofs.Sorted.{sorted-wider}
+use Rattle.job_net.proofs.Listing.{when-few}
 use Rattle.job_net.specs.Net.{tableIds, absentIn, markedIn, onlyIn, markedBoth}
 
 -- ---- at most as many ids as rows
@@ -28,10 +29,6 @@ use Rattle.job_net.specs.Net.{tableIds, absentIn, markedIn, onlyIn, mark
 pub absent-few : (limit s : ℕ) (t o : List ℕ) → sortedTable limit s t ≡ true → length (absentIn (tableIds s o) (tableIds s t)) ≤ limit
 unfolding absentIn
 absent-few limit s t o h = omega (arith, length-keep (λ i. not (has i (tableIds s o))) (tableIds s t), length-keys s (word 0 t) (drop 1 t), sorted-few limit s t h)
-
-when-few : (b : Bool) (x : ℕ) → length (when b x) ≤ 1
-when-few true x = omega arith
-when-few false x = omega arith
 
 length-marked : (others ms ids : List ℕ) → length (markedIn others ms ids) ≤ length ids
 unfolding markedIn
