@@ -5,8 +5,8 @@ use mathlib.Core.List.{List}
 use Prim.Native.Nat.{_+_, _≤_}
 use native.Mathlib.Omega.{arith}
 use lib.Dec.{leb}
-use lib.ListN.{length}
-use lib.Seq.{take-all}
+use lib.ListN.{length, take}
+use lib.Seq.{length-take-le, take-all}
 use borrow.Author.Tests.{leb-true}
 use Rattle.lists.specs.Rows.{over}
 use Rattle.lists.proofs.Rows.{length-over, take-over}
@@ -60,3 +60,7 @@ over-whole w l e =
     let fits : 0 + length l ≤ length w = omega arith in
     let same : length (over w 0 l) ≤ 0 + length l = omega (arith, length-over w 0 l fits) in
     sym (take-all (0 + length l) (over w 0 l) same) ∙ take-over w 0 l fits
+
+-- and the front of a longer one
+pub over-front-of : {A : Type 0} (w xs : List A) → length w ≤ length xs → over w 0 (take (length w) xs) ≡ take (length w) xs
+over-front-of w xs h = over-whole w (take (length w) xs) (length-take-le (length w) xs h)

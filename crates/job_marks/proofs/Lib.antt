@@ -1,2 +1,4 @@
 pub mod Sorted
 pub mod Turns
+pub mod Pairs
+pub mod Marked

@@ -82,3 +82,10 @@ module _ (t : Tables) (h : sortedTables t ≡ true) where
   pub rules-sorted : sortedTable maxRules ruleWords (t .rules) ≡ true
   unfolding sortedTables
   rules-sorted = and-snd (crosswalksSorted t) (sortedTable maxRules ruleWords (t .rules)) h
+
+-- seven that are sorted
+pub all-sorted : (t : Tables) → sortedTable maxLanes laneWords (t .lanes) ≡ true → sortedTable maxBoundaries boundaryWords (t .boundaries) ≡ true → sortedTable maxRoads roadWords (t .roads) ≡ true
+    → sortedTable maxJunctions junctionWords (t .junctions) ≡ true → sortedTable maxStopLines stopLineWords (t .stop-lines) ≡ true → sortedTable maxCrosswalks crosswalkWords (t .crosswalks) ≡ true
+    → sortedTable maxRules ruleWords (t .rules) ≡ true → sortedTables t ≡ true
+unfolding sortedTables
+all-sorted t a b c d e f g = rw (a, b, c, d, e, f, g)

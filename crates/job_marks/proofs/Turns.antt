@@ -1,7 +1,7 @@
 -- Marks set: of one row, of one entity, of a list. Assumes nothing.
 use mathlib.Core.Path.{_≡_, refl, sym, ap, _∙_}
 use mathlib.Core.Bool.{Bool, true, false, cond}
-use mathlib.Core.List.{List, [], _∷_}
+use mathlib.Core.List.{List, [], _∷_, _++_}
 use Prim.Native.Nat.{ℕ, _+_, _*_, _≤_, _<_}
 use native.Mathlib.Numerals.{add-one}
 use native.Mathlib.Omega.{arith}
@@ -64,6 +64,12 @@ pub length-all : (t : Tables) (ps : List (ℕ × ℕ)) (ms : List ℕ) → lengt
 unfolding markAll
 length-all t [] ms = refl
 length-all t (p ∷ ps) ms = length-all t ps (markOne t (p .0) (p .1) ms) ∙ length-one t (p .0) (p .1) ms
+
+-- marks of one list over those of another
+pub all-append : (t : Tables) (ps qs : List (ℕ × ℕ)) (ms : List ℕ) → markAll t (ps ++ qs) ms ≡ markAll t qs (markAll t ps ms)
+unfolding markAll
+all-append t [] qs ms = refl
+all-append t (p ∷ ps) qs ms = all-append t ps qs (markOne t (p .0) (p .1) ms)
 
 -- ---- one entity, by its kind
 

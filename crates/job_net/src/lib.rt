@@ -70,7 +70,7 @@ fn list_absent(
     out: &mut [u64],
     at: usize,
 ) -> usize
-    requires { ⌜ (sortedTable 4096 s (now table) ≡ true) × ((sortedTable 4096 s (now other) ≡ true) × ((at + word 0 (now table)) * 2 ≤ length (now out))) ⌝ }
+    requires { ⌜ (0 < s) × ((sortedTable 4096 s (now table) ≡ true) × ((sortedTable 4096 s (now other) ≡ true) × ((at + word 0 (now table)) * 2 ≤ length (now out)))) ⌝ }
     ensures { λ r. ⌜ (r ≡ at + length (N.absentIn (N.tableIds s (now (other .entry))) (N.tableIds s (now (table .entry))))) × (now (out .exit) ≡ over (now (out .entry)) (at * 2) (each (λ i. kind ∷ i ∷ []) (N.absentIn (N.tableIds s (now (other .entry))) (N.tableIds s (now (table .entry)))))) ⌝ }
 {
     let n = table[0] as usize;
@@ -98,7 +98,7 @@ fn list_marked(
     out: &mut [u64],
     at: usize,
 ) -> usize
-    requires { ⌜ (sortedTable 4096 s (now table) ≡ true) × ((sortedTable 4096 s (now other) ≡ true) × ((word 0 (now table) ≤ length (now marks)) × ((at + word 0 (now table)) * 2 ≤ length (now out)))) ⌝ }
+    requires { ⌜ (0 < s) × ((sortedTable 4096 s (now table) ≡ true) × ((sortedTable 4096 s (now other) ≡ true) × ((word 0 (now table) ≤ length (now marks)) × ((at + word 0 (now table)) * 2 ≤ length (now out))))) ⌝ }
     ensures { λ r. ⌜ (r ≡ at + length (N.markedIn (N.tableIds s (now (other .entry))) (now (marks .entry)) (N.tableIds s (now (table .entry))))) × (now (out .exit) ≡ over (now (out .entry)) (at * 2) (each (λ i. kind ∷ i ∷ []) (N.markedIn (N.tableIds s (now (other .entry))) (now (marks .entry)) (N.tableIds s (now (table .entry)))))) ⌝ }
 {
     let n = table[0] as usize;

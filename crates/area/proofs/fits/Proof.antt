@@ -4,6 +4,7 @@ use Rattle.area.proofs.fits.Tie as tie
 use Rattle.area.proofs.fits.Reads as reads
 use Rattle.area.proofs.fits.Lts as lts
 use Rattle.lists.proofs.both.Reads as both-reads
+use Rattle.area.specs.Area.{areaFits}
 
 -- src/lib.rt:32:9
 both-requires : tie.Need-both-requires
@@ -35,7 +36,8 @@ both-requires-7 c κs = search needs
 
 -- src/lib.rt:11:1
 returns : tie.Need-returns
-returns c = ?
+unfolding areaFits
+returns c = rw (c .both7 .ensures, c .before .both6 .ensures, c .before .before .both5 .ensures, c .before .before .before .both4 .ensures, c .before .before .before .before .both3 .ensures, c .before .before .before .before .before .both2 .ensures, c .before .before .before .before .before .before .both .ensures)
 
 pub fits-spec : {M : Type 1} → statement M
 fits-spec =

@@ -16,7 +16,7 @@ abbrev held : tie.Start → Tables
 held s = tablesOf (s .args .lanes .now) (s .args .boundaries .now) (s .args .roads .now) (s .args .junctions .now) (s .args .rules .now) (s .args .stop-lines .now) (s .args .crosswalks .now) []
 
 mark-row-requires : tie.Need-mark-row-requires
-mark-row-requires c κs = let s = c .before .before .before .before .before .before .before .before .before .before in may-mark maxLanes laneWords laneMarks (s .args .lanes .now) (s .args .marks .now) (omega arith) (omega arith) (omega arith) (lanes-sorted (held s) (s .pre .0)) (s .pre .1)
+mark-row-requires c κs = let s = c .before .before .before .before .before .before .before .before .before .before in may-mark maxLanes laneWords _ (s .args .lanes .now) (s .args .marks .now) (omega arith) (omega arith) (omega arith) (lanes-sorted (held s) (s .pre .0)) (s .pre .1)
 
 same-length : tie.Need-same-length
 same-length c = search needs
@@ -25,7 +25,7 @@ returns : tie.Need-returns
 returns c = let s = c .before .before .before .before .before .before .before .before .before .before .before .before .before in mark-lane (held s) (s .args .kind) (s .args .id) (s .args .marks .now) (c .before .before .mark-row .last .1 .1 .1 .1 .0) (c .before .before .before .before .if1 .taken) (c .before .before .mark-row .ensures)
 
 mark-row-requires-2 : tie.Need-mark-row-requires-2
-mark-row-requires-2 c κs = let s = c .before .before .before .before .before .before .before .before .before .before .before in may-mark maxBoundaries boundaryWords boundaryMarks (s .args .boundaries .now) (s .args .marks .now) (omega arith) (omega arith) (omega arith) (boundaries-sorted (held s) (s .pre .0)) (s .pre .1)
+mark-row-requires-2 c κs = let s = c .before .before .before .before .before .before .before .before .before .before .before in may-mark maxBoundaries boundaryWords _ (s .args .boundaries .now) (s .args .marks .now) (omega arith) (omega arith) (omega arith) (boundaries-sorted (held s) (s .pre .0)) (s .pre .1)
 
 same-length-2 : tie.Need-same-length-2
 same-length-2 c = search needs
@@ -34,7 +34,7 @@ returns-2 : tie.Need-returns-2
 returns-2 c = let s = c .before .before .before .before .before .before .before .before .before .before .before .before .before .before in mark-boundary (held s) (s .args .kind) (s .args .id) (s .args .marks .now) (c .before .before .mark-row2 .last .1 .1 .1 .1 .0) (c .before .before .before .before .if2 .taken) (c .before .before .mark-row2 .ensures)
 
 mark-row-requires-3 : tie.Need-mark-row-requires-3
-mark-row-requires-3 c κs = let s = c .before .before .before .before .before .before .before .before .before .before .before .before in may-mark maxRoads roadWords roadMarks (s .args .roads .now) (s .args .marks .now) (omega arith) (omega arith) (omega arith) (roads-sorted (held s) (s .pre .0)) (s .pre .1)
+mark-row-requires-3 c κs = let s = c .before .before .before .before .before .before .before .before .before .before .before .before in may-mark maxRoads roadWords _ (s .args .roads .now) (s .args .marks .now) (omega arith) (omega arith) (omega arith) (roads-sorted (held s) (s .pre .0)) (s .pre .1)
 
 same-length-3 : tie.Need-same-length-3
 same-length-3 c = search needs
@@ -43,7 +43,7 @@ returns-3 : tie.Need-returns-3
 returns-3 c = let s = c .before .before .before .before .before .before .before .before .before .before .before .before .before .before .before in mark-road (held s) (s .args .kind) (s .args .id) (s .args .marks .now) (c .before .before .mark-row3 .last .1 .1 .1 .1 .0) (c .before .before .before .before .if3 .taken) (c .before .before .mark-row3 .ensures)
 
 mark-row-requires-4 : tie.Need-mark-row-requires-4
-mark-row-requires-4 c κs = let s = c .before .before .before .before .before .before .before .before .before .before .before .before .before in may-mark maxJunctions junctionWords junctionMarks (s .args .junctions .now) (s .args .marks .now) (omega arith) (omega arith) (omega arith) (junctions-sorted (held s) (s .pre .0)) (s .pre .1)
+mark-row-requires-4 c κs = let s = c .before .before .before .before .before .before .before .before .before .before .before .before .before in may-mark maxJunctions junctionWords _ (s .args .junctions .now) (s .args .marks .now) (omega arith) (omega arith) (omega arith) (junctions-sorted (held s) (s .pre .0)) (s .pre .1)
 
 same-length-4 : tie.Need-same-length-4
 same-length-4 c = search needs
@@ -52,7 +52,7 @@ returns-4 : tie.Need-returns-4
 returns-4 c = let s = c .before .before .before .before .before .before .before .before .before .before .before .before .before .before .before .before in mark-junction (held s) (s .args .kind) (s .args .id) (s .args .marks .now) (c .before .before .mark-row4 .last .1 .1 .1 .1 .0) (c .before .before .before .before .if4 .taken) (c .before .before .mark-row4 .ensures)
 
 mark-row-requires-5 : tie.Need-mark-row-requires-5
-mark-row-requires-5 c κs = let s = c .before .before .before .before .before .before .before .before .before .before .before .before .before .before in may-mark maxStopLines stopLineWords stopLineMarks (s .args .stop-lines .now) (s .args .marks .now) (omega arith) (omega arith) (omega arith) (stop-lines-sorted (held s) (s .pre .0)) (s .pre .1)
+mark-row-requires-5 c κs = let s = c .before .before .before .before .before .before .before .before .before .before .before .before .before .before in may-mark maxStopLines stopLineWords _ (s .args .stop-lines .now) (s .args .marks .now) (omega arith) (omega arith) (omega arith) (stop-lines-sorted (held s) (s .pre .0)) (s .pre .1)
 
 same-length-5 : tie.Need-same-length-5
 same-length-5 c = search needs
@@ -61,7 +61,7 @@ returns-5 : tie.Need-returns-5
 returns-5 c = let s = c .before .before .before .before .before .before .before .before .before .before .before .before .before .before .before .before .before in mark-stop-line (held s) (s .args .kind) (s .args .id) (s .args .marks .now) (c .before .before .mark-row5 .last .1 .1 .1 .1 .0) (c .before .before .before .before .if5 .taken) (c .before .before .mark-row5 .ensures)
 
 mark-row-requires-6 : tie.Need-mark-row-requires-6
-mark-row-requires-6 c κs = let s = c .before .before .before .before .before .before .before .before .before .before .before .before .before .before .before in may-mark maxCrosswalks crosswalkWords crosswalkMarks (s .args .crosswalks .now) (s .args .marks .now) (omega arith) (omega arith) (omega arith) (crosswalks-sorted (held s) (s .pre .0)) (s .pre .1)
+mark-row-requires-6 c κs = let s = c .before .before .before .before .before .before .before .before .before .before .before .before .before .before .before in may-mark maxCrosswalks crosswalkWords _ (s .args .crosswalks .now) (s .args .marks .now) (omega arith) (omega arith) (omega arith) (crosswalks-sorted (held s) (s .pre .0)) (s .pre .1)
 
 same-length-6 : tie.Need-same-length-6
 same-length-6 c = search needs
@@ -70,7 +70,7 @@ returns-6 : tie.Need-returns-6
 returns-6 c = let s = c .before .before .before .before .before .before .before .before .before .before .before .before .before .before .before .before .before .before in mark-crosswalk (held s) (s .args .kind) (s .args .id) (s .args .marks .now) (c .before .before .mark-row6 .last .1 .1 .1 .1 .0) (c .before .before .before .before .if6 .taken) (c .before .before .mark-row6 .ensures)
 
 mark-row-requires-7 : tie.Need-mark-row-requires-7
-mark-row-requires-7 c κs = let s = c .before .before .before .before .before .before .before .before .before .before .before .before .before .before .before .before in may-mark maxRules ruleWords ruleMarks (s .args .rules .now) (s .args .marks .now) (omega arith) (omega arith) (omega arith) (rules-sorted (held s) (s .pre .0)) (s .pre .1)
+mark-row-requires-7 c κs = let s = c .before .before .before .before .before .before .before .before .before .before .before .before .before .before .before .before in may-mark maxRules ruleWords _ (s .args .rules .now) (s .args .marks .now) (omega arith) (omega arith) (omega arith) (rules-sorted (held s) (s .pre .0)) (s .pre .1)
 
 same-length-7 : tie.Need-same-length-7
 same-length-7 c = search needs
