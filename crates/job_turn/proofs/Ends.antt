@@ -1,6 +1,6 @@
 -- What a call with long enough lists leaves and answers, read off as what the edit comes to. Assumes nothing.
 use mathlib.Core.Path.{_≡_, refl, sym, ap, _∙_, subst}
-use mathlib.Core.Bool.{Bool, true, _&&_}
+use mathlib.Core.Bool.{true, _&&_}
 use mathlib.Core.List.{List, [], _++_, append-nil}
 use mathlib.Core.Option.{Option, none, some}
 use Prim.Native.Nat.{ℕ, _+_, _*_, _-_, _/_, _^_, _≤_, _<_}
@@ -24,8 +24,8 @@ use Rattle.report.specs.declared.Answer.{Answer}
 use Rattle.report.specs.declared.Answer.the-variants.{Refused}
 use Rattle.report.specs.declared.Counts.{Counts}
 use Rattle.report.proofs.Warnings.{room}
-use Rattle.step.specs.Step.{Lent, Ended, ended, step, refusing, changing, listsOf, stateOf}
-use Rattle.step.specs.Run.{Held, heldIn, mapIn}
+use Rattle.step.specs.Step.{Lent, Ended, ended, step, changing, listsOf, stateOf}
+use Rattle.step.specs.Run.{heldIn, mapIn}
 use Rattle.step.proofs.Counter.{step-counter, counted-on, step-counter-fits}
 use Rattle.jobs.specs.Job.{editOnce}
 use Rattle.job_step.specs.Job.{written}

@@ -1,14 +1,14 @@
 -- `job_turn::tell_edit` meets its contract: the warnings are lent from row `at` on. Assumes nothing.
-use borrow.Author.Needs.{needs}
 use Rattle.job_turn.proofs.tell_edit.Statement.{statement}
 use Rattle.job_turn.proofs.tell_edit.Tie as tie
-use mathlib.Core.Path.{_≡_, refl}
+use mathlib.Core.Path.{refl}
 use Prim.Native.Nat.{_-_, _*_, _≤_}
 use native.Mathlib.Omega.{arith}
 use lib.ListN.{length}
-use borrow.Rule.Slice.PartMut.{midOf}
+use borrow.Rule.Slice.PartMut.{midOf, same-len-mid}
 use Rattle.step.specs.Step.{Lent, lentOf}
 use Rattle.job_turn.proofs.Ends.{Fits, told-fit, counter-word, told-as}
+use native.Mathlib.Nat.{le-refl}
 
 -- what is lent
 abbrev lent : tie.Start → Lent
@@ -32,13 +32,13 @@ mul-dispatch : tie.Need-mul-dispatch
 mul-dispatch c = omega (arith, begins (c .before .before .before .before .before .before .before .before .before .before .before .before .before .before .before .before .before .before .before .before .before .before .before), c .before .before .before .before .before .before .before .before .before .before .before .before .before .before .before .before .before .before .before .before .before .before .before .good)
 
 sub-dispatch : tie.Need-sub-dispatch
-sub-dispatch c = begins (c .before .before .before .before .before .before .before .before .before .before .before .before .before .before .before .before .before .before .before .before .before .before .before)
+sub-dispatch c = omega (arith, begins (c .before .before .before .before .before .before .before .before .before .before .before .before .before .before .before .before .before .before .before .before .before .before .before))
 
 part-dispatch-start : tie.Need-part-dispatch-start
-part-dispatch-start c = begins (c .before .before .before .before .before .before .before .before .before .before .before .before .before .before .before .before .before .before .before .before .before .before .before)
+part-dispatch-start c = omega (arith, begins (c .before .before .before .before .before .before .before .before .before .before .before .before .before .before .before .before .before .before .before .before .before .before .before))
 
 part-dispatch-end : tie.Need-part-dispatch-end
-part-dispatch-end c = search needs
+part-dispatch-end c = le-refl _
 
 dispatch-requires : tie.Need-dispatch-requires
 dispatch-requires c κs = c .before .before .before .before .before .before .before .before .before .before .before .before .before .before .before .before .before .before .before .before .before .before .before .before .pre .0
@@ -80,7 +80,9 @@ same-length-11 : tie.Need-same-length-11
 same-length-11 c = c .before .before .before .before .before .before .before .before .before .before .before .before .before .before .before .before .before .before .before .before .before .before .before .before .before .dispatch .kept .1 .1 .1 .1 .1 .1 .1 .1 .1 .1 .1 .1 .1 .0
 
 same-length-12 : tie.Need-same-length-12
-same-length-12 c = search needs
+same-length-12 c =
+    let s = c .before .before .before .before .before .before .before .before .before .before .before .before .before .before .before .before .before .before .before .before .before .before .before .before .before .before .before .before .before .before .before .before .before .before .before .before .before .before .before .before .before .before .before .before .before .before .before .before .before .before in
+    same-len-mid (s .args .at * 10) (length (s .args .warnings .now) - s .args .at * 10) (s .args .warnings .now) (c .before .before .before .before .before .before .before .before .before .before .before .before .before .before .before .before .before .before .before .before .before .before .before .before .before .dispatch .last .1 .1 .1 .1 .1 .1 .1 .1 .1 .1 .1 .1 .1 .1 .0) (c .before .before .before .before .before .before .before .before .before .before .before .before .before .before .before .before .before .before .before .before .before .before .before .before .before .dispatch .kept .1 .1 .1 .1 .1 .1 .1 .1 .1 .1 .1 .1 .1 .1 .0)
 
 returns : tie.Need-returns
 returns c =

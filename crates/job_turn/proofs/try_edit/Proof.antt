@@ -2,7 +2,6 @@
 use borrow.Author.Needs.{needs}
 use Rattle.job_turn.proofs.try_edit.Statement.{statement}
 use Rattle.job_turn.proofs.try_edit.Tie as tie
-use mathlib.Core.Path.{_≡_}
 use mathlib.Core.List.{[]}
 use native.Mathlib.Omega.{arith}
 use Rattle.tables.specs.View.{Tables, tablesOf}

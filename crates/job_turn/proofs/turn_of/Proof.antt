@@ -2,7 +2,7 @@
 use borrow.Author.Needs.{needs}
 use Rattle.job_turn.proofs.turn_of.Statement.{statement}
 use Rattle.job_turn.proofs.turn_of.Tie as tie
-use mathlib.Core.Path.{_≡_, sym, ap, _∙_, subst}
+use mathlib.Core.Path.{sym, ap, _∙_, subst}
 use Prim.Native.Nat.{_<_, _^_}
 use Rattle.report.specs.Report.{counterBehind}
 use Rattle.job_turn.specs.Turn as T
