@@ -34,11 +34,11 @@ fn command_at(rows: &[u64], i: usize) -> Command
     requires { ⌜ i < 64 ⌝ }
     ensures { λ r. ⌜ r ≡ commandOf (drop (i * 5) (now (rows .entry))) ⌝ }
 {
-    let mut from = i * COMMAND;
-    if rows.len() < from {
-        from = rows.len();
+    let from = i * COMMAND;
+    if from < rows.len() {
+        return words::command_of(&rows[from..]);
     }
-    words::command_of(&rows[from..])
+    words::command_of(&rows[rows.len()..])
 }
 
 // The job that rows of words are.
