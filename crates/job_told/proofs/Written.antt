@@ -50,7 +50,7 @@ module _ (n : Counts) (created modified deleted warnings : List ℕ) (h : listsF
 
 -- ---- lists that stand ready
 
-words-length : (es : List EntityRef) → length (each entityWords es) ≡ length es * 2
+pub words-length : (es : List EntityRef) → length (each entityWords es) ≡ length es * 2
 unfolding each
 words-length [] = refl
 words-length (e ∷ es) = let q = words-length es in omega (arith, q)
@@ -94,8 +94,13 @@ module _ (old : Tables) (n : Counts) (created modified deleted : List ℕ) where
       → WrittenAs old c m d w r t c' m' d' w'
   unfolding net
   all-written c m d w c' m' d' w' t (stopped p x) h l ec em ed = absurd h
-  all-written c m d w c' m' d' w' t (done k css) h l ec em ed =
-      (l .0,
-      (ec ∙ copied-list (netOf old k css .created) (n .created) created c (ap (λ (x : Counts). x .created) (h .0)) (h .1 .0),
-      (em ∙ copied-list (netOf old k css .modified) (n .modified) modified m (ap (λ (x : Counts). x .modified) (h .0)) (h .1 .1 .0),
-      (ed ∙ copied-list (netOf old k css .deleted) (n .deleted) deleted d (ap (λ (x : Counts). x .deleted) (h .0)) (h .1 .1 .1), l .1))))
+  all-written c m d w c' m' d' w' t (done k css) h l ec em ed = (
+    l .0,
+    (
+      ec ∙ copied-list (netOf old k css .created) (n .created) created c (ap (λ (x : Counts). x .created) (h .0)) (h .1 .0),
+      (
+        em ∙ copied-list (netOf old k css .modified) (n .modified) modified m (ap (λ (x : Counts). x .modified) (h .0)) (h .1 .1 .0),
+        (ed ∙ copied-list (netOf old k css .deleted) (n .deleted) deleted d (ap (λ (x : Counts). x .deleted) (h .0)) (h .1 .1 .1), l .1),
+      ),
+    ),
+  )
