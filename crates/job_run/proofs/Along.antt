@@ -12,60 +12,24 @@ use Rattle.lists.specs.Select.{each}
 use Rattle.lists.proofs.Select.{each-append}
 use Rattle.entities.specs.Records.{ChangeSet}
 use Rattle.rules.specs.Names.{Tolerance, Refusal}
-use Rattle.rules.specs.Edit.{Res, refuse, yield, Edited}
+use Rattle.rules.specs.Edit.{refuse, yield, Edited}
 use Rattle.rules.specs.Ops.{Command}
 use Rattle.entities.specs.declared.Command.the-variants.{SplitLane}
 use Rattle.entities.specs.declared.SplitAt.the-variants.{Fraction}
 use Rattle.tables.specs.View.{Tables}
 use Rattle.tables.specs.Formed.{soundTables}
-use Rattle.store.specs.Store.{roomOf}
 use Rattle.step.specs.Step.{Lent}
-use Rattle.step.specs.Run.{Held, mapIn, lengthsOf}
+use Rattle.step.specs.Run.{Held, lengthsOf}
 use Rattle.jobs.specs.declared.Job.{Job}
 use Rattle.jobs.specs.declared.Edit.{Edit}
 use Rattle.jobs.proofs.Edit as edit-row
-use Rattle.jobs.specs.Job.{Run, done, stopped, preceded, commands, editOnce}
+use Rattle.jobs.specs.Job.{done, stopped, commands}
 use Rattle.job_step.specs.Job.{written, tableEdits}
 use Rattle.job_step.proofs.Edits.{edits-refused, edits-yield}
 use Rattle.job_step.proofs.Prefix.{precededBy, preceded-last, preceded-done, preceded-stopped}
 use Rattle.job_step.proofs.Turn.{turn-keeps, few-warnings}
-use Rattle.job_turn.specs.Turn.{turnOf, tablesBehind}
-use Rattle.job_turn.specs.declared.Turn.{Turn}
-use Rattle.job_turn.specs.declared.Turn.the-variants.{Stopped, Done}
+use Rattle.job_turn.proofs.Tried.{once, Made}
 use Rattle.job_run.specs.Runs.{allWarnings}
-
--- ---- one edit, read off its answer
-
-pub record Yields (tol : Tolerance) (c : Command) (h : Held) (t : Tables) (k n : ℕ) : Type 0 where
-  pub edited : Edited
-  pub yields : editOnce tol (roomOf (h .tables)) c (mapIn h) ≡ yield edited
-  pub held : record { counter = k; tables = t } ≡ written c h edited
-  pub count : n ≡ length (edited .changes .warnings)
-
-never : (k n : ℕ) (x : Refusal) → Done k n ≡ Stopped x → ⊥
-never k n x e = let f : _≡_ {A = ℕ} 0 1 = cc in omega arith
-
-module _ (tol : Tolerance) (c : Command) (h : Held) (t : Tables) (r : Turn) (u : t ≡ tablesBehind c h (editOnce tol (roomOf (h .tables)) c (mapIn h)))
-    (v : r ≡ turnOf c h (editOnce tol (roomOf (h .tables)) c (mapIn h))) where
-  abbrev once : Res Edited
-  once = editOnce tol (roomOf (h .tables)) c (mapIn h)
-
-  pub turn-yields : (k n : ℕ) → r ≡ Done k n → Yields tol c h t k n
-  turn-yields k n d = go once refl u v
-    where
-      go : (x : Res Edited) → once ≡ x → t ≡ tablesBehind c h x → r ≡ turnOf c h x → Yields tol c h t k n
-      go (refuse x) y p q = absurd (never k n x (sym d ∙ q))
-      go (yield e) y p q =
-          let f : Done k n ≡ Done (written c h e .counter) (length (e .changes .warnings)) = sym d ∙ q in
-          let a : k ≡ written c h e .counter = cc in
-          record { edited = e; yields = y; held = rw (a, p); count = cc }
-
-  pub turn-stops : (x : Refusal) → r ≡ Stopped x → (once ≡ refuse x) × (t ≡ h .tables)
-  turn-stops x d = go once refl u v
-    where
-      go : (z : Res Edited) → once ≡ z → t ≡ tablesBehind c h z → r ≡ turnOf c h z → (once ≡ refuse x) × (t ≡ h .tables)
-      go (refuse z) y p q = let f : Stopped z ≡ Stopped x = sym q ∙ d in let a : z ≡ x = cc in (y ∙ ap refuse a, p)
-      go (yield e) y p q = absurd (never (written c h e .counter) (length (e .changes .warnings)) x (sym q ∙ d))
 
 -- ---- what one edit more adds
 
@@ -91,9 +55,14 @@ pub record Along (tol : Tolerance) (j : Job) (h₀ : Held) (made : List ChangeSe
   pub sane : soundTables (h .counter) (h .tables) ≡ true
   pub long : lengthsOf (h .tables) ≡ lengthsOf (h₀ .tables)
 
+-- memory that an edit left, read off its answer and the tables
+pub held-as : (tol : Tolerance) (c : Command) (h : Held) (k n : ℕ) (m : Made tol c h k n) (t : Tables) → t ≡ written c h (m .edited) .tables
+    → record { counter = k; tables = t } ≡ written c h (m .edited)
+held-as tol c h k n m t e = rw (m .counter-is, e)
+
 -- no edit has more warnings
 pub warnings-few : (tol : Tolerance) (c : Command) (h : Held) → soundTables (h .counter) (h .tables) ≡ true → (e : Edited)
-    → editOnce tol (roomOf (h .tables)) c (mapIn h) ≡ yield e → length (e .changes .warnings) ≤ 2048
+    → once tol c h ≡ yield e → length (e .changes .warnings) ≤ 2048
 warnings-few tol c h sane e y =
     let l : Lent = record { counter = h .counter; tables = h .tables; created = []; modified = []; deleted = []; warnings = [] } in
     few-warnings tol c l sane e y
@@ -127,13 +96,13 @@ module _ (tol : Tolerance) (j : Job) (h₀ : Held) where
       on-next : tableEdits tol 1 (commands j) h₀ ≡ precededBy made (tableEdits tol (suc i) (next ∷ drop (suc i) (commands j)) h)
       on-next = a .whole ∙ ap (λ cs. precededBy made (tableEdits tol (suc i) cs h)) next-first
 
-      pub along-refused : (r : Refusal) → editOnce tol (roomOf (h .tables)) next (mapIn h) ≡ refuse r → tableEdits tol 1 (commands j) h₀ ≡ stopped (i + 1) r
+      pub along-refused : (r : Refusal) → once tol next h ≡ refuse r → tableEdits tol 1 (commands j) h₀ ≡ stopped (i + 1) r
       along-refused r y =
           on-next
           ∙ (ap (precededBy made) (edits-refused tol (suc i) next (drop (suc i) (commands j)) h r y)
           ∙ (preceded-stopped made (suc i) r ∙ ap (λ n. stopped n r) (sym (add-one i))))
 
-      module _ (e : Edited) (y : editOnce tol (roomOf (h .tables)) next (mapIn h) ≡ yield e) where
+      module _ (e : Edited) (y : once tol next h ≡ yield e) where
         pub along-turns : (k : Held) → k ≡ written next h e → Along tol j h₀ (made ++ (e .changes ∷ [])) k (i + 1)
         along-turns k w =
             let t = turn-keeps tol next h (a .sane) e y in

@@ -2,7 +2,7 @@
 use mathlib.Core.Path.{_≡_, refl, sym, ap, _∙_, subst}
 use mathlib.Core.Bool.{true}
 use mathlib.Core.List.{List, [], _∷_, _++_}
-use Prim.Native.Nat.{ℕ, suc, _+_, _*_, _-_, _≤_, _<_}
+use Prim.Native.Nat.{ℕ, _+_, _*_, _-_, _≤_, _<_}
 use native.Mathlib.Omega.{arith}
 use lib.ListN.{length, getD, take, drop, length-append, length-drop}
 use lib.Seq.{length-take-le}
@@ -18,20 +18,21 @@ use Rattle.rules.specs.Edit.{Res, refuse, yield, Edited}
 use Rattle.rules.specs.Ops.{Command}
 use Rattle.tables.specs.View.{Tables}
 use Rattle.tables.specs.Formed.{soundTables}
-use Rattle.store.specs.Store.{roomOf, flag, writes}
+use Rattle.store.specs.Store.{flag, writes}
 use Rattle.report.specs.Report.{entityWords, issueOnto, warned, warnedAt}
 use Rattle.report.proofs.Laws.{length-entities}
 use Rattle.report.proofs.Warnings.{short, warned-behind, length-warned}
-use Rattle.step.specs.Run.{Held, mapIn}
+use Rattle.step.specs.Run.{Held}
 use Rattle.jobs.specs.declared.Job.{Job}
-use Rattle.jobs.specs.Job.{Run, done, stopped, commands, editOnce}
+use Rattle.jobs.specs.Job.{Run, done, stopped, commands}
 use Rattle.job_step.specs.Job.{written, tableEdits}
 use Rattle.job_step.proofs.Prefix.{precededBy, preceded-done, preceded-stopped}
-use Rattle.job_turn.specs.Turn.{turnOf, tablesBehind, warningsBehind, told as toldBy, tellEnds, Told, warningCount}
+use Rattle.job_turn.specs.Turn.{told as toldBy, tellEnds, Told, warningCount}
 use Rattle.job_turn.specs.declared.Turn.{Turn}
 use Rattle.job_turn.specs.declared.Turn.the-variants.{Stopped, Done}
+use Rattle.job_turn.proofs.Tried.{once, Made, tell-done, tell-stopped, told-yields}
 use Rattle.job_run.specs.Runs.{allWarnings, AllDone, warningsOf, ToldAs}
-use Rattle.job_run.proofs.Along.{Along, no-edit, Yields, turn-yields, turn-stops, last-of, warnings-count, warnings-few, along-begins, along-ends, along-refused, along-turns}
+use Rattle.job_run.proofs.Along.{Along, no-edit, held-as, last-of, warnings-count, warnings-few, along-begins, along-ends, along-refused, along-turns}
 
 -- ---- warnings that leave a slice as long as it was fill their rows
 
@@ -116,62 +117,48 @@ module _ (tol : Tolerance) (j : Job) (h₀ : Held) (w₀ : List ℕ) where
         abbrev c : Command
         c = getD (j .edits) i no-edit .command
 
-        more-room : (e : Edited) → editOnce tol (roomOf (h .tables)) c (mapIn h) ≡ yield e → (told + length (e .changes .warnings)) * 10 ≤ length w
+        more-room : (e : Edited) → once tol c h ≡ yield e → (told + length (e .changes .warnings)) * 10 ≤ length w
         more-room e y =
             let b = along-turns tol j h₀ (a .made) h i (a .along) room left e y (written c h e) refl in
             let m = made-few (a .made ++ (e .changes ∷ [])) _ _ (b .whole) all-done in
             omega (arith, m, places, warnings-count (a .made) (e .changes), a .counted, warnings-long)
 
         pub telling-room : (told + warningCount tol c h) * 10 ≤ length w
-        telling-room = go (editOnce tol (roomOf (h .tables)) c (mapIn h)) refl
+        telling-room = go (once tol c h) refl
           where
-            go : (x : Res Edited) → editOnce tol (roomOf (h .tables)) c (mapIn h) ≡ x
-                → (told + elim x [ refuse r ↦ 0 | yield e ↦ length (e .changes .warnings) ]) * 10 ≤ length w
+            go : (x : Res Edited) → once tol c h ≡ x → (told + elim x [ refuse r ↦ 0 | yield e ↦ length (e .changes .warnings) ]) * 10 ≤ length w
             go (refuse r) y = omega (arith, made-room, a .counted, warnings-long)
             go (yield e) y = more-room e y
 
         module _ (t : Tables) (w' : List ℕ) (r : Turn) (q : tellEnds t w' r ≡ toldBy tol c h told w) where
-          tables-are : t ≡ tablesBehind c h (editOnce tol (roomOf (h .tables)) c (mapIn h))
-          unfolding toldBy
-          tables-are = ap (λ (o : Told). o .tables) q
-
-          warnings-are : w' ≡ warningsBehind told w (editOnce tol (roomOf (h .tables)) c (mapIn h))
-          unfolding toldBy
-          warnings-are = ap (λ (o : Told). o .warnings) q
-
-          turn-is : r ≡ turnOf c h (editOnce tol (roomOf (h .tables)) c (mapIn h))
-          unfolding toldBy
-          turn-is = ap (λ (o : Told). o .turn) q
-
           pub never-stops : (x : Refusal) → r ≡ Stopped x → ⊥
           never-stops x e =
-              let (y, u) = turn-stops tol c h t r tables-are turn-is x e in
-              subst AllDone (along-refused tol j h₀ (a .made) h i (a .along) room left x y) all-done
+              subst AllDone (along-refused tol j h₀ (a .made) h i (a .along) room left x (tell-stopped tol c h told w t w' r q x e)) all-done
 
           module _ (k n : ℕ) (e : r ≡ Done k n) where
-            abbrev y : Yields tol c h t k n
-            y = turn-yields tol c h t r tables-are turn-is k n e
+            abbrev m : Made tol c h k n
+            m = tell-done tol c h told w t w' r q k n e
 
             pub told-few : n ≤ 2048
-            told-few = let f = warnings-few tol c h (a .along .sane) (y .edited) (y .yields) in let m = y .count in omega (arith, f, m)
+            told-few = omega (arith, warnings-few tol c h (a .along .sane) (m .edited) (m .yields), m .warnings-are)
 
             pub telling-turns : length w' ≡ length w → Telling tol j h₀ w₀ (record { counter = k; tables = t }) w' (told + n) (i + 1)
             telling-turns long =
-                let cs = y .edited .changes in
-                let f = told-few in
-                let g = a .few in
-                let new : w' ≡ warnedAt told w (cs .warnings) = warnings-are ∙ ap (warningsBehind told w) (y .yields) in
-                let full : all short (cs .warnings) ≡ true = short-at told w (cs .warnings) (more-room (y .edited) (y .yields)) (sym (ap length new) ∙ long) in
+                let cs = m .edited .changes in
+                let ends = q ∙ told-yields tol c h (m .edited) (m .yields) told w in
+                let held = held-as tol c h k n m t (ap (λ (o : Told). o .tables) ends) in
+                let new : w' ≡ warnedAt told w (cs .warnings) = ap (λ (o : Told). o .warnings) ends in
+                let full = short-at told w (cs .warnings) (more-room (m .edited) (m .yields)) (sym (ap length new) ∙ long) in
                 let last = last-of (λ x. x .warnings) (a .made) cs in
                 record {
                   made = a .made ++ (cs ∷ []);
-                  along = along-turns tol j h₀ (a .made) h i (a .along) room left (y .edited) (y .yields) (record { counter = k; tables = t }) (y .held);
+                  along = along-turns tol j h₀ (a .made) h i (a .along) room left (m .edited) (m .yields) (record { counter = k; tables = t }) held;
                   filled = ap (all short) last ∙ all-append short (allWarnings (a .made)) (cs .warnings) (a .filled) full;
                   warns =
                       new
-                      ∙ (ap (λ m. warnedAt m w (cs .warnings)) (a .counted)
+                      ∙ (ap (λ x. warnedAt x w (cs .warnings)) (a .counted)
                       ∙ (ap (λ v. warnedAt (length (allWarnings (a .made))) v (cs .warnings)) (a .warns)
                       ∙ (warned-behind w₀ (allWarnings (a .made)) (cs .warnings) (a .filled) made-room ∙ ap (warned w₀) (sym last))));
-                  counted = omega (arith, a .counted, y .count, warnings-count (a .made) cs);
-                  few = omega (arith, f, g);
+                  counted = omega (arith, a .counted, m .warnings-are, warnings-count (a .made) cs);
+                  few = omega (arith, told-few, a .few);
                 }

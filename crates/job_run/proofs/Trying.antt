@@ -12,20 +12,19 @@ use Rattle.rules.specs.Names.{Tolerance, Refusal, EntityRef}
 use Rattle.rules.specs.Ops.{Command}
 use Rattle.tables.specs.View.{Tables}
 use Rattle.tables.specs.Formed.{soundTables}
-use Rattle.store.specs.Store.{roomOf}
-use Rattle.step.specs.Run.{Held, mapIn, lengthsOf}
+use Rattle.step.specs.Run.{Held, lengthsOf}
 use Rattle.jobs.specs.declared.Job.{Job}
-use Rattle.jobs.specs.Job.{Run, commands, editOnce}
+use Rattle.jobs.specs.Job.{Run, commands}
 use Rattle.job_step.specs.Job.{tableEdits}
 use Rattle.job_marks.specs.Marks.{markAll}
 use Rattle.job_marks.proofs.Turns.{all-append, length-all}
-use Rattle.job_turn.specs.Turn.{pairsOf, turnOf, tablesBehind, marksBehind, tried, tryEnds, Tried}
+use Rattle.job_turn.specs.Turn.{pairsOf, tried, tryEnds, Tried}
 use Rattle.job_turn.specs.declared.Turn.{Turn}
 use Rattle.job_turn.specs.declared.Turn.the-variants as T
-use Rattle.job_run.specs.declared.Ran.{Ran}
+use Rattle.job_turn.proofs.Tried.{Made, try-done, try-stopped, tried-refused, tried-yields}
 use Rattle.job_run.specs.declared.Ran.the-variants as A
 use Rattle.job_run.specs.Runs.{allWarnings, allModified, RanAs}
-use Rattle.job_run.proofs.Along.{Along, no-edit, Yields, turn-yields, turn-stops, last-of, warnings-count, warnings-few, along-begins, along-ends, along-refused, along-turns}
+use Rattle.job_run.proofs.Along.{Along, no-edit, held-as, last-of, warnings-count, warnings-few, along-begins, along-ends, along-refused, along-turns}
 
 -- ---- the marks of one edit more
 
@@ -68,42 +67,29 @@ module _ (tol : Tolerance) (old : Tables) (j : Job) (h₀ : Held) (ms₀ : List 
       abbrev c : Command
       c = getD (j .edits) i no-edit .command
 
-      tables-are : t ≡ tablesBehind c h (editOnce tol (roomOf (h .tables)) c (mapIn h))
-      unfolding tried
-      tables-are = ap (λ (o : Tried). o .tables) q
-
-      marks-are : ms' ≡ marksBehind old ms (editOnce tol (roomOf (h .tables)) c (mapIn h))
-      unfolding tried
-      marks-are = ap (λ (o : Tried). o .marks) q
-
-      turn-is : r ≡ turnOf c h (editOnce tol (roomOf (h .tables)) c (mapIn h))
-      unfolding tried
-      turn-is = ap (λ (o : Tried). o .turn) q
-
       pub trying-stops : (x : Refusal) → r ≡ T.Stopped x → RanAs old ms₀ (h₀ .tables) (tableEdits tol 1 (commands j) h₀) (A.Stopped (i + 1) x) t ms'
       trying-stops x e =
-          let (y, u) = turn-stops tol c h t r tables-are turn-is x e in
+          let y = try-stopped tol c h old ms t ms' r q x e in
+          let u = ap (λ (o : Tried). o .tables) (q ∙ tried-refused tol c h x y old ms) in
           subst (λ (z : Run Held). RanAs old ms₀ (h₀ .tables) z (A.Stopped (i + 1) x) t ms') (sym (along-refused tol j h₀ (a .made) h i (a .along) room left x y))
           (refl, ap lengthsOf u ∙ a .along .long)
 
       module _ (k n : ℕ) (e : r ≡ T.Done k n) where
-        abbrev y : Yields tol c h t k n
-        y = turn-yields tol c h t r tables-are turn-is k n e
+        abbrev m : Made tol c h k n
+        m = try-done tol c h old ms t ms' r q k n e
 
         pub tried-few : n ≤ 2048
-        tried-few = let f = warnings-few tol c h (a .along .sane) (y .edited) (y .yields) in let m = y .count in omega (arith, f, m)
+        tried-few = omega (arith, warnings-few tol c h (a .along .sane) (m .edited) (m .yields), m .warnings-are)
 
         pub trying-turns : Trying tol old j h₀ ms₀ (record { counter = k; tables = t }) ms' (told + n) (i + 1)
         trying-turns =
-            let cs = y .edited .changes in
-            let f = tried-few in
-            let g = a .few in
+            let cs = m .edited .changes in
+            let ends = q ∙ tried-yields tol c h (m .edited) (m .yields) old ms in
+            let held = held-as tol c h k n m t (ap (λ (o : Tried). o .tables) ends) in
             record {
               made = a .made ++ (cs ∷ []);
-              along = along-turns tol j h₀ (a .made) h i (a .along) room left (y .edited) (y .yields) (record { counter = k; tables = t }) (y .held);
-              marked =
-                  marks-are
-                  ∙ (ap (marksBehind old ms) (y .yields) ∙ (ap (markAll old (pairsOf (cs .modified))) (a .marked) ∙ sym (marks-last old (a .made) cs ms₀)));
-              counted = omega (arith, a .counted, y .count, warnings-count (a .made) cs);
-              few = omega (arith, f, g);
+              along = along-turns tol j h₀ (a .made) h i (a .along) room left (m .edited) (m .yields) (record { counter = k; tables = t }) held;
+              marked = ap (λ (o : Tried). o .marks) ends ∙ (ap (markAll old (pairsOf (cs .modified))) (a .marked) ∙ sym (marks-last old (a .made) cs ms₀));
+              counted = omega (arith, a .counted, m .warnings-are, warnings-count (a .made) cs);
+              few = omega (arith, tried-few, a .few);
             }
