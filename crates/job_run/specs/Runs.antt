@@ -30,6 +30,10 @@ RanAs old ms t (J.done k css) a t' ms' =
     (a ≡ Done (k .counter) (length (allWarnings css))) × ((t' ≡ k .tables) × (ms' ≡ markAll old (pairsOf (allModified css)) ms))
 
 -- the second run, of edits that are all made
+abbrev pub AllDone : Run Held → Type 0
+AllDone (J.stopped place r) = ⊥
+AllDone (J.done k css) = k ≡ k
+
 abbrev pub warningsOf : Run Held → ℕ
 warningsOf (J.stopped place r) = 0
 warningsOf (J.done k css) = length (allWarnings css)

@@ -55,6 +55,7 @@ pub fn try_all(
     let mut i = 0;
     while i < job.count {
         let edit = job.edits[i as usize];
+        let command = edit.command;
         let turn = job_turn::try_edit(
             next,
             tolerance,
@@ -66,7 +67,7 @@ pub fn try_all(
             stop_lines,
             crosswalks,
             coordinates,
-            edit.command,
+            command,
             all_created,
             all_modified,
             all_deleted,
@@ -118,7 +119,7 @@ pub fn tell_all(
     all_deleted: &mut [u64],
     warnings: &mut [u64],
 )
-    requires { ⌜ (soundTables counter (tablesOf (now lanes) (now boundaries) (now roads) (now junctions) (now rules) (now «stop_lines») (now crosswalks) (now coordinates)) ≡ true) × ((job .count ≤ 64) × ((R.warningsOf (tableEdits tolerance 1 (commands job) (record { counter = counter; tables = (tablesOf (now lanes) (now boundaries) (now roads) (now junctions) (now rules) (now «stop_lines») (now crosswalks) (now coordinates)) })) * 10 ≤ length (now warnings)) × ((length (now «all_created») ≡ 13568) × ((length (now «all_modified») ≡ 13568) × ((length (now «all_deleted») ≡ 13568)))))) ⌝ }
+    requires { ⌜ (soundTables counter (tablesOf (now lanes) (now boundaries) (now roads) (now junctions) (now rules) (now «stop_lines») (now crosswalks) (now coordinates)) ≡ true) × ((job .count ≤ 64) × ((R.AllDone (tableEdits tolerance 1 (commands job) (record { counter = counter; tables = (tablesOf (now lanes) (now boundaries) (now roads) (now junctions) (now rules) (now «stop_lines») (now crosswalks) (now coordinates)) }))) × ((R.warningsOf (tableEdits tolerance 1 (commands job) (record { counter = counter; tables = (tablesOf (now lanes) (now boundaries) (now roads) (now junctions) (now rules) (now «stop_lines») (now crosswalks) (now coordinates)) })) * 10 ≤ length (now warnings)) × ((length (now «all_created») ≡ 13568) × ((length (now «all_modified») ≡ 13568) × ((length (now «all_deleted») ≡ 13568))))))) ⌝ }
     ensures { λ _. ⌜ R.ToldAs (now (warnings .entry)) (tableEdits tolerance 1 (commands job) (record { counter = counter; tables = (tablesOf (now (lanes .entry)) (now (boundaries .entry)) (now (roads .entry)) (now (junctions .entry)) (now (rules .entry)) (now («stop_lines» .entry)) (now (crosswalks .entry)) (now (coordinates .entry))) })) (tablesOf (now (lanes .exit)) (now (boundaries .exit)) (now (roads .exit)) (now (junctions .exit)) (now (rules .exit)) (now («stop_lines» .exit)) (now (crosswalks .exit)) (now (coordinates .exit))) (now (warnings .exit)) ⌝ }
 {
     let mut next = counter;
@@ -126,6 +127,7 @@ pub fn tell_all(
     let mut i = 0;
     while i < job.count {
         let edit = job.edits[i as usize];
+        let command = edit.command;
         let turn = job_turn::tell_edit(
             next,
             tolerance,
@@ -137,7 +139,7 @@ pub fn tell_all(
             stop_lines,
             crosswalks,
             coordinates,
-            edit.command,
+            command,
             all_created,
             all_modified,
             all_deleted,

@@ -22,7 +22,7 @@ use Rattle.area.specs.Area.{areaFits, putBack}
 use Rattle.job_step.specs.Job.{tableEdits}
 use Rattle.job_step.proofs.Area.{area-same}
 use Rattle.job_step.proofs.Edits.{edits-done}
-use Rattle.job_run.specs.Runs.{allWarnings, warningsOf, ToldAs}
+use Rattle.job_run.specs.Runs.{AllDone, allWarnings, warningsOf, ToldAs}
 use Rattle.job_told.specs.Told.{Left}
 
 -- ---- slices put back
@@ -70,6 +70,10 @@ unfolding putBack backBy
 put-back-same t old e = ap (λ ns. backBy ns old) e ∙ back-whole old
 
 -- ---- behind a run
+
+pub left-done : (r : Run Held) (t : Tables) → Left r t → AllDone r
+left-done (stopped p x) t l = l
+left-done (done k css) t l = refl
 
 module _ (tol : Tolerance) (j : Job) (counter : ℕ) (old : Tables) (sane : soundTables counter old ≡ true) where
   abbrev run : Run Held
