@@ -40,6 +40,7 @@ oracle jobs SEED COUNT             jobs of several edits on COUNT maps beside th
 oracle sound SEED COUNT            the library's test of soundness beside the oracle's own (feature against)
 oracle try SEED COUNT              the comparison, tried on the oracle itself with faults planted
 oracle bench                       times of the Rust, with and without a test of soundness
+oracle bench jobs                  times of jobs of ten edits
 oracle bench sound                 times of the test of soundness alone
 oracle bench once NAME             one call of the editor's test on the map of that name
 oracle replay FILE                 read a stored stream of lines and make its calls again
@@ -158,6 +159,7 @@ fn main() {
     let good = match words[..] {
         ["cases"] => cases::run(),
         ["bench"] => bench::run(),
+        ["bench", "jobs"] => bench::jobs(),
         ["bench", "sound"] => bench::sound(),
         ["bench", "once", name] => bench::once(name),
         ["yard"] => yard::run(),
