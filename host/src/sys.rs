@@ -9,7 +9,7 @@ use std::hint::black_box;
 /// Whether the library that is linked is the proved one; `false` of a build with the library of host/unproved.
 pub const PROVED: bool = option_env!("VOLDREKKA_UNPROVED").is_none();
 
-/// Stack to have free at a call of [`apply`], in bytes: what it takes at most, and as much again.
+/// Stack to have free at a call of [`apply`] or [`job`], in bytes: what it takes at most, and as much again.
 pub const STACK: usize = 8 * 1024 * 1024;
 
 /// How many tables of words a map has.
