@@ -11,7 +11,7 @@
  *  - Slices that one call may write overlap no other slice of that call. Pointers are aligned to 8 bytes and are never null, those of empty slices included.
  *  - During a call nobody else writes what is lent, or reads what the call may write. The library keeps no state of its own: calls on
  *    different maps may run at the same time, in any threads.
- *  - Stack: a call of voldrekka_apply wants VOLDREKKA_STACK bytes of the thread that makes it; voldrekka_sound takes 66 kilobytes, the
+ *  - Stack: a call of voldrekka_apply or voldrekka_job wants VOLDREKKA_STACK bytes of the thread that makes it; voldrekka_sound takes 66 kilobytes, the
  *    functions on lines less than one. A thread that has less dies of it. host/c/stack.c measures each.
  *  - x86-64 Linux, System V calling convention.
  *
@@ -230,6 +230,9 @@ enum voldrekka_command {
 
 enum { VOLDREKKA_COMMAND_WORDS = 5 };
 
+/* A job is up to so many commands, one row behind the other. */
+enum { VOLDREKKA_MAX_EDITS = 64 };
+
 enum voldrekka_place {
     VOLDREKKA_FRACTION = 0, /* of the length, inside (0, 1) */
     VOLDREKKA_STATION = 1   /* metres from the start */
@@ -242,8 +245,9 @@ enum voldrekka_side {
 
 /* ---- answers */
 
-/* Who can mend it: 1 to 5 the editor at the desk, 6 to 9 who drew the map, 10 and 11 who lends memory. */
+/* Who can mend it: 1 to 5, 12 and 13 the editor at the desk, 6 to 9 who drew the map, 10 and 11 who lends memory. 12 and 13 are a job's alone. */
 enum voldrekka_refusal {
+    VOLDREKKA_MADE = 0,              /* of a job */
     VOLDREKKA_ACCEPTED = 0,          /* also where nothing was to be done: a no_op changes nothing and is warned of */
     VOLDREKKA_LANE_ABSENT = 1,       /* names the absent lane */
     VOLDREKKA_FRACTION_OUTSIDE = 2,  /* not inside (0, 1) */
@@ -255,7 +259,9 @@ enum voldrekka_refusal {
     VOLDREKKA_NOT_CROSSING = 8,      /* a boundary that is empty or does not cross the split: names it */
     VOLDREKKA_UNSOUND = 9,           /* the map is not sound */
     VOLDREKKA_NO_ROOM = 10,          /* the finished result passes a limit or a lent length */
-    VOLDREKKA_NO_IDS = 11            /* the counter plus the ids needed passes 2^64 - 1 */
+    VOLDREKKA_NO_IDS = 11,           /* the counter plus the ids needed passes 2^64 - 1 */
+    VOLDREKKA_EDIT_REFUSED = 12,     /* an edit of a job: its place, its own number and the entity that it names */
+    VOLDREKKA_TOO_MANY_EDITS = 13    /* more than VOLDREKKA_MAX_EDITS in a job */
 };
 
 enum voldrekka_severity {
@@ -307,6 +313,20 @@ typedef struct voldrekka_answer {
     uint64_t counter;  /* the next id, as the counter has it after the call */
 } voldrekka_answer;
 
+/* The answer to a job. */
+typedef struct voldrekka_job_answer {
+    uint64_t number;   /* 0 says made; else 13, 9, 10 or 12 of voldrekka_refusal */
+    uint64_t place;    /* of 12: the place of the refused edit, from 1; else 0 */
+    uint64_t own;      /* of 12: that edit's own number, 1 to 8, 10 or 11; else 0 */
+    uint64_t kind;     /* of 12: the entity that it names, voldrekka_entity_kind + 1; 0 for none */
+    uint64_t id;       /* its id, or 0 */
+    uint64_t created;  /* how many pairs and warnings were written; 0 in a refusal */
+    uint64_t modified;
+    uint64_t deleted;
+    uint64_t warnings;
+    uint64_t counter;  /* the next id, as the counter has it after the call */
+} voldrekka_job_answer;
+
 /* The clauses of soundness, in the order in which they are told: the lowest that fails, in it the first table, in that the first row. */
 enum voldrekka_clause {
     VOLDREKKA_CLAUSE_SOUND = 0,
@@ -349,13 +369,22 @@ enum {
     VOLDREKKA_MAX_DELETED = 5,
     /* A split warns at most once of each boundary that it cuts (1,024) and once of each neighbour of a lane that it cuts (2 of 512). */
     VOLDREKKA_MAX_WARNINGS = 2 * VOLDREKKA_MAX_LANES,
+    /* Of a job: new lanes and boundaries are at most all that the new map holds, */
+    VOLDREKKA_MAX_JOB_CREATED = VOLDREKKA_MAX_LANES + VOLDREKKA_MAX_BOUNDARIES,
+    /* what is gone are lanes and boundaries of the old one, */
+    VOLDREKKA_MAX_JOB_DELETED = VOLDREKKA_MAX_LANES + VOLDREKKA_MAX_BOUNDARIES,
+    /* and each of its edits warns as an edit alone. */
+    VOLDREKKA_MAX_JOB_WARNINGS = (int)VOLDREKKA_MAX_EDITS * VOLDREKKA_MAX_WARNINGS,
     VOLDREKKA_CREATED_LEN = (int)VOLDREKKA_MAX_CREATED * VOLDREKKA_PAIR_WORDS,
     VOLDREKKA_MODIFIED_LEN = (int)VOLDREKKA_MAX_MODIFIED * VOLDREKKA_PAIR_WORDS,
     VOLDREKKA_DELETED_LEN = (int)VOLDREKKA_MAX_DELETED * VOLDREKKA_PAIR_WORDS,
-    VOLDREKKA_WARNINGS_LEN = (int)VOLDREKKA_MAX_WARNINGS * VOLDREKKA_WARNING_WORDS
+    VOLDREKKA_WARNINGS_LEN = (int)VOLDREKKA_MAX_WARNINGS * VOLDREKKA_WARNING_WORDS,
+    VOLDREKKA_JOB_CREATED_LEN = (int)VOLDREKKA_MAX_JOB_CREATED * VOLDREKKA_PAIR_WORDS,
+    VOLDREKKA_JOB_DELETED_LEN = (int)VOLDREKKA_MAX_JOB_DELETED * VOLDREKKA_PAIR_WORDS,
+    VOLDREKKA_JOB_WARNINGS_LEN = (int)VOLDREKKA_MAX_JOB_WARNINGS * VOLDREKKA_WARNING_WORDS
 };
 
-/* Stack to have free at a call of voldrekka_apply: what it takes at most (README, "Stack"), and as much again. */
+/* Stack to have free at a call of voldrekka_apply or voldrekka_job: what it takes at most (README, "Stack"), and as much again. */
 enum { VOLDREKKA_STACK = 8 * 1024 * 1024 };
 
 /* ---- the library's functions. A slice is a pointer and a length. */
@@ -415,6 +444,43 @@ voldrekka_answer voldrekka_apply(voldrekka_counter *counter,
                                  uint64_t *modified, size_t modified_len,
                                  uint64_t *deleted, size_t deleted_len,
                                  uint64_t *warnings, size_t warnings_len);
+
+/* Makes a job on the map that is lent: up to VOLDREKKA_MAX_EDITS commands, each on the map that the last one left; either all of them, or none. Every slice of
+ * words is a job: a row of VOLDREKKA_COMMAND_WORDS words a command, as many commands as there are rows, and a last row that is cut short has zeros behind
+ * it. Every row is a command; one of an unknown kind removes a lane. A job without a command is made, and changes nothing.
+ *
+ * Refused, in this order: 13 for more commands, before all else; 9 for a map that is not sound; 10 for an area of which a slice is shorter than the map's; 12 for
+ * the first command that is refused, with its place, its own number and entity (10 within a job is for the map alone, whatever the lists);
+ * 10 for a list or the warnings too long for their slice, at the end.
+ *
+ * Made: tables and coordinates hold the edited map, a sound one; created and deleted tell the map after the last command from the one before the first,
+ * modified holds what is in both and some command lists as modified; the warnings of all commands follow one another. What a command creates and another
+ * deletes is in no list. What lies past an answer in its slice, and what the map does not use, is as it was; the counter has moved on, last of all.
+ *
+ * The area, the slices whose names begin with old_, is the host's second map. Once it is long enough, after 13, 9 and its own 10, it begins with the map's slices as they came,
+ * made or refused; what lies past them stays. A refused job changes nothing else that is lent, the counter neither. */
+voldrekka_job_answer voldrekka_job(uint64_t *counter,
+                                   uint64_t *lanes, size_t lanes_len,
+                                   uint64_t *boundaries, size_t boundaries_len,
+                                   uint64_t *roads, size_t roads_len,
+                                   uint64_t *junctions, size_t junctions_len,
+                                   uint64_t *rules, size_t rules_len,
+                                   uint64_t *stop_lines, size_t stop_lines_len,
+                                   uint64_t *crosswalks, size_t crosswalks_len,
+                                   double *coordinates, size_t coordinates_len,
+                                   const uint64_t *commands, size_t commands_len,
+                                   uint64_t *old_lanes, size_t old_lanes_len,
+                                   uint64_t *old_boundaries, size_t old_boundaries_len,
+                                   uint64_t *old_roads, size_t old_roads_len,
+                                   uint64_t *old_junctions, size_t old_junctions_len,
+                                   uint64_t *old_rules, size_t old_rules_len,
+                                   uint64_t *old_stop_lines, size_t old_stop_lines_len,
+                                   uint64_t *old_crosswalks, size_t old_crosswalks_len,
+                                   double *old_coordinates, size_t old_coordinates_len,
+                                   uint64_t *created, size_t created_len,
+                                   uint64_t *modified, size_t modified_len,
+                                   uint64_t *deleted, size_t deleted_len,
+                                   uint64_t *warnings, size_t warnings_len);
 
 /* ---- a map and the lists of an answer, so that a call takes three arguments */
 
@@ -492,6 +558,34 @@ static inline voldrekka_answer voldrekka_map_apply(voldrekka_map *map, const uin
                            lists->modified.at, lists->modified.len,
                            lists->deleted.at, lists->deleted.len,
                            lists->warnings.at, lists->warnings.len);
+}
+
+/* Makes `count` commands as one job on a map, all of them or none; `commands` are as many rows of words, one behind the other. `area` is a second map, each slice as long as
+ * the map's or longer, that comes to hold the old one; its counter is neither read nor written. */
+static inline voldrekka_job_answer voldrekka_map_job(voldrekka_map *map, const uint64_t *commands, size_t count, const voldrekka_map *area, const voldrekka_lists *lists)
+{
+    return voldrekka_job(&map->counter.next,
+                         map->lanes.at, map->lanes.len,
+                         map->boundaries.at, map->boundaries.len,
+                         map->roads.at, map->roads.len,
+                         map->junctions.at, map->junctions.len,
+                         map->rules.at, map->rules.len,
+                         map->stop_lines.at, map->stop_lines.len,
+                         map->crosswalks.at, map->crosswalks.len,
+                         map->coordinates.at, map->coordinates.len,
+                         commands, count * VOLDREKKA_COMMAND_WORDS,
+                         area->lanes.at, area->lanes.len,
+                         area->boundaries.at, area->boundaries.len,
+                         area->roads.at, area->roads.len,
+                         area->junctions.at, area->junctions.len,
+                         area->rules.at, area->rules.len,
+                         area->stop_lines.at, area->stop_lines.len,
+                         area->crosswalks.at, area->crosswalks.len,
+                         area->coordinates.at, area->coordinates.len,
+                         lists->created.at, lists->created.len,
+                         lists->modified.at, lists->modified.len,
+                         lists->deleted.at, lists->deleted.len,
+                         lists->warnings.at, lists->warnings.len);
 }
 
 /* ---- the six edits */

@@ -1,5 +1,5 @@
 /* Case 5 of document 01 from C, with all six edits: two lanes side by side, one of them split alone, its halves parted, linked and merged
- * again, the other lane removed. Every answer is compared with what document 01 says; the exit status is 0 if all are right. */
+ * again, the other lane removed; then the same as jobs, one refused and one made. Every answer is compared with what document 01 says; the exit status is 0 if all are right. */
 #include "voldrekka.h"
 
 #include <stdio.h>
@@ -23,6 +23,19 @@ static voldrekka_map map = {
 static const voldrekka_lists lists = {
     {created, VOLDREKKA_CREATED_LEN}, {modified, VOLDREKKA_MODIFIED_LEN}, {deleted, VOLDREKKA_DELETED_LEN},
     {warnings, VOLDREKKA_WARNINGS_LEN}};
+
+/* ---- a second map, which a job leaves as the old one */
+
+static uint64_t old_lanes[VOLDREKKA_LANES_LEN], old_boundaries[VOLDREKKA_BOUNDARIES_LEN], old_roads[VOLDREKKA_ROADS_LEN];
+static uint64_t old_junctions[VOLDREKKA_JUNCTIONS_LEN], old_rules[VOLDREKKA_RULES_LEN], old_stop_lines[VOLDREKKA_STOP_LINES_LEN];
+static uint64_t old_crosswalks[VOLDREKKA_CROSSWALKS_LEN];
+static double old_coordinates[VOLDREKKA_COORDINATES_LEN];
+
+static const voldrekka_map area = {
+    {0},
+    {old_lanes, VOLDREKKA_LANES_LEN}, {old_boundaries, VOLDREKKA_BOUNDARIES_LEN}, {old_roads, VOLDREKKA_ROADS_LEN},
+    {old_junctions, VOLDREKKA_JUNCTIONS_LEN}, {old_rules, VOLDREKKA_RULES_LEN}, {old_stop_lines, VOLDREKKA_STOP_LINES_LEN},
+    {old_crosswalks, VOLDREKKA_CROSSWALKS_LEN}, {old_coordinates, VOLDREKKA_COORDINATES_LEN}};
 
 /* ---- rows are added in the order of their ids */
 
@@ -78,28 +91,53 @@ static int write_warnings(char *text, size_t room, uint64_t count)
     return n;
 }
 
-static void write_answer(char *text, size_t room, voldrekka_answer a)
+static void write_lists(char *text, size_t room, uint64_t n_created, uint64_t n_modified, uint64_t n_deleted, uint64_t n_warnings)
 {
     int n = 0;
-    if (a.number != VOLDREKKA_ACCEPTED) {
+    n += write_pairs(text, room, "created", created, n_created);
+    n += write_pairs(text + n, room - (size_t)n, ", modified", modified, n_modified);
+    n += write_pairs(text + n, room - (size_t)n, ", deleted", deleted, n_deleted);
+    write_warnings(text + n, room - (size_t)n, n_warnings);
+}
+
+static void write_answer(char *text, size_t room, voldrekka_answer a)
+{
+    if (a.number != VOLDREKKA_ACCEPTED)
         snprintf(text, room, "refused %llu, %s %llu", (unsigned long long)a.number, a.kind ? kinds[a.kind - 1] : "-", (unsigned long long)a.id);
-        return;
+    else
+        write_lists(text, room, a.created, a.modified, a.deleted, a.warnings);
+}
+
+static void write_job_answer(char *text, size_t room, voldrekka_job_answer a)
+{
+    if (a.number != VOLDREKKA_MADE)
+        snprintf(text, room, "refused %llu, edit %llu by %llu, %s %llu", (unsigned long long)a.number, (unsigned long long)a.place,
+                 (unsigned long long)a.own, a.kind ? kinds[a.kind - 1] : "-", (unsigned long long)a.id);
+    else
+        write_lists(text, room, a.created, a.modified, a.deleted, a.warnings);
+}
+
+static void compare(const char *call, const char *text, const char *wanted)
+{
+    printf("%s: %s\n", call, text);
+    if (strcmp(text, wanted) != 0 || !voldrekka_map_sound(&map)) {
+        printf("  wanted: %s, and a sound map\n", wanted);
+        exit(1);
     }
-    n += write_pairs(text, room, "created", created, a.created);
-    n += write_pairs(text + n, room - (size_t)n, ", modified", modified, a.modified);
-    n += write_pairs(text + n, room - (size_t)n, ", deleted", deleted, a.deleted);
-    write_warnings(text + n, room - (size_t)n, a.warnings);
 }
 
 static void expect(const char *call, voldrekka_answer answer, const char *wanted)
 {
     char text[512];
     write_answer(text, sizeof text, answer);
-    printf("%s: %s\n", call, text);
-    if (strcmp(text, wanted) != 0 || !voldrekka_map_sound(&map)) {
-        printf("  wanted: %s, and a sound map\n", wanted);
-        exit(1);
-    }
+    compare(call, text, wanted);
+}
+
+static void expect_job(const char *call, voldrekka_job_answer answer, const char *wanted)
+{
+    char text[512];
+    write_job_answer(text, sizeof text, answer);
+    compare(call, text, wanted);
 }
 
 int main(void)
@@ -124,5 +162,14 @@ int main(void)
     expect("merge 1 and 107", voldrekka_map_merge(&map, &lists, 1, 107),
            "created, modified lane 1 boundary 101 boundary 105, deleted lane 107 boundary 104 boundary 106");
     expect("remove 2", voldrekka_map_remove(&map, &lists, 2), "created, modified lane 1, deleted lane 2 boundary 102 boundary 103");
-    return 0;
+
+    /* Lane 1 is split again; its second half gets the next id behind its two boundaries. */
+    const uint64_t second = map.counter.next + 2;
+    const uint64_t commands[3][VOLDREKKA_COMMAND_WORDS] = {
+        {VOLDREKKA_SPLIT, 1, VOLDREKKA_FRACTION, voldrekka_bits(0.25), 0}, {VOLDREKKA_DISCONNECT, 1, second, 0, 0}, {VOLDREKKA_REMOVE, 7, 0, 0, 0}};
+    expect_job("split 1, disconnect its halves, remove 7", voldrekka_map_job(&map, commands[0], 3, &area, &lists), "refused 12, edit 3 by 1, lane 7");
+    expect_job("the first two", voldrekka_map_job(&map, commands[0], 2, &area, &lists),
+               "created lane 110 boundary 108 boundary 109, modified lane 1 boundary 101 boundary 105, deleted");
+    printf("lanes of the map and of the old one: %llu %llu\n", (unsigned long long)lanes[VOLDREKKA_ROW_COUNT], (unsigned long long)old_lanes[VOLDREKKA_ROW_COUNT]);
+    return lanes[VOLDREKKA_ROW_COUNT] == 2 && old_lanes[VOLDREKKA_ROW_COUNT] == 1 ? 0 : 1;
 }

@@ -1,5 +1,5 @@
 /* How much stack each function takes: it runs on a painted stack, and what is left of the paint tells. On a small map, and on a large one
- * whose lines lie in no order, so that the edits that lay lines out must copy them. Fails if a function takes 256 KB on the small one, or half of
+ * whose lines lie in no order, so that the edits that lay lines out must copy them. Fails if a function takes 256 KB on the small one, a job 1 MB, or one of them half of
  * VOLDREKKA_STACK on the large one. */
 #define _XOPEN_SOURCE 700
 #include "voldrekka.h"
@@ -13,7 +13,8 @@ enum {
     PAGE = 4096,
     SMALL = 100, FEW = 12,      /* lanes of the small map, each with two boundaries of its own, and points of a boundary */
     LARGE = 500, MANY = 64,     /* the same of the large one */
-    SMALL_STACK = 256 * 1024    /* more than any call takes on the small map */
+    SMALL_STACK = 256 * 1024,   /* more than any call takes on the small map */
+    JOB_STACK = 1024 * 1024     /* and more than a job */
 };
 
 static uint64_t points;
@@ -33,6 +34,24 @@ static voldrekka_map map = {
 
 static const voldrekka_lists lists = {
     {created, VOLDREKKA_CREATED_LEN}, {modified, VOLDREKKA_MODIFIED_LEN}, {deleted, VOLDREKKA_DELETED_LEN},
+    {warnings, VOLDREKKA_WARNINGS_LEN}};
+
+static uint64_t old_lanes[VOLDREKKA_LANES_LEN], old_boundaries[VOLDREKKA_BOUNDARIES_LEN], old_roads[VOLDREKKA_ROADS_LEN];
+static uint64_t old_junctions[VOLDREKKA_JUNCTIONS_LEN], old_rules[VOLDREKKA_RULES_LEN], old_stop_lines[VOLDREKKA_STOP_LINES_LEN];
+static uint64_t old_crosswalks[VOLDREKKA_CROSSWALKS_LEN];
+static double old_coordinates[VOLDREKKA_COORDINATES_LEN];
+
+static const voldrekka_map area = {
+    {0},
+    {old_lanes, VOLDREKKA_LANES_LEN}, {old_boundaries, VOLDREKKA_BOUNDARIES_LEN}, {old_roads, VOLDREKKA_ROADS_LEN},
+    {old_junctions, VOLDREKKA_JUNCTIONS_LEN}, {old_rules, VOLDREKKA_RULES_LEN}, {old_stop_lines, VOLDREKKA_STOP_LINES_LEN},
+    {old_crosswalks, VOLDREKKA_CROSSWALKS_LEN}, {old_coordinates, VOLDREKKA_COORDINATES_LEN}};
+
+/* The lists of a job may hold more than those of an edit. */
+static uint64_t job_created[VOLDREKKA_JOB_CREATED_LEN], job_deleted[VOLDREKKA_JOB_DELETED_LEN];
+
+static const voldrekka_lists job_lists = {
+    {job_created, VOLDREKKA_JOB_CREATED_LEN}, {modified, VOLDREKKA_MODIFIED_LEN}, {job_deleted, VOLDREKKA_JOB_DELETED_LEN},
     {warnings, VOLDREKKA_WARNINGS_LEN}};
 
 /* ---- maps: lanes 1, 2 .. in a row, each leading into the next, and the first two side by side; boundaries from 2000 on */
@@ -101,13 +120,41 @@ static void removal(void) { done = voldrekka_map_remove(&map, &lists, 1).number 
 static void merge(void) { done = voldrekka_map_merge(&map, &lists, 1, 2).number == VOLDREKKA_ACCEPTED; }
 static void split(void) { done = voldrekka_map_split(&map, &lists, 1, VOLDREKKA_FRACTION, 0.5, true).number == VOLDREKKA_ACCEPTED; }
 
+
+/* Each of the six edits, and no edit. */
+static void job(void)
+{
+    static const uint64_t half = 0x3FE0000000000000; /* 0.5 */
+    const uint64_t commands[6][VOLDREKKA_COMMAND_WORDS] = {
+        {VOLDREKKA_SPLIT, 1, VOLDREKKA_FRACTION, half, 1}, {VOLDREKKA_MERGE, 5, 6, 0, 0}, {VOLDREKKA_CONNECT, 3, 8, 0, 0},
+        {VOLDREKKA_DISCONNECT, 8, 9, 0, 0}, {VOLDREKKA_SET_NEIGHBOR, 10, VOLDREKKA_LEFT, VOLDREKKA_NEIGHBOR_SAME, 12}, {VOLDREKKA_REMOVE, 20, 0, 0, 0}};
+    done = voldrekka_map_job(&map, commands[0], 6, &area, &job_lists).number == VOLDREKKA_MADE;
+}
+
+static void empty_job(void)
+{
+    const uint64_t none[1] = {0};
+    done = voldrekka_map_job(&map, none, 0, &area, &job_lists).number == VOLDREKKA_MADE;
+}
+
 static const struct {
     const char *name;
     void (*run)(void);
+    size_t most; /* on the small map */
 } functions[] = {
-    {"voldrekka_sqrt", root}, {"voldrekka_length", length}, {"voldrekka_nearest_point", nearest}, {"voldrekka_split_at", split_at},
-    {"voldrekka_sound", sound}, {"connect", connect}, {"disconnect", disconnect}, {"set neighbour", neighbor},
-    {"remove", removal}, {"merge", merge}, {"split", split}};
+    {"voldrekka_sqrt", root, SMALL_STACK},
+    {"voldrekka_length", length, SMALL_STACK},
+    {"voldrekka_nearest_point", nearest, SMALL_STACK},
+    {"voldrekka_split_at", split_at, SMALL_STACK},
+    {"voldrekka_sound", sound, SMALL_STACK},
+    {"connect", connect, SMALL_STACK},
+    {"disconnect", disconnect, SMALL_STACK},
+    {"set neighbour", neighbor, SMALL_STACK},
+    {"remove", removal, SMALL_STACK},
+    {"merge", merge, SMALL_STACK},
+    {"split", split, SMALL_STACK},
+    {"a job without an edit", empty_job, JOB_STACK},
+    {"a job of all six", job, JOB_STACK}};
 
 /* ---- painted stacks */
 
@@ -142,8 +189,7 @@ int main(void)
 {
     static const struct {
         uint64_t lanes, points;
-        size_t most;
-    } maps[] = {{SMALL, FEW, SMALL_STACK}, {LARGE, MANY, VOLDREKKA_STACK / 2}};
+    } maps[] = {{SMALL, FEW}, {LARGE, MANY}};
     size_t own;
     int status = 0;
     if (posix_memalign((void **)&stack, PAGE, VOLDREKKA_STACK))
@@ -156,7 +202,7 @@ int main(void)
             points = maps[m].points;
             make_map(maps[m].lanes);
             taken[m] = touched(functions[i].run) - own;
-            status |= taken[m] >= maps[m].most;
+            status |= taken[m] >= (m == 0 ? functions[i].most : VOLDREKKA_STACK / 2);
         }
         printf("%-24s%10zu%10zu\n", functions[i].name, taken[0], taken[1]);
     }

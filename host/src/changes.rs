@@ -132,7 +132,7 @@ impl fmt::Display for Issue {
 /// A refusal of document 01, with its entity.
 #[derive(Debug, Clone, Copy, PartialEq, Eq)]
 pub struct Refusal {
-    /// 1 to 11.
+    /// 1 to 11; 12 and 13 are a job's ([`JobRefused`]).
     pub number: u64,
     /// The entity that it names, if any.
     pub entity: Option<EntityRef>,
@@ -140,7 +140,7 @@ pub struct Refusal {
 
 impl Refusal {
     /// The refusals' names, each at the place of its number; 0 is not one.
-    pub const NAMES: [&'static str; 12] = [
+    pub const NAMES: [&'static str; 14] = [
         "accepted",
         "lane absent",
         "fraction outside (0, 1)",
@@ -153,6 +153,8 @@ impl Refusal {
         "map not sound",
         "no room",
         "no ids left",
+        "edit refused",
+        "too many edits",
     ];
 
     /// Its name.
@@ -259,3 +261,59 @@ pub struct Done {
     /// What changed.
     pub changes: ChangeSet,
 }
+
+/// Why a job was refused. The map is as it was.
+#[derive(Debug, Clone, PartialEq, Eq)]
+pub enum JobRefused {
+    /// It has more than [`MAX_EDITS`] edits.
+    TooManyEdits,
+    /// The map is not sound.
+    Unsound,
+    /// A list of the change set has no room. It is not given to a [`Map`](crate::Map), whose lists grow.
+    NoRoom,
+    /// An edit was refused.
+    Edit {
+        /// Its place in the job, from 1.
+        place: usize,
+        /// Its own refusal.
+        refused: Refused,
+    },
+}
+
+impl JobRefused {
+    /// Its number: 9, 10, 12 or 13.
+    pub const fn number(&self) -> u64 {
+        match self {
+            JobRefused::TooManyEdits => TOO_MANY_EDITS,
+            JobRefused::Unsound => UNSOUND,
+            JobRefused::NoRoom => NO_ROOM,
+            JobRefused::Edit { .. } => EDIT_REFUSED,
+        }
+    }
+
+    /// Its name.
+    pub fn name(&self) -> &'static str {
+        Refusal::NAMES[self.number() as usize]
+    }
+
+    /// The refused edit, its place and its own refusal.
+    pub fn edit(&self) -> Option<(usize, &Refused)> {
+        match self {
+            JobRefused::Edit { place, refused } => Some((*place, refused)),
+            _ => None,
+        }
+    }
+}
+
+impl fmt::Display for JobRefused {
+    fn fmt(&self, f: &mut fmt::Formatter<'_>) -> fmt::Result {
+        match self {
+            JobRefused::TooManyEdits => write!(f, "a job has at most {MAX_EDITS} edits"),
+            JobRefused::Unsound => write!(f, "{}", EditError::Unsound),
+            JobRefused::NoRoom => write!(f, "a list of the change set has no room"),
+            JobRefused::Edit { place, refused } => write!(f, "edit {place}: {}", refused.error),
+        }
+    }
+}
+
+impl std::error::Error for JobRefused {}

@@ -172,56 +172,59 @@ impl Map {
                 changes: self.change_set(&answer, &before),
             });
         }
-        let entity = (answer.kind > 0).then(|| entity(answer.kind - 1, answer.id));
-        let refusal = Refusal { number: answer.number, entity };
+        let refusal = Refusal { number: answer.number, entity: named(answer.kind, answer.id) };
         Err(Refused { refusal, error: before.refusal(self, refusal) })
     }
 
     /// The library's answer. Where what is lent is too small, it grows; refusal 10 is left for a limit.
     fn answer(&mut self, row: &[u64; COMMAND_WORDS]) -> sys::Answer {
         loop {
-            let (lent, answer) = stack::apply(std::mem::take(&mut self.lent), row);
+            let (lent, answer) = stack::apply(std::mem::take(&mut self.lent), *row);
             self.lent = lent;
-            if answer.number != NO_ROOM || !self.grow() {
+            if answer.number != NO_ROOM || !self.grow(EDIT_LISTS) {
                 return answer;
             }
         }
     }
 
-    /// Doubles what an edit may want more of, as far as a map may ever need it; whether anything grew.
-    fn grow(&mut self) -> bool {
+    /// Doubles what an edit or a job may want more of, as far as a map may ever need it; whether anything grew.
+    pub(crate) fn grow(&mut self, lists: [usize; 4]) -> bool {
         let [lanes, boundaries, ..] = &mut self.lent.tables.words;
-        let [created, modified, deleted, warnings] = &mut self.lent.lists;
         let mut grown = grow_to(&mut self.lent.tables.coordinates, 0.0, MAX_POINTS * POINT_FLOATS);
-        for (words, most) in [
-            (lanes, Table::Lanes.max_len()),
-            (boundaries, Table::Boundaries.max_len()),
-            (created, MAX_CREATED * PAIR_WORDS),
-            (modified, MAX_MODIFIED * PAIR_WORDS),
-            (deleted, MAX_DELETED * PAIR_WORDS),
-            (warnings, MAX_WARNINGS * WARNING_WORDS),
-        ] {
+        grown |= grow_to(lanes, 0, Table::Lanes.max_len());
+        grown |= grow_to(boundaries, 0, Table::Boundaries.max_len());
+        for (words, most) in self.lent.lists.iter_mut().zip(lists) {
             grown |= grow_to(words, 0, most);
         }
         grown
     }
 
     fn change_set(&self, answer: &sys::Answer, before: &Messages) -> ChangeSet {
-        let [created, modified, deleted, warnings] = &self.lent.lists;
-        let mut changes = ChangeSet {
-            created: pairs(created, answer.created),
-            modified: pairs(modified, answer.modified),
-            deleted: pairs(deleted, answer.deleted),
-            warnings: Vec::new(),
-        };
-        for row in warnings.chunks_exact(WARNING_WORDS).take(answer.warnings as usize) {
-            let mut issue = issue(row);
-            issue.message = before.warning(self, &issue, &changes.warnings);
-            changes.warnings.push(issue);
+        let counts = [answer.created, answer.modified, answer.deleted, answer.warnings];
+        let mut changes = self.lent.changes(counts);
+        for i in 0..changes.warnings.len() {
+            changes.warnings[i].message = before.warning(self, &changes.warnings[i], &changes.warnings[..i]);
         }
         changes
     }
 }
+
+impl stack::Lent {
+    /// What the lists hold after a call that wrote so many entries; the warnings without their messages.
+    pub(crate) fn changes(&self, counts: [u64; 4]) -> ChangeSet {
+        let [created, modified, deleted, warnings] = &self.lists;
+        ChangeSet {
+            created: pairs(created, counts[0]),
+            modified: pairs(modified, counts[1]),
+            deleted: pairs(deleted, counts[2]),
+            warnings: warnings.chunks_exact(WARNING_WORDS).take(counts[3] as usize).map(issue).collect(),
+        }
+    }
+}
+
+/// The most words that an edit wants of each list.
+const EDIT_LISTS: [usize; 4] =
+    [MAX_CREATED * PAIR_WORDS, MAX_MODIFIED * PAIR_WORDS, MAX_DELETED * PAIR_WORDS, MAX_WARNINGS * WARNING_WORDS];
 
 /// The least that grows, so that a few calls suffice from nothing.
 const LEAST_ROOM: usize = 512;
@@ -236,6 +239,11 @@ fn grow_to<T: Copy>(slice: &mut Vec<T>, with: T, most: usize) -> bool {
 }
 
 // ---- words of an answer
+
+/// The entity that a refusal names: its kind plus 1, or 0.
+pub(crate) fn named(kind: u64, id: u64) -> Option<EntityRef> {
+    (kind > 0).then(|| entity(kind - 1, id))
+}
 
 fn entity(kind: u64, id: u64) -> EntityRef {
     EntityRef::new(EntityKind::ALL[kind as usize], id)

@@ -124,9 +124,11 @@ pub const STATION: u64 = 1;
 pub const LEFT: u64 = 0;
 pub const RIGHT: u64 = 1;
 pub const COMMAND_WORDS: usize = 5;
+pub const MAX_EDITS: usize = 64;
 
 // ---- answers
 
+pub const MADE: u64 = 0;
 pub const ACCEPTED: u64 = 0;
 pub const LANE_ABSENT: u64 = 1;
 pub const FRACTION_OUTSIDE: u64 = 2;
@@ -139,6 +141,8 @@ pub const NOT_CROSSING: u64 = 8;
 pub const UNSOUND: u64 = 9;
 pub const NO_ROOM: u64 = 10;
 pub const NO_IDS: u64 = 11;
+pub const EDIT_REFUSED: u64 = 12;
+pub const TOO_MANY_EDITS: u64 = 13;
 
 pub const CODE_NO_OP: u64 = 1;
 pub const CODE_GEOMETRIC_GAP: u64 = 2;
@@ -163,3 +167,6 @@ pub const MAX_CREATED: usize = MAX_LANES / 2 + 2 * MAX_LANES;
 pub const MAX_MODIFIED: usize = MAX_LANES + MAX_BOUNDARIES + MAX_ROADS + MAX_JUNCTIONS + MAX_RULES;
 pub const MAX_DELETED: usize = 5;
 pub const MAX_WARNINGS: usize = 2 * MAX_LANES;
+pub const MAX_JOB_CREATED: usize = MAX_LANES + MAX_BOUNDARIES;
+pub const MAX_JOB_DELETED: usize = MAX_LANES + MAX_BOUNDARIES;
+pub const MAX_JOB_WARNINGS: usize = MAX_EDITS * MAX_WARNINGS;

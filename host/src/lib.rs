@@ -2,7 +2,8 @@
 //!
 //! A [`Map`] owns the tables that the core edits in place. It is built and read by records ([`Lane`], [`Boundary`] ..) and changed by six
 //! methods with the names, arguments and results of the original (vectormap-rs): [`Map::split_lane`], [`Map::merge_lanes`],
-//! [`Map::connect`], [`Map::disconnect`], [`Map::set_neighbor`], [`Map::remove_lane`]; [`Map::apply`] makes any of them from data. What an
+//! [`Map::connect`], [`Map::disconnect`], [`Map::set_neighbor`], [`Map::remove_lane`]; [`Map::apply`] makes any of them from data, and
+//! [`Map::job`] several as one, all of them or none. What an
 //! accepted edit leaves and lists, and when an edit is refused, is proved of the core (`libvoldrekka.a`); this crate carries records in and
 //! answers out, makes room as it is wanted, and adds the original's message texts.
 //!
@@ -48,6 +49,7 @@ pub mod draw;
 pub mod edit;
 pub mod geometry;
 pub mod ids;
+pub mod jobs;
 pub mod layout;
 pub mod map;
 mod messages;
@@ -58,7 +60,7 @@ pub mod sys;
 mod tables;
 pub mod text;
 
-pub use changes::{ChangeSet, Done, EditError, EditResult, Issue, IssueCode, Refusal, Refused, Severity};
+pub use changes::{ChangeSet, Done, EditError, EditResult, Issue, IssueCode, JobRefused, Refusal, Refused, Severity};
 pub use edit::{Command, SplitAt, SplitOptions};
 pub use geometry::{Point3, Polyline3};
 pub use ids::*;

@@ -9,7 +9,7 @@ use std::hint::black_box;
 /// Whether the library that is linked is the proved one; `false` of a build with the library of host/unproved.
 pub const PROVED: bool = option_env!("VOLDREKKA_UNPROVED").is_none();
 
-/// Stack to have free at a call of [`apply`], in bytes: what it takes at most, and as much again.
+/// Stack to have free at a call of [`apply`] or [`job`], in bytes: what it takes at most, and as much again.
 pub const STACK: usize = 8 * 1024 * 1024;
 
 /// How many tables of words a map has.
@@ -43,6 +43,32 @@ pub struct Answer {
     pub warnings: u64,
     /// The second half of the lane that was split, or 0.
     pub second: u64,
+    /// The next id, as the counter has it after the call.
+    pub counter: u64,
+}
+
+/// The answer to a job (`voldrekka_job_answer` of the header).
+#[repr(C)]
+#[derive(Debug, Clone, Copy, PartialEq, Eq, Default)]
+pub struct JobAnswer {
+    /// 0 made, else the refusal: 9, 10, 12 or 13.
+    pub number: u64,
+    /// The place of the refused edit, from 1, or 0.
+    pub place: u64,
+    /// That edit's own number, or 0.
+    pub own: u64,
+    /// The entity that it names: its kind + 1, or 0.
+    pub kind: u64,
+    /// Its id, or 0.
+    pub id: u64,
+    /// How many pairs were written to `created`.
+    pub created: u64,
+    /// How many pairs were written to `modified`.
+    pub modified: u64,
+    /// How many pairs were written to `deleted`.
+    pub deleted: u64,
+    /// How many rows were written to `warnings`.
+    pub warnings: u64,
     /// The next id, as the counter has it after the call.
     pub counter: u64,
 }
@@ -152,6 +178,52 @@ unsafe extern "C" {
         warnings: *mut u64,
         warnings_len: usize,
     ) -> Answer;
+
+    fn voldrekka_job(
+        counter: *mut u64,
+        lanes: *mut u64,
+        lanes_len: usize,
+        boundaries: *mut u64,
+        boundaries_len: usize,
+        roads: *mut u64,
+        roads_len: usize,
+        junctions: *mut u64,
+        junctions_len: usize,
+        rules: *mut u64,
+        rules_len: usize,
+        stop_lines: *mut u64,
+        stop_lines_len: usize,
+        crosswalks: *mut u64,
+        crosswalks_len: usize,
+        coordinates: *mut f64,
+        coordinates_len: usize,
+        commands: *const u64,
+        commands_len: usize,
+        old_lanes: *mut u64,
+        old_lanes_len: usize,
+        old_boundaries: *mut u64,
+        old_boundaries_len: usize,
+        old_roads: *mut u64,
+        old_roads_len: usize,
+        old_junctions: *mut u64,
+        old_junctions_len: usize,
+        old_rules: *mut u64,
+        old_rules_len: usize,
+        old_stop_lines: *mut u64,
+        old_stop_lines_len: usize,
+        old_crosswalks: *mut u64,
+        old_crosswalks_len: usize,
+        old_coordinates: *mut f64,
+        old_coordinates_len: usize,
+        created: *mut u64,
+        created_len: usize,
+        modified: *mut u64,
+        modified_len: usize,
+        deleted: *mut u64,
+        deleted_len: usize,
+        warnings: *mut u64,
+        warnings_len: usize,
+    ) -> JobAnswer;
 }
 
 /// The length of a line of three coordinates a point.
@@ -274,6 +346,70 @@ pub fn apply(
     };
     *counter = lent.next;
     answer
+}
+
+/// Makes a job of up to 64 commands, five words each, all of them or none. The area's slices, once none is shorter than the map's, begin with the
+/// map as it came, made or not; a refused job leaves all else alone. The thread needs [`STACK`] bytes of stack.
+#[inline]
+pub fn job(
+    counter: &mut u64,
+    tables: [&mut [u64]; TABLES],
+    coordinates: &mut [f64],
+    commands: &[u64],
+    area: [&mut [u64]; TABLES],
+    old_coordinates: &mut [f64],
+    lists: [&mut [u64]; 4],
+) -> JobAnswer {
+    let [lanes, boundaries, roads, junctions, rules, stop_lines, crosswalks] = tables;
+    let [old_lanes, old_boundaries, old_roads, old_junctions, old_rules, old_stop_lines, old_crosswalks] = area;
+    let [created, modified, deleted, warnings] = lists;
+    unsafe {
+        voldrekka_job(
+            counter,
+            lanes.as_mut_ptr(),
+            lanes.len(),
+            boundaries.as_mut_ptr(),
+            boundaries.len(),
+            roads.as_mut_ptr(),
+            roads.len(),
+            junctions.as_mut_ptr(),
+            junctions.len(),
+            rules.as_mut_ptr(),
+            rules.len(),
+            stop_lines.as_mut_ptr(),
+            stop_lines.len(),
+            crosswalks.as_mut_ptr(),
+            crosswalks.len(),
+            coordinates.as_mut_ptr(),
+            coordinates.len(),
+            commands.as_ptr(),
+            commands.len(),
+            old_lanes.as_mut_ptr(),
+            old_lanes.len(),
+            old_boundaries.as_mut_ptr(),
+            old_boundaries.len(),
+            old_roads.as_mut_ptr(),
+            old_roads.len(),
+            old_junctions.as_mut_ptr(),
+            old_junctions.len(),
+            old_rules.as_mut_ptr(),
+            old_rules.len(),
+            old_stop_lines.as_mut_ptr(),
+            old_stop_lines.len(),
+            old_crosswalks.as_mut_ptr(),
+            old_crosswalks.len(),
+            old_coordinates.as_mut_ptr(),
+            old_coordinates.len(),
+            created.as_mut_ptr(),
+            created.len(),
+            modified.as_mut_ptr(),
+            modified.len(),
+            deleted.as_mut_ptr(),
+            deleted.len(),
+            warnings.as_mut_ptr(),
+            warnings.len(),
+        )
+    }
 }
 
 /// Whether this thread's floating-point state is the one assumed: subnormals in and out are kept, and rounding is to nearest. A

@@ -47,8 +47,9 @@ type Parts = Vec<(String, String)>;
 type Declared = BTreeMap<String, Parts>;
 
 /// The structs that go by value or behind a pointer: the file that declares it, and its names in Rattle, C and Rust.
-const STRUCTS: [(&str, &str, &str, &str); 3] = [
+const STRUCTS: [(&str, &str, &str, &str); 4] = [
     ("crates/words/src/lib.rt", "Told", "voldrekka_answer", "Answer"),
+    ("crates/job_words/src/lib.rt", "ToldJob", "voldrekka_job_answer", "JobAnswer"),
     ("crates/entities/src/lib.rt", "Counter", "voldrekka_counter", "Counter"),
     ("crates/faults/src/lib.rt", "Fault", "voldrekka_flaw", "Flaw"),
 ];
@@ -348,6 +349,13 @@ impl Texts {
             all.extend(missing(numbers, &header));
             all.extend(missing(numbers, &layout));
         }
+        let answers = file("crates/jobs/specs/Answers.antt");
+        let jobs = [definitions(&file("crates/jobs/specs/Job.antt")), cases(&answers, "jobNumber", "")];
+        for numbers in &jobs {
+            assert!(!numbers.is_empty(), "the definitions of jobs are read");
+            all.extend(missing(numbers, &header));
+            all.extend(missing(numbers, &layout));
+        }
         for (function, prefix) in
             [("kindNumber", "ENTITY_"), ("severityNumber", "SEVERITY_"), ("codeNumber", "CODE_"), ("refusalNumber", "")]
         {
@@ -380,6 +388,7 @@ fn everything_is_read() {
     assert_eq!(exports.len(), texts.exports.matches("#[no_mangle]").count());
     assert_eq!(exports["voldrekka_sqrt"], [("x".into(), "f64".into()), ("->".into(), "f64".to_string())]);
     assert!(exports["voldrekka_apply"].len() > 25);
+    assert!(exports["voldrekka_job"].len() > 40);
     assert!(c_numbers(&texts.header).len() > 150);
 }
 
@@ -406,6 +415,15 @@ fn planted_functions_are_found() {
     found(|t| swap(&mut t.exports, "    station: f64,\n", "    station: u64,\n"));
     found(|t| swap(&mut t.sys, "second: *mut usize,", "second: *mut u64,"));
     found(|t| swap(&mut t.sys, "    ) -> bool;", "    ) -> u64;"));
+    found(|t| {
+        swap(
+            &mut t.header,
+            "uint64_t *old_roads, size_t old_roads_len",
+            "const uint64_t *old_roads, size_t old_roads_len",
+        )
+    });
+    found(|t| swap(&mut t.header, "const uint64_t *commands,", "uint64_t *commands,"));
+    found(|t| swap(&mut t.sys, "        old_rules: *mut u64,", "        rules_old: *mut u64,"));
 }
 
 #[test]
@@ -418,6 +436,10 @@ fn planted_fields_and_numbers_are_found() {
         )
     });
     found(|t| swap(&mut t.sys, "    pub second: u64,", "    pub second: u32,"));
+    found(|t| swap(&mut t.sys, "    pub place: u64,\n", ""));
+    found(|t| swap(&mut t.header, "    uint64_t own; ", "    uint64_t self; "));
+    found(|t| swap(&mut t.header, "VOLDREKKA_MAX_EDITS = 64", "VOLDREKKA_MAX_EDITS = 63"));
+    found(|t| swap(&mut t.header, "VOLDREKKA_TOO_MANY_EDITS = 13", "VOLDREKKA_TOO_MANY_EDITS = 14"));
     found(|t| swap(&mut t.header, "VOLDREKKA_LANE_TURN = 12", "VOLDREKKA_LANE_TURN = 11"));
     found(|t| swap(&mut t.header, "VOLDREKKA_MAX_IDS = 64", "VOLDREKKA_MAX_IDS = 65"));
     found(|t| swap(&mut t.header, "VOLDREKKA_NOT_CROSSING = 8", "VOLDREKKA_NOT_CROSSING = 9"));
@@ -437,5 +459,6 @@ fn lengths_are_products() {
     assert_eq!(header["LANES_LEN"], 1 + header["MAX_LANES"] * header["LANE_WORDS"]);
     assert_eq!(header["COORDINATES_LEN"], header["MAX_POINTS"] * header["POINT_FLOATS"]);
     assert_eq!(header["WARNINGS_LEN"], header["MAX_WARNINGS"] * header["WARNING_WORDS"]);
+    assert_eq!(header["JOB_WARNINGS_LEN"], header["MAX_EDITS"] * header["WARNINGS_LEN"]);
     assert_eq!(header["STACK"], sys::STACK as u64);
 }

@@ -138,14 +138,14 @@ fn bad_input_is_told_with_its_line_and_changes_nothing() {
     let folder = Folder::new("input");
     let text = "voldrekka 1\nlane 1 left=10 wright=11\n";
     fs::write(folder.0.join("bad.yard"), text).unwrap();
-    let told = folder.told("remove bad.yard 1", 14);
+    let told = folder.told("remove bad.yard 1", 65);
     assert!(told.contains("bad.yard: line 2: lane 1: `wright` is no field here; expected one of"), "{told}");
     assert_eq!(folder.text("bad.yard"), text);
-    assert!(folder.told("show nowhere.yard", 13).contains("nowhere.yard cannot be read"));
+    assert!(folder.told("show nowhere.yard", 66).contains("nowhere.yard cannot be read"));
     fs::write(folder.0.join("bytes.yard"), [0xff, 0xfe]).unwrap();
-    assert!(folder.told("show bytes.yard", 13).contains("cannot be read"));
-    assert!(folder.told("draw gate.yard --output nowhere/x.svg", 13).contains("cannot be written"));
-    assert!(folder.told("remove gate.yard 1 --output nowhere/x.yard", 13).contains("cannot be written"));
+    assert!(folder.told("show bytes.yard", 66).contains("cannot be read"));
+    assert!(folder.told("draw gate.yard --output nowhere/x.svg", 66).contains("cannot be written"));
+    assert!(folder.told("remove gate.yard 1 --output nowhere/x.yard", 66).contains("cannot be written"));
     assert_eq!(folder.files(), ["bad.yard", "bytes.yard", "crane.yard", "gate.yard", "terminal.yard"]);
 }
 
@@ -171,11 +171,14 @@ fn the_command_line_is_told() {
             "--force is no option here; expected one of --json, --output, --dry-run, --draw",
         ),
         ("merge gate.yard 1 2 --alone", "--alone is no option here"),
+        ("job gate.yard", "expected the file of a job's edits"),
+        ("job gate.yard a b", "expected the file of a job's edits"),
+        ("job gate.yard closing.job --alone", "--alone is no option here"),
         ("show gate.yard --dry-run", "--dry-run is no option here; expected one of --json"),
         ("draw gate.yard remove 1 --fraction 0.5", "--fraction is no option here"),
         ("split gate.yard 1 --station 3 --station 4", "--station is given twice"),
     ] {
-        let text = folder.told(words, 12);
+        let text = folder.told(words, 64);
         assert!(text.contains(told), "{words}: {text}");
     }
     assert!(folder.told("--help", 0).contains("voldrekka split FILE LANE --fraction F"));
@@ -198,10 +201,93 @@ fn other_places_to_write() {
 fn all_files_or_none() {
     let folder = Folder::new("all");
     let before = folder.text("gate.yard");
-    folder.told("split gate.yard 1 --fraction 0.5 --draw nowhere/edit.svg", 13);
-    folder.told("split gate.yard 1 --fraction 0.5 --output nowhere/x.yard --draw edit.svg", 13);
+    folder.told("split gate.yard 1 --fraction 0.5 --draw nowhere/edit.svg", 66);
+    folder.told("split gate.yard 1 --fraction 0.5 --output nowhere/x.yard --draw edit.svg", 66);
     assert_eq!(folder.text("gate.yard"), before);
     assert_eq!(folder.files(), ["crane.yard", "gate.yard", "terminal.yard"]);
+}
+
+/// Edits as a file, one a line.
+fn job(folder: &Folder, text: &str) {
+    fs::write(folder.0.join("edits.job"), text).expect("a file");
+}
+
+#[test]
+fn jobs_make_all_edits_or_none() {
+    let folder = Folder::new("jobs");
+    let before = folder.text("gate.yard");
+    let sample = format!("{}/../samples/gate-closing.job", env!("CARGO_MANIFEST_DIR"));
+    fs::copy(&sample, folder.0.join("closing.job")).expect("the sample is there");
+    let told = folder.told("job gate.yard closing.job --output closed.yard --draw closing.svg", 0);
+    assert_eq!(
+        told,
+        "job of 6 edits: made
+  created   lane:208 boundary:205 boundary:206
+  modified  lane:1 lane:2 lane:3 lane:4 boundary:101 boundary:102 boundary:103 road:200 regulatory_element:202
+  deleted   -
+  warning   geometric_gap lane:1: lane:208 starts 4.000 m away from the end of lane:1; formats with implicit topology (Lanelet2) will not preserve this link
+  warning   geometric_gap lane:208: lane:3 starts 4.000 m away from the end of lane:208; formats with implicit topology (Lanelet2) will not preserve this link
+"
+    );
+    assert_eq!(folder.text("gate.yard"), before);
+    assert_eq!(folder.told("check closed.yard", 0), "closed.yard: sound\n");
+    assert!(folder.text("closing.svg").contains("job of 6 edits"));
+
+    // The same edits, one by one.
+    for line in folder.text("closing.job").lines().map(|l| l.split('#').next().unwrap_or("").trim()) {
+        if let Some((edit, rest)) = line.split_once(' ') {
+            folder.told(&format!("{edit} gate.yard {rest}"), 0);
+        }
+    }
+    assert_eq!(folder.text("gate.yard"), folder.text("closed.yard"));
+}
+
+#[test]
+fn refused_jobs_tell_the_line_and_change_nothing() {
+    let folder = Folder::new("refused-jobs");
+    let before = folder.text("gate.yard");
+    job(&folder, "split 1 --station 15 # 207\n\n  # not yet\nmerge 1 2\nremove 3\n");
+    assert_eq!(
+        folder.told("job gate.yard edits.job", 12),
+        "job of 3 edits: refused, 12 edit refused
+  edit 2, edits.job line 4: merge lane:1 and lane:2: refused, 5 not mergeable
+  cannot merge lane:1 and lane:2: lane:2 must be the only successor of lane:1 (successors: [lane:207]) (line 6)
+"
+    );
+    let told = folder.told("job gate.yard edits.job --json", 12);
+    assert!(told.starts_with("{\"op\":\"job\",\"number\":12,\"refusal\":\"edit refused\",\"place\":2,\"edits_line\":4,\"edit\":{\"op\":\"merge_lanes\",\"number\":5,"), "{told}");
+    job(&folder, &"connect 1 3\n".repeat(65));
+    assert!(
+        folder.told("job gate.yard edits.job", 13).contains("refused, 13 too many edits\n  a job has at most 64 edits")
+    );
+    for (text, told) in [
+        (
+            "remove 1\nshow\n",
+            "edits.job: line 2: expected split, merge, connect, disconnect, neighbor, remove, found show",
+        ),
+        ("job x.job\n", "edits.job: line 1: expected split"),
+        ("merge 1\n", "edits.job: line 1: expected two lanes behind merge"),
+        ("merge 1 2 --alone\n", "edits.job: line 1: --alone is no option here; expected none"),
+        ("split 1 --fraction 0.5 --output x\n", "line 1: --output is no option here"),
+        ("--alone\n", "edits.job: line 1: expected an edit"),
+    ] {
+        job(&folder, text);
+        assert!(folder.told("job gate.yard edits.job", 65).contains(told), "{text}");
+    }
+    assert!(folder.told("job gate.yard nowhere.job", 66).contains("nowhere.job cannot be read"));
+    assert_eq!(folder.text("gate.yard"), before);
+}
+
+#[test]
+fn programs_read_jobs() {
+    let folder = Folder::new("json-jobs");
+    job(&folder, "disconnect 1 3\nconnect 1 3\n");
+    assert_eq!(
+        folder.told("job gate.yard edits.job --json", 0),
+        "{\"op\":\"job\",\"number\":0,\"edits\":2,\"created\":[],\"modified\":[{\"kind\":\"lane\",\"id\":1},{\"kind\":\"lane\",\"id\":3}],\"deleted\":[],\"warnings\":[],\"next\":204}\n"
+    );
+    job(&folder, "");
+    assert!(folder.told("job gate.yard edits.job", 0).starts_with("job of 0 edits: made, nothing changed\n"));
 }
 
 #[test]
@@ -230,8 +316,8 @@ fn programs_read_json() {
         folder.told("check gate.yard --json", 0),
         "{\"sound\":true,\"clause\":null,\"entity\":null,\"line\":null}\n"
     );
-    let told = folder.told("show nowhere.yard --json", 13);
-    assert!(told.starts_with("{\"status\":13,\"message\":\"nowhere.yard cannot be read"), "{told}");
+    let told = folder.told("show nowhere.yard --json", 66);
+    assert!(told.starts_with("{\"status\":66,\"message\":\"nowhere.yard cannot be read"), "{told}");
     let shown = folder.told("show crane.yard --json", 0);
     assert!(shown.contains("\"left_neighbor\":{\"lane\":3,\"direction\":\"opposite\"}"), "{shown}");
 }

@@ -66,6 +66,13 @@ pub fn expected(answer: &Answer, mut lists: [Vec<u64>; 4]) -> (Raw, [Vec<u64>; 4
     }
 }
 
+/// A panic as a difference is told.
+pub fn panicked(e: Box<dyn std::any::Any + Send>) -> Option<String> {
+    let text = e.downcast_ref::<String>().cloned();
+    let text = text.or(e.downcast_ref::<&str>().map(|s| s.to_string()));
+    Some(format!("a panic: {}", text.unwrap_or_default()))
+}
+
 /// One call to compare, with the words that it is sent as and the words that its lists have over.
 struct Sent<'a> {
     before: &'a State,
@@ -94,11 +101,7 @@ impl<'a> Sent<'a> {
     /// The first thing in which the editor departs from the oracle, if any. `memory` holds the map,
     /// and is left as the editor left it. A panic is such a thing too.
     fn difference(&self, editor: &mut dyn Editor, memory: &mut Memory) -> Option<String> {
-        quietly(|| self.compared(editor, memory)).unwrap_or_else(|e| {
-            let text = e.downcast_ref::<String>().cloned();
-            let text = text.or(e.downcast_ref::<&str>().map(|s| s.to_string()));
-            Some(format!("a panic: {}", text.unwrap_or_default()))
-        })
+        quietly(|| self.compared(editor, memory)).unwrap_or_else(panicked)
     }
 
     fn compared(&self, editor: &mut dyn Editor, memory: &mut Memory) -> Option<String> {
@@ -124,9 +127,10 @@ impl<'a> Sent<'a> {
         if memory.row.difference(&self.row).is_some() {
             return Some("the command's row was written".into());
         }
-        let place = memory
-            .trespass()
-            .or(table_difference(memory, &after.tables))?;
+        let place =
+            memory
+                .trespass()
+                .or(table_difference(&memory.words, &memory.xyz, &after.tables))?;
         // Tables that differ in words that are not used hold the same map.
         let own = State::new(memory.tables(), memory.counter);
         let agree = match (&own.map, &after.map) {
@@ -144,19 +148,23 @@ impl<'a> Sent<'a> {
 
 /// The first word in which the tables differ. Every word is compared by its bits: the coordinates of
 /// a sound map's lines are finite, and what no line covers stays as it came, a NaN's payload too.
-fn table_difference(got: &Memory, want: &Tables) -> Option<String> {
+pub fn table_difference(
+    words: &[Slice<u64>; 7],
+    xyz: &Slice<f64>,
+    want: &Tables,
+) -> Option<String> {
     for k in 0..7 {
-        if let Some(i) = got.words[k].difference(&want.words[k]) {
+        if let Some(i) = words[k].difference(&want.words[k]) {
             let place = match i {
                 0 => "count".into(),
                 _ => format!("row {} word {}", (i - 1) / ROW[k], (i - 1) % ROW[k]),
             };
-            let (a, b) = (got.words[k].get()[i], want.words[k][i]);
+            let (a, b) = (words[k].get()[i], want.words[k][i]);
             return Some(format!("{} {place}: {a}, expected {b}", NAMES[k]));
         }
     }
-    let i = got.xyz.difference(&want.xyz)?;
-    let (a, b) = (got.xyz.get()[i], want.xyz[i]);
+    let i = xyz.difference(&want.xyz)?;
+    let (a, b) = (xyz.get()[i], want.xyz[i]);
     Some(format!(
         "coordinate {i}: {a:?} ({:x}), expected {b:?} ({:x})",
         a.to_bits(),
@@ -258,13 +266,17 @@ fn smaller(m: &Map) -> Vec<Change> {
 }
 
 /// How long a run's differences may be made smaller, all together.
-const PATIENCE: Duration = Duration::from_secs(5);
+pub const PATIENCE: Duration = Duration::from_secs(5);
 
-/// The smallest map found in time on which the call still departs: entities, links, points and list
+/// The smallest map found in time on which something still departs: entities, links, points and list
 /// entries are dropped as long as it does.
-fn shrink(editor: &mut dyn Editor, sent: &Sent, until: Instant) -> (State, String) {
-    let mut best = sent.before.clone();
-    let mut said = departs(editor, sent).expect("it departs");
+pub fn shrunk(
+    before: &State,
+    mut said: String,
+    until: Instant,
+    mut departs: impl FnMut(&State) -> Option<String>,
+) -> (State, String) {
+    let mut best = before.clone();
     'again: while let Some(map) = &best.map {
         for change in smaller(map) {
             if Instant::now() > until {
@@ -277,13 +289,8 @@ fn shrink(editor: &mut dyn Editor, sent: &Sent, until: Instant) -> (State, Strin
             // With nothing, then with something in the words that are not used.
             for fill in [0, FILL] {
                 let next = State::new(filled(&m, 12, 100, fill), best.counter);
-                let less = Sent {
-                    before: &next,
-                    row: sent.row.clone(),
-                    ..*sent
-                };
                 if next.map.is_some()
-                    && let Some(text) = departs(editor, &less)
+                    && let Some(text) = departs(&next)
                 {
                     (best, said) = (next, text);
                     continue 'again;
@@ -295,8 +302,22 @@ fn shrink(editor: &mut dyn Editor, sent: &Sent, until: Instant) -> (State, Strin
     (best, said)
 }
 
+/// The smallest map found in time on which the call still departs.
+fn shrink(editor: &mut dyn Editor, sent: &Sent, until: Instant) -> (State, String) {
+    let said = departs(editor, sent).expect("it departs");
+    shrunk(sent.before, said, until, |next| {
+        let row = sent.row.clone();
+        let less = Sent {
+            before: next,
+            row,
+            ..*sent
+        };
+        departs(editor, &less)
+    })
+}
+
 /// The map in words that a reader can follow.
-fn describe(state: &State) -> String {
+pub fn describe(state: &State) -> String {
     let Some(m) = &state.map else {
         return format!("a map that is not sound, counter {}", state.counter);
     };
@@ -623,7 +644,7 @@ fn slips() -> Vec<Fault> {
 /// 10,000 calls.
 pub fn try_out(seed: u64, count: usize) -> bool {
     let cases = || (0..count).map(|i| generate::case(seed, i, Profile::Full));
-    let mut good = true;
+    let mut good = crate::jobs::try_out(seed, count);
     let out = compare(&mut Own { fault: None }, cases());
     println!(
         "no fault: {} differences in {} calls",

@@ -119,6 +119,82 @@ fn time(name: &str, m: &Map, call: Call) {
     println!("{name:34}{alone:>10.1}{first:>14.1}{editor}");
 }
 
+/// A job beside the Rust's way to make one: a clone of the map to go back to, its edits, and one test of soundness. Clones of what is compared are not timed.
+fn time_job(name: &str, m: &Map, calls: &[Call]) {
+    let rows: Vec<u64> = calls.iter().flat_map(|c| c.row()).collect();
+    let state = State::new(crate::cases::plain(m, 40, 400), m.peek_next_id());
+    let mut editor = crate::ffi::jobs();
+    let once = |tested: bool| {
+        let mut map = m.clone();
+        let (took, kept) = timed(|| {
+            let kept = black_box(&map).clone();
+            if tested {
+                assert!(sound::map_sound(black_box(&map), m.peek_next_id()));
+            }
+            let made = calls.iter().all(|call| edit(black_box(&mut map), call).is_ok());
+            assert!(made, "{name}");
+            kept
+        });
+        black_box(kept);
+        took
+    };
+    let mut area = state.tables.clone();
+    let mut job = |room: &Room, number: u64| {
+        let Some(editor) = &mut editor else { return Duration::ZERO };
+        let mut lent = crate::against::lend(&state, room);
+        let (took, told) = timed(|| black_box(&mut **editor).call(&rows, black_box(&mut lent), black_box(&mut area)));
+        assert_eq!(told.number, number, "{name}: {told:?}");
+        took
+    };
+    // Without a list a job is decided, and put back; without an edit nothing is wanting.
+    let (none, number) = (Room { modified: 0, ..AMPLE }, if calls.is_empty() { 0 } else { 10 });
+    let [alone, first, whole, decided, test] = medians(|_| {
+        let test = tested_by_editor(&state.tables, state.counter).unwrap_or_default();
+        [once(false), once(true), job(&AMPLE, 0), job(&none, number), test]
+    });
+    println!(
+        "{name:34}{alone:>10.1}{first:>14.1}{whole:>12.1}{:>8.2}{test:>10.1}{decided:>10.1}",
+        whole / first
+    );
+}
+
+/// Jobs of ten edits: one that closes a gate, and ten of a kind.
+pub fn jobs() -> bool {
+    let plain = grid(100, 10, 8);
+    let mut furnished = plain.clone();
+    furnish(&mut furnished, 256, 256, 512);
+    let split = |lane| Call::SplitLane { lane, at: SplitAt::Fraction(0.5), neighbors: false };
+    let connect = |from, to| Call::Connect { from, to };
+    let remove = |lane| Call::RemoveLane { lane };
+    let gate = [
+        split(501),
+        split(504),
+        Call::Disconnect { from: 511, to: 521 },
+        Call::Disconnect { from: 514, to: 524 },
+        connect(501, 512),
+        connect(504, 515),
+        Call::SetNeighbor { lane: 303, side: Side::Left, neighbor: None },
+        Call::MergeLanes { first: 605, second: 615 },
+        remove(402),
+        remove(406),
+    ];
+    let ten = |call: &dyn Fn(u64) -> Call| -> Vec<Call> { (0..10).map(|i| call(301 + 21 * i)).collect() };
+    println!("jobs of ten edits, microseconds, median of {TURNS}; the Rust's with the clone that it goes back to");
+    println!(
+        "{:34}{:>10}{:>14}{:>12}{:>8}{:>10}{:>10}",
+        "", "the Rust", "tested first", "the editor", "ratio", "its test", "put back"
+    );
+    for (map, with) in [(&plain, ""), (&furnished, ", with rules")] {
+        time_job(&format!("closing a gate{with}"), map, &gate);
+        time_job(&format!("ten connects{with}"), map, &ten(&|l| connect(l, l + 11)));
+        time_job(&format!("ten removals{with}"), map, &ten(&remove));
+        time_job(&format!("ten splits{with}"), map, &ten(&split));
+        time_job(&format!("ten merges{with}"), map, &ten(&|l| Call::MergeLanes { first: l, second: l + 10 }));
+    }
+    time_job("no edit", &plain, &[]);
+    true
+}
+
 /// `rows` rows of eight lanes beside each other, 4,096 boundaries, 65,536 points, 256 roads, 256 junctions and 512 rules: with 128 rows the limits of document 01,
 /// less `spare` boundaries that no lane has.
 fn full(rows: usize, spare: usize) -> Map {
@@ -320,6 +396,7 @@ pub fn run() -> bool {
     stages("split_lane, one, full map, by stages", &roomy, beside(false));
     stages("merge_lanes, by stages", &plain, merge);
     stages("merge_lanes, full map, by stages", &spared, ahead);
+    jobs();
     sound();
     let [c] = medians(|_| [timed(|| black_box(black_box(&plain).clone())).0]);
     println!("a clone of the Rust's map: {c:.1}");

@@ -1,6 +1,6 @@
 //! The editor under test, as the comparison sees it, and the library's functions behind that.
 
-use crate::memory::Memory;
+use crate::memory::{Area, Memory};
 use crate::step::{Call, Entity};
 use crate::tables::Tables;
 
@@ -33,8 +33,37 @@ pub trait Editor {
     }
 }
 
+/// The answer to a job by value: number, place and own number of the refused edit with its entity, the counts of the four lists, and the counter.
+#[derive(Clone, Debug, PartialEq, Default)]
+pub struct Told {
+    pub number: u64,
+    pub place: u64,
+    pub own: u64,
+    pub entity: Option<Entity>,
+    pub counts: [usize; 4],
+    pub counter: u64,
+}
+
+pub trait Jobs {
+    /// A job between guards, its rows as they stand there.
+    fn on(&mut self, memory: &mut Memory, area: &mut Area) -> Told;
+
+    /// A job for a benchmark, with nothing beside it.
+    fn call(&mut self, _rows: &[u64], _lent: &mut Lent, _area: &mut Tables) -> Told {
+        unreachable!("the library alone is timed")
+    }
+}
+
 /// The library of `rt staticlib`, if this program was built with it.
 pub fn library() -> Option<Box<dyn Editor>> {
+    #[cfg(feature = "against")]
+    return Some(Box::new(linked::Library));
+    #[cfg(not(feature = "against"))]
+    None
+}
+
+/// The library for jobs.
+pub fn jobs() -> Option<Box<dyn Jobs>> {
     #[cfg(feature = "against")]
     return Some(Box::new(linked::Library));
     #[cfg(not(feature = "against"))]
@@ -67,7 +96,7 @@ pub fn clause(t: &Tables, counter: u64) -> Option<u64> {
 mod linked {
     use voldrekka::sys;
 
-    use super::{Call, Editor, Lent, Memory, Raw, Tables};
+    use super::{Area, Call, Editor, Jobs, Lent, Memory, Raw, Tables, Told};
 
     pub fn sound(t: &Tables, counter: u64) -> bool {
         sys::sound(counter, t.words.each_ref().map(|w| &w[..]), &t.xyz)
@@ -98,6 +127,46 @@ mod linked {
                 &call.row(),
                 lent.lists.each_mut().map(|l| &mut l[..]),
             ))
+        }
+    }
+
+    impl Jobs for Library {
+        fn on(&mut self, memory: &mut Memory, area: &mut Area) -> Told {
+            told(sys::job(
+                &mut memory.counter,
+                memory.words.each_mut().map(|s| s.get_mut()),
+                memory.xyz.get_mut(),
+                memory.row.get(),
+                area.words.each_mut().map(|s| s.get_mut()),
+                area.xyz.get_mut(),
+                memory.lists.each_mut().map(|s| s.get_mut()),
+            ))
+        }
+
+        fn call(&mut self, rows: &[u64], lent: &mut Lent, area: &mut Tables) -> Told {
+            told(sys::job(
+                &mut lent.counter,
+                lent.tables.words.each_mut().map(|w| &mut w[..]),
+                &mut lent.tables.xyz,
+                rows,
+                area.words.each_mut().map(|w| &mut w[..]),
+                &mut area.xyz,
+                lent.lists.each_mut().map(|l| &mut l[..]),
+            ))
+        }
+    }
+
+    fn told(t: sys::JobAnswer) -> Told {
+        if t.kind == 0 {
+            assert_eq!(t.id, 0, "no entity, and an id");
+        }
+        Told {
+            number: t.number,
+            place: t.place,
+            own: t.own,
+            entity: (t.kind > 0).then(|| (t.kind - 1, t.id)),
+            counts: [t.created, t.modified, t.deleted, t.warnings].map(|n| n as usize),
+            counter: t.counter,
         }
     }
 

@@ -169,6 +169,38 @@ pub fn case_of(seed: u64, index: usize, profile: Profile, edits: &[usize]) -> Ca
     }
 }
 
+/// A map of the same kinds for jobs, with the calls that it was made for; not sound where it is to be damaged.
+pub fn map(seed: u64, index: usize) -> (Tables, u64, Vec<Call>) {
+    let mut rng = Rng::new(seed ^ (index as u64 + 1).wrapping_mul(0xD134_2543_DE82_EF95));
+    let rng = &mut rng;
+    if index % 400 == 399 {
+        let (m, counter) = large_map(rng, index / 400);
+        return (crate::cases::plain(&m, 40, 400), counter, Vec::new());
+    }
+    let aim = match index % 20 {
+        5 | 10 => Aim::Edge,
+        _ => aim(index),
+    };
+    let lanes = match index % 40 {
+        34 => rng.within(20, 90),
+        _ => rng.within(2, 10),
+    };
+    loop {
+        let (m, mut counter, first) = Builder::new(rng, aim, lanes).make();
+        // Room for long jobs, or what single calls are lent.
+        let mut tables = match aim {
+            Aim::Plain if rng.chance(60) => {
+                crate::cases::filled(&m, rng.within(20, 120), rng.within(100, 3000), rng.word())
+            }
+            _ => scatter(rng, &m, aim, Profile::Full),
+        };
+        match aim {
+            Aim::Damage(way) if !damage::apply(way, rng, &mut tables, &mut counter) => continue,
+            _ => return (tables, counter, first),
+        }
+    }
+}
+
 // ---- maps --------------------------------------------------------------------------------------
 
 struct Builder<'a> {
@@ -1137,7 +1169,8 @@ fn room(rng: &mut Rng, state: &State, call: &Call) -> Room {
     }
 }
 
-fn call(rng: &mut Rng, state: &State) -> Call {
+/// A call that may be refused.
+pub fn call(rng: &mut Rng, state: &State) -> Call {
     let m = state.map.as_ref().expect("calls are made up on sound maps");
     let ids: Vec<u64> = m.lanes().map(|l| l.id.0).collect();
     let lane = |rng: &mut Rng| match rng.below(40) {
@@ -1351,7 +1384,7 @@ pub fn furnish(m: &mut Map, roads: usize, junctions: usize, rules: usize) {
 }
 
 /// Maps at the limits of document 01.
-fn large(rng: &mut Rng, which: usize, edits: &[usize]) -> Case {
+fn large_map(rng: &mut Rng, which: usize) -> (Map, u64) {
     let mut m = match which % 5 {
         // 1,020 lanes: a split of a group of ten passes 1,024.
         0 => grid(102, 10, 4),
@@ -1377,6 +1410,11 @@ fn large(rng: &mut Rng, which: usize, edits: &[usize]) -> Case {
     };
     let counter = highest(&m).expect("ids") + 1;
     access::set_counter(&mut m, counter);
+    (m, counter)
+}
+
+fn large(rng: &mut Rng, which: usize, edits: &[usize]) -> Case {
+    let (m, counter) = large_map(rng, which);
     let tables = crate::cases::plain(&m, 40, 400);
     let state = State::new(tables.clone(), counter);
     assert!(

@@ -12,6 +12,7 @@ mod digest;
 mod ffi;
 mod format;
 mod generate;
+mod jobs;
 mod lines;
 mod memory;
 mod rng;
@@ -35,9 +36,11 @@ oracle digests FILE                what a replay of such a stream must write: ea
 oracle lines SEED COUNT            a stream of calls of the line functions with their answers
 oracle check SEED COUNT            make them, keep nothing, and try document 01's claims on each call
 oracle against SEED COUNT          call by call beside the editor's library (feature against)
+oracle jobs SEED COUNT             jobs of several edits on COUNT maps beside the library (feature against)
 oracle sound SEED COUNT            the library's test of soundness beside the oracle's own (feature against)
 oracle try SEED COUNT              the comparison, tried on the oracle itself with faults planted
 oracle bench                       times of the Rust, with and without a test of soundness
+oracle bench jobs                  times of jobs of ten edits
 oracle bench sound                 times of the test of soundness alone
 oracle bench once NAME             one call of the editor's test on the map of that name
 oracle replay FILE                 read a stored stream of lines and make its calls again
@@ -156,6 +159,7 @@ fn main() {
     let good = match words[..] {
         ["cases"] => cases::run(),
         ["bench"] => bench::run(),
+        ["bench", "jobs"] => bench::jobs(),
         ["bench", "sound"] => bench::sound(),
         ["bench", "once", name] => bench::once(name),
         ["yard"] => yard::run(),
@@ -168,6 +172,7 @@ fn main() {
         }
         ["check", seed, count] => check(number(seed), number(count) as usize),
         ["against", seed, count] => against::run(number(seed), number(count) as usize),
+        ["jobs", seed, count] => jobs::run(number(seed), number(count) as usize),
         ["sound", seed, count] => verdicts(number(seed), number(count) as usize),
         ["try", seed, count] => against::try_out(number(seed), number(count) as usize),
         ["rows", seed, count, dir] => {

@@ -74,6 +74,32 @@ impl<T: Word> Slice<T> {
     }
 }
 
+/// A second map area.
+#[derive(Clone)]
+pub struct Area {
+    pub words: [Slice<u64>; 7],
+    pub xyz: Slice<f64>,
+}
+
+impl Area {
+    pub fn new(tables: &Tables) -> Self {
+        Area {
+            words: std::array::from_fn(|k| Slice::new(&tables.words[k])),
+            xyz: Slice::new(&tables.xyz),
+        }
+    }
+
+    /// The slice whose guard was written, and where.
+    pub fn trespass(&self) -> Option<String> {
+        let words = self.words.iter().zip(crate::tables::NAMES);
+        let hit = words
+            .into_iter()
+            .find_map(|(s, name)| s.trespass().map(|i| (name, i)));
+        let hit = hit.or(self.xyz.trespass().map(|i| ("coordinates", i)));
+        hit.map(|(name, i)| format!("the area's {name}: word {i} is outside, and was written"))
+    }
+}
+
 /// Everything that a call is lent, and after it what it left.
 #[derive(Clone)]
 pub struct Memory {
@@ -82,7 +108,7 @@ pub struct Memory {
     pub counter: u64,
     /// created, modified, deleted (two words a pair) and warnings (ten each).
     pub lists: [Slice<u64>; 4],
-    /// The command as a row of words.
+    /// The command as a row of words, or a job's rows.
     pub row: Slice<u64>,
 }
 

@@ -1,9 +1,10 @@
 //! The command line.
 
-use std::path::PathBuf;
+use std::path::{Path, PathBuf};
 use std::str::FromStr;
 
 use crate::Failure;
+use crate::files;
 use voldrekka::{Command, Kind, LaneId, Neighbor, NeighborDirection, Side, SplitAt};
 
 pub const USAGE: &str = "\
@@ -18,32 +19,40 @@ voldrekka: shows, checks, edits and draws lane maps (docs/MAPS.md)
   voldrekka disconnect FILE FROM TO                    removes a link
   voldrekka neighbor FILE LANE left|right OTHER        sets the lane beside it: ID:same, ID:opposite, or none
   voldrekka remove FILE LANE                           removes a lane
-  voldrekka draw FILE [EDIT ..]                        a picture of the map, or of an edit (split 1 --fraction 0.5): before and after
+  voldrekka job FILE EDITS                             makes the edits of the file EDITS, one a line (split 1 --fraction 0.5), all of them or none
+  voldrekka draw FILE [EDIT ..]                        a picture of the map, or of an edit (split 1 --fraction 0.5) or a job (job EDITS): before and after
 
-An edit replaces FILE once all has gone well. With --output OTHER it is left alone and OTHER is written, with --dry-run nothing is; --draw SVG draws the edit too.
+An edit or a job replaces FILE once all has gone well. With --output OTHER it is left alone and OTHER is written, with --dry-run nothing is; --draw SVG draws it too.
 draw writes FILE's name with the ending svg, or --output SVG. --json: answers for programs.
 
-Exit status: 0 done; 1 to 11 the edit was refused with that number, and check gives 9 for a map that is not sound;
-12 the command line, 13 a file that cannot be read or written, 14 a line of the map, 15 the machine's floating-point state.
+Exit status: 0 done; 1 to 11 the edit was refused with that number, and check gives 9 for a map that is not sound; a job is refused with 9, 10, 12 (one of its
+edits, told with its line) or 13 (more than 64); 64 the command line, 65 a line of a file, 66 a file that cannot be read or written, 70 the machine's floating-point state.
 ";
 
 pub struct Request {
-    pub job: Job,
+    pub task: Task,
     pub json: bool,
 }
 
-pub enum Job {
+pub enum Task {
     Help,
     Show { file: PathBuf },
     Check { file: PathBuf },
     Edit(Edit),
-    Draw { file: PathBuf, edit: Option<Command>, output: Option<PathBuf> },
+    Draw { file: PathBuf, edit: Option<Change>, output: Option<PathBuf> },
 }
 
-/// An edit, and where to write.
+/// What is to be made of a map.
+pub enum Change {
+    Edit(Command),
+    /// The edits of this file, all of them or none.
+    Job(PathBuf),
+}
+
+/// An edit or a job, and where to write.
 pub struct Edit {
     pub file: PathBuf,
-    pub command: Command,
+    pub change: Change,
     /// Where the map goes, if not to its own file.
     pub output: Option<PathBuf>,
     pub dry_run: bool,
@@ -82,6 +91,9 @@ impl Words {
     /// No option but those known, and none twice.
     fn check(&self, known: &[&str]) -> Told<()> {
         for (i, (option, _)) in self.options.iter().enumerate() {
+            if known.is_empty() {
+                return Err(format!("{option} is no option here; expected none"));
+            }
             if !known.contains(&option.as_str()) {
                 return Err(format!("{option} is no option here; expected one of {}", known.join(", ")));
             }
@@ -113,36 +125,36 @@ fn options(plain: &[&str]) -> Vec<&'static str> {
         ["draw", ..] => (&["--output"], None),
         [edit, ..] => (&["--output", "--dry-run", "--draw"], Some(*edit)),
     };
-    let split: &[&str] = if edit == Some("split") { &["--fraction", "--station", "--alone"] } else { &[] };
+    let split: &[&str] = if edit == Some("split") { &SPLIT } else { &[] };
     [&["--json"], own, split].concat()
 }
 
 pub fn read(words: &[String]) -> Result<Request, Failure> {
     let request = Words::of(words).and_then(|words| {
-        let job = job(&words)?;
-        Ok(Request { job, json: words.flag("--json") })
+        let task = task(&words)?;
+        Ok(Request { task, json: words.flag("--json") })
     });
     request.map_err(|e| Failure::Usage(format!("{e} (voldrekka --help)")))
 }
 
-fn job(words: &Words) -> Told<Job> {
+fn task(words: &Words) -> Told<Task> {
     let plain: Vec<&str> = words.plain.iter().map(String::as_str).collect();
     if words.flag("--help") || plain.first() == Some(&"help") {
-        return Ok(Job::Help);
+        return Ok(Task::Help);
     }
     words.check(&options(&plain))?;
     let output = words.path("--output");
     match plain[..] {
-        ["show", file] => Ok(Job::Show { file: file.into() }),
-        ["check", file] => Ok(Job::Check { file: file.into() }),
+        ["show", file] => Ok(Task::Show { file: file.into() }),
+        ["check", file] => Ok(Task::Check { file: file.into() }),
         ["show" | "check", ..] => Err("expected one file".into()),
-        ["draw", file] => Ok(Job::Draw { file: file.into(), edit: None, output }),
+        ["draw", file] => Ok(Task::Draw { file: file.into(), edit: None, output }),
         ["draw", file, edit, ref rest @ ..] => {
-            Ok(Job::Draw { file: file.into(), edit: Some(command(edit, rest, words)?), output })
+            Ok(Task::Draw { file: file.into(), edit: Some(change(edit, rest, words)?), output })
         }
-        [edit, file, ref rest @ ..] => Ok(Job::Edit(Edit {
+        [edit, file, ref rest @ ..] => Ok(Task::Edit(Edit {
             file: file.into(),
-            command: command(edit, rest, words)?,
+            change: change(edit, rest, words)?,
             output,
             dry_run: words.flag("--dry-run"),
             picture: words.path("--draw"),
@@ -150,6 +162,56 @@ fn job(words: &Words) -> Told<Job> {
         _ => Err("expected a command and a file".into()),
     }
 }
+
+/// An edit or a job, and what follows it.
+fn change(edit: &str, rest: &[&str], words: &Words) -> Told<Change> {
+    match (edit, rest) {
+        ("job", [edits]) => Ok(Change::Job(edits.into())),
+        ("job", _) => Err("expected the file of a job's edits".into()),
+        _ => command(edit, rest, words).map(Change::Edit),
+    }
+}
+
+/// An edit of a job, and the line on which it stands.
+pub struct Line {
+    pub line: usize,
+    pub command: Command,
+}
+
+/// The edits of a job: a line each, in the words of the command line without the file; what follows a `#` is a comment.
+pub fn edits(file: &Path) -> Result<Vec<Line>, Failure> {
+    let mut all = Vec::new();
+    for (i, text) in files::text(file)?.lines().enumerate() {
+        let code = text.split('#').next().unwrap_or("");
+        let words: Vec<String> = code.split_whitespace().map(String::from).collect();
+        if words.is_empty() {
+            continue;
+        }
+        let command = edit(&words).map_err(|e| Failure::Text(format!("{}: line {}: {e}", file.display(), i + 1)))?;
+        all.push(Line { line: i + 1, command });
+    }
+    Ok(all)
+}
+
+/// The words of one line.
+fn edit(words: &[String]) -> Told<Command> {
+    let words = Words::of(words)?;
+    let plain: Vec<&str> = words.plain.iter().map(String::as_str).collect();
+    let Some((edit, rest)) = plain.split_first() else {
+        return Err("expected an edit".into());
+    };
+    if !EDITS.contains(edit) {
+        return Err(format!("expected {}, found {edit}", EDITS.join(", ")));
+    }
+    words.check(if *edit == "split" { &SPLIT } else { &[] })?;
+    command(edit, rest, &words)
+}
+
+/// The edits that a line of a job may name.
+const EDITS: [&str; 6] = ["split", "merge", "connect", "disconnect", "neighbor", "remove"];
+
+/// The options of a split.
+const SPLIT: [&str; 3] = ["--fraction", "--station", "--alone"];
 
 /// An edit, and what follows it.
 fn command(edit: &str, rest: &[&str], words: &Words) -> Told<Command> {
@@ -168,7 +230,7 @@ fn command(edit: &str, rest: &[&str], words: &Words) -> Told<Command> {
             _ => Err("expected one lane".into()),
         },
         _ => Err(format!(
-            "expected show, check, split, merge, connect, disconnect, neighbor, remove or draw, found {edit}"
+            "expected show, check, split, merge, connect, disconnect, neighbor, remove, job or draw, found {edit}"
         )),
     }
 }

@@ -7,9 +7,12 @@ use std::path::{Path, PathBuf};
 use crate::Failure;
 use voldrekka::text::Document;
 
+pub fn text(file: &Path) -> Result<String, Failure> {
+    fs::read_to_string(file).map_err(|e| failed(file, "cannot be read", e))
+}
+
 pub fn read(file: &Path) -> Result<Document, Failure> {
-    let text = fs::read_to_string(file).map_err(|e| failed(file, "cannot be read", e))?;
-    Document::read(&text).map_err(|e| Failure::Text(format!("{}: {e}", file.display())))
+    Document::read(&text(file)?).map_err(|e| Failure::Text(format!("{}: {e}", file.display())))
 }
 
 /// A text on its way: it stands beside its file until it is renamed, and goes if it never is.

@@ -2,6 +2,7 @@
 
 use std::path::Path;
 
+use crate::arguments::Line;
 use crate::json::Json;
 use voldrekka::text::Document;
 use voldrekka::*;
@@ -32,6 +33,23 @@ pub fn sentence(command: &Command) -> String {
     }
 }
 
+/// A job in words.
+pub fn job_sentence(edits: usize) -> String {
+    match edits {
+        1 => "job of 1 edit".into(),
+        n => format!("job of {n} edits"),
+    }
+}
+
+/// The refused edit of a job: where it stands in the file of edits, and what it says.
+struct RefusedEdit<'a> {
+    place: usize,
+    edit: &'a Line,
+    refused: &'a Refused,
+    /// The line of the map on which the entity stands that the refusal names.
+    entity_line: Option<usize>,
+}
+
 impl Report {
     fn print(&self, json: impl FnOnce() -> Json, text: impl FnOnce() -> String) {
         match self.json {
@@ -47,6 +65,23 @@ impl Report {
     pub fn refused(&self, document: &Document, command: &Command, refused: &Refused) {
         let line = refused.refusal.entity.and_then(|e| document.line_of(e));
         self.print(|| refused_json(command, refused, line), || refused_text(command, refused, line));
+    }
+
+    pub fn job_done(&self, edits: usize, changes: &ChangeSet, next: u64) {
+        self.print(|| job_done_json(edits, changes, next), || job_done_text(edits, changes));
+    }
+
+    pub fn job_refused(&self, document: &Document, file: &Path, lines: &[Line], refused: &JobRefused) {
+        let edit = refused.edit().map(|(place, refused)| RefusedEdit {
+            place,
+            edit: &lines[place - 1],
+            refused,
+            entity_line: refused.refusal.entity.and_then(|e| document.line_of(e)),
+        });
+        self.print(
+            || job_refused_json(refused, edit.as_ref()),
+            || job_refused_text(lines.len(), file, refused, edit.as_ref()),
+        );
     }
 
     pub fn checked(&self, file: &Path, document: &Document, fault: Option<&Fault>) {
@@ -104,18 +139,41 @@ fn entities(list: &[EntityRef]) -> String {
     list.iter().map(EntityRef::to_string).collect::<Vec<_>>().join(" ")
 }
 
-fn done_text(command: &Command, done: &Done) -> String {
-    let second = done.second.map_or(String::new(), |id| format!(", the second half is {id}"));
-    let nothing = if done.changes.is_empty() { ", nothing changed" } else { "" };
+/// What changed, a list a line, and a warning a line.
+fn changes_text(changes: &ChangeSet) -> String {
     let mut rows = vec![
-        vec!["created".into(), entities(&done.changes.created)],
-        vec!["modified".into(), entities(&done.changes.modified)],
-        vec!["deleted".into(), entities(&done.changes.deleted)],
+        vec!["created".into(), entities(&changes.created)],
+        vec!["modified".into(), entities(&changes.modified)],
+        vec!["deleted".into(), entities(&changes.deleted)],
     ];
-    for issue in &done.changes.warnings {
+    for issue in &changes.warnings {
         rows.push(vec![issue.severity.to_string(), format!("{} {}: {}", issue.code, issue.entity, issue.message)]);
     }
-    format!("{}: accepted{second}{nothing}\n{}", sentence(command), table(&rows))
+    table(&rows)
+}
+
+/// What is said of an accepted edit or a made job that changed nothing.
+fn nothing(changes: &ChangeSet) -> &'static str {
+    if changes.is_empty() { ", nothing changed" } else { "" }
+}
+
+fn done_text(command: &Command, done: &Done) -> String {
+    let second = done.second.map_or(String::new(), |id| format!(", the second half is {id}"));
+    let nothing = nothing(&done.changes);
+    format!("{}: accepted{second}{nothing}\n{}", sentence(command), changes_text(&done.changes))
+}
+
+fn job_done_text(edits: usize, changes: &ChangeSet) -> String {
+    format!("{}: made{}\n{}", job_sentence(edits), nothing(changes), changes_text(changes))
+}
+
+fn job_refused_text(edits: usize, file: &Path, refused: &JobRefused, edit: Option<&RefusedEdit>) -> String {
+    let head = format!("{}: refused, {} {}\n", job_sentence(edits), refused.number(), refused.name());
+    let Some(RefusedEdit { place, edit, refused, entity_line }) = edit else {
+        return format!("{head}  {refused}\n");
+    };
+    let at = format!("edit {place}, {} line {}", file.display(), edit.line);
+    format!("{head}  {at}: {}", refused_text(&edit.command, refused, *entity_line))
 }
 
 fn refused_text(command: &Command, refused: &Refused, line: Option<usize>) -> String {
@@ -141,17 +199,44 @@ fn issue(issue: &Issue) -> Json {
     ])
 }
 
-fn done_json(command: &Command, done: &Done, next: u64) -> Json {
+/// The lists and the next id behind what was done.
+fn changes_json(mut fields: Vec<(&'static str, Json)>, changes: &ChangeSet, next: u64) -> Json {
     let list = |entities: &[EntityRef]| Json::list(entities, |e| entity(*e));
-    Json::Object(vec![
+    fields.extend([
+        ("created", list(&changes.created)),
+        ("modified", list(&changes.modified)),
+        ("deleted", list(&changes.deleted)),
+        ("warnings", Json::list(&changes.warnings, issue)),
+        ("next", Json::number(next)),
+    ]);
+    Json::Object(fields)
+}
+
+fn done_json(command: &Command, done: &Done, next: u64) -> Json {
+    let fields = vec![
         ("op", Json::text(command.name())),
         ("number", Json::number(0)),
         ("second", Json::option(done.second, |id| Json::number(id.0))),
-        ("created", list(&done.changes.created)),
-        ("modified", list(&done.changes.modified)),
-        ("deleted", list(&done.changes.deleted)),
-        ("warnings", Json::list(&done.changes.warnings, issue)),
-        ("next", Json::number(next)),
+    ];
+    changes_json(fields, &done.changes, next)
+}
+
+fn job_done_json(edits: usize, changes: &ChangeSet, next: u64) -> Json {
+    let fields = vec![("op", Json::text("job")), ("number", Json::number(0)), ("edits", Json::number(edits as u64))];
+    changes_json(fields, changes, next)
+}
+
+/// The refused edit stands inside, as a refused edit alone does, with its place in the job and its line in the file of edits.
+fn job_refused_json(refused: &JobRefused, edit: Option<&RefusedEdit>) -> Json {
+    let number = |n: usize| Json::number(n as u64);
+    Json::Object(vec![
+        ("op", Json::text("job")),
+        ("number", Json::number(refused.number())),
+        ("refusal", Json::text(refused.name())),
+        ("place", Json::option(edit, |e| number(e.place))),
+        ("edits_line", Json::option(edit, |e| number(e.edit.line))),
+        ("edit", Json::option(edit, |e| refused_json(&e.edit.command, e.refused, e.entity_line))),
+        ("message", Json::text(refused)),
     ])
 }
 
