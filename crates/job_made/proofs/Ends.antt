@@ -55,11 +55,16 @@ module _ (old t t' : Tables) (ms ms' : List ℕ) where
   ran-stopped (stopped q y) a h p x e = (let f : Stopped q y ≡ Stopped p x = sym (h .0) ∙ e in cc, h .1)
   ran-stopped (done k css) a h p x e = clash p (length (allWarnings css)) x (k .counter) (sym e ∙ h .0)
 
-  pub ran-done : (r : Run Held) (a : Ran) → RanAs old ms t r a t' ms' → ms ≡ unmarked → (k n : ℕ) → a ≡ Done k n → AllMade old r k t' n ms'
+  ran-done : (r : Run Held) (a : Ran) → RanAs old ms t r a t' ms' → ms ≡ unmarked → (k n : ℕ) → a ≡ Done k n → AllMade old r k t' n ms'
   ran-done (stopped q y) a h u k n e = clash q n y k (sym (h .0) ∙ e)
   ran-done (done m css) a h u k n e =
       let f : Done k n ≡ Done (m .counter) (length (allWarnings css)) = sym e ∙ h .0 in
       (cc, (h .1 .0, (cc, h .1 .1 ∙ ap (markAll old (pairsOf (allModified css))) u)))
+
+  -- the same run, of tables that are the same
+  pub ran-made : (f : Tables → Run Held) (a b : Tables) → a ≡ b → (x : Ran) → RanAs old ms t (f b) x t' ms' → ms ≡ unmarked → (k n : ℕ) → x ≡ Done k n
+      → AllMade old (f a) k t' n ms'
+  ran-made f a b e x h u k n g = subst (λ z. AllMade old (f z) k t' n ms') (sym e) (ran-done (f b) x h u k n g)
 
 -- ---- what made edits left
 
@@ -145,5 +150,6 @@ module _ (old : Tables) (l : Lent) (n : Counts) (c m d : List ℕ) where
       same ∙ (sym (ap (λ b. cond b (making l old q (netOf old q css)) (refusing l old NoRoom)) fits) ∙ ap (λ z. ended z q css) (sym e))
 
 -- an edit was refused, and the map was put back
-pub ends-stopped : (l : Lent) (old : Tables) (r : Run Held) (p : ℕ) (x : Refusal) → r ≡ stopped p x → jobEnded l old (EditRefused p x) ≡ ending l old r
-ends-stopped l old r p x e = ap (ending l old) (sym e)
+pub ends-stopped : (lent : Tables → Lent) (old a b : Tables) (r : Run Held) (p : ℕ) (x : Refusal) → a ≡ b → r ≡ stopped p x
+    → jobEnded (lent a) old (EditRefused p x) ≡ ending (lent b) old r
+ends-stopped lent old a b r p x e f = ap (λ z. jobEnded (lent z) old (EditRefused p x)) e ∙ ap (ending (lent b) old) (sym f)
