@@ -4,6 +4,8 @@ ghost use lib.Ieee.{add, sub, mul, neg};
 ghost use lib.Ieee.Scale.{finite};
 ghost use Rattle.geometry.specs.Float as F;
 ghost use Rattle.geometry.specs.Point as P;
+ghost use Rattle.root.specs.Begun.{Unfinished};
+use root::Begun;
 
 // A point or a vector in the plane.
 pub struct Point2 {
@@ -165,6 +167,14 @@ impl Point3 {
         ensures { λ r. ⌜ r ≡ P.distance3 self other ⌝ }
     {
         self.sub(other).norm()
+    }
+
+    // The distance, begun: `root::finish` finds it.
+    pub fn begin_distance(self, other: Point3) -> Begun
+        ensures { λ r. ⌜ Unfinished (P.distance3 self other) (r .a) (r .top) (r .guess) ⌝ }
+    {
+        let way = self.sub(other);
+        root::begin(way.dot(way))
     }
 
     // In the plane, whatever the elevations.

@@ -86,6 +86,7 @@ pub fn last(line: &[f64]) -> OptionPoint3
     OptionPoint3::Some(point(line, n - 1))
 }
 
+// A segment's root is finished after the next one's is begun, so that the two overlap.
 pub fn length(line: &[f64]) -> f64
     ensures { λ r. ⌜ r ≡ L.lineLength (points (now (line .entry))) ⌝ }
 {
@@ -95,14 +96,17 @@ pub fn length(line: &[f64]) -> f64
     }
     let mut sum = -0.0;
     let mut p = point(line, 0);
+    let mut segment = root::known(-0.0);
     let mut i = 1;
     while i < n {
         let q = point(line, i);
-        sum = sum + p.distance(q);
+        let next = p.begin_distance(q);
+        sum = sum + root::finish(segment);
+        segment = next;
         p = q;
         i += 1;
     }
-    sum
+    sum + root::finish(segment)
 }
 
 // `f64::clamp` to 0 to 1, where a NaN is held too.

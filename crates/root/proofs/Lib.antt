@@ -7,4 +7,5 @@ pub mod Whole
 pub mod Doubles
 pub mod Signs
 pub mod Nearest
+pub mod Ordinary
 mod Examples

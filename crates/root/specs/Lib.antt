@@ -1,3 +1,4 @@
+pub mod Begun
 pub mod Nearest
 pub mod Root
 pub mod Steps

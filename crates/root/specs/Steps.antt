@@ -1,4 +1,4 @@
--- What the inner functions hand to one another. Nothing above `sqrt` rests on this page.
+-- What the inner functions hand to one another.
 use mathlib.Core.Path.{_≡_}
 use Prim.Native.Nat.{ℕ, _+_, _-_, _*_, _/_, _%_, _^_, _≤_, _<_}
 use mathlib.Core.Bool.{cond}

@@ -1,6 +1,6 @@
 // The whole number nearest the root of m * 2 ^ odd * 2 ^ 52: a guess in float arithmetic, good to about one unit, which `settle` mends. Nothing
 // that is proved rests on the guess.
-ghost use Prim.Native.Nat.{_+_, _*_, _≤_, _<_, _^_};
+ghost use Prim.Native.Nat.{_-_, _≤_, _<_, _^_};
 ghost use Rattle.root.specs.Steps.{Rounded};
 use super::HIDDEN;
 use super::settle;
@@ -28,7 +28,7 @@ fn factor(odd: u64) -> f64 {
 }
 
 // √(m * 2 ^ odd / 2 ^ 52), from 1 to 2.
-fn guess(m: u64, odd: u64) -> f64
+pub fn guess(m: u64, odd: u64) -> f64
     requires { ⌜ (2 ^ 52 ≤ m) × ((m < 2 ^ 53) × (odd < 2)) ⌝ }
 {
     let v = f64::from_bits((ONE + odd) * HIDDEN + m);
@@ -40,14 +40,12 @@ fn guess(m: u64, odd: u64) -> f64
 }
 
 // The test keeps a NaN from `to_bits`.
-pub fn nearest(m: u64, odd: u64) -> u64
-    requires { ⌜ (2 ^ 52 ≤ m) × ((m < 2 ^ 53) × (odd < 2)) ⌝ }
-    ensures { λ r. ⌜ Rounded (m * (1 + odd)) r ⌝ }
+pub fn nearest(a: u64, guess: f64) -> u64
+    requires { ⌜ (2 ^ 52 ≤ a) × (a ≤ 2 ^ 54 - 2) ⌝ }
+    ensures { λ r. ⌜ Rounded a r ⌝ }
 {
-    let a = m * (1 + odd);
-    let g = guess(m, odd);
-    if g < 2.0 {
-        return settle::settle(a, f64::to_bits(g) % HIDDEN + HIDDEN);
+    if guess == guess {
+        return settle::settle(a, f64::to_bits(guess) % HIDDEN + HIDDEN);
     }
     settle::bisect(a)
 }

@@ -19,12 +19,17 @@ pub fn scale(bits: u64) -> Parts
     requires { ⌜ (0 < bits) × (bits < 2047 * 2 ^ 52) ⌝ }
     ensures { λ r. ⌜ Scaled (magnitude bits * 2 ^ 1074) (r .digits) (r .odd) (r .half) ⌝ }
 {
-    let field = bits / HIDDEN;
-    let digits = bits % HIDDEN;
-    if field == 0 {
-        return subnormal(digits);
+    if bits < HIDDEN {
+        return subnormal(bits);
     }
-    halved(digits + HIDDEN, PLACES + field - 1)
+    normal(bits)
+}
+
+pub fn normal(bits: u64) -> Parts
+    requires { ⌜ (2 ^ 52 ≤ bits) × (bits < 2047 * 2 ^ 52) ⌝ }
+    ensures { λ r. ⌜ Scaled (magnitude bits * 2 ^ 1074) (r .digits) (r .odd) (r .half) ⌝ }
+{
+    halved(bits % HIDDEN + HIDDEN, PLACES + bits / HIDDEN - 1)
 }
 
 // A subnormal's digits are moved up until there are 53.

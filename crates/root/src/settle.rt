@@ -13,29 +13,23 @@ const HALF: u64 = 0x400_0000;
 const NEAR: u64 = 0x4000_0000;
 
 // The rest a * 2 ^ 52 - q * q is taken a half at a time. `rest` and `middle` differ by it, and high * 2 ^ 27 is added to both, so that neither
-// is negative where q is near. A far guess is dropped: one test holds the rest between -3 * q and 3 * q, so that q or a neighbour is nearest.
+// is negative where q is near. A far guess is dropped: a difference that would be negative wraps, so that one test of each holds the rest between
+// -3 * q and 3 * q, and q or a neighbour is nearest.
 pub fn settle(a: u64, q: u64) -> u64
     requires { ⌜ (2 ^ 52 ≤ a) × ((a ≤ 2 ^ 54 - 2) × ((2 ^ 52 ≤ q) × (q < 2 ^ 53))) ⌝ }
     ensures { λ r. ⌜ Rounded a r ⌝ }
 {
     let high = q / HALF;
     let low = q % HALF;
-    let square = high * high;
-    if a < square {
+    let over = std::num::wrapping_sub_u64(a, high * high);
+    if NEAR <= over {
         return bisect(a);
     }
-    if NEAR <= a - square {
+    let part = std::num::wrapping_sub_u64(over * (HALF / 2) + high, high * low);
+    if 5 * (high / 2) < part {
         return bisect(a);
     }
-    let upper = (a - square) * (HALF / 2) + high;
-    let cross = high * low;
-    if upper < cross {
-        return bisect(a);
-    }
-    if 5 * (q / (HALF * 2)) < upper - cross {
-        return bisect(a);
-    }
-    let rest = (upper - cross) * (HALF * 2);
+    let rest = part * (HALF * 2);
     let middle = high * (HALF * 2) + low * low;
     q + above(middle + q, rest) - above(rest + q, middle + 1)
 }
@@ -47,11 +41,15 @@ fn above(x: u64, y: u64) -> u64
     if x < y { 1 } else { 0 }
 }
 
-// The search by halves, a digit a turn: `low` reaches below the root of a * 2 ^ 52 rounded up, `high` does not.
+// The search by halves, a digit a turn: `low` reaches below the root of a * 2 ^ 52 rounded up, `high` does not. It is hardly ever called, and a function that
+// goes on with its own answer is put into no other by the compiler: the first branch, which is never taken, keeps it out of the roots' way.
 pub fn bisect(a: u64) -> u64
     requires { ⌜ (2 ^ 52 ≤ a) × (a ≤ 2 ^ 54 - 2) ⌝ }
     ensures { λ r. ⌜ Rounded a r ⌝ }
 {
+    if a < HIDDEN {
+        return a - bisect(a);
+    }
     let mut low = HIDDEN;
     let mut high = HIDDEN * 2;
     while 1 < high - low {

@@ -7,6 +7,7 @@ ghost use mathlib.Core.List.{_++_};
 ghost use Rattle.lists.specs.Rows.{over};
 ghost use Rattle.polyline.specs.Polyline as L;
 ghost use Rattle.polyline.specs.Polyline.{points, flat};
+ghost use Rattle.geometry.specs.Float.{clamp, zeroᶠ};
 use geometry::Point3;
 use polyline::OptionPoint3;
 
@@ -121,17 +122,35 @@ pub fn slice(line: &[f64], from: f64, to: f64, out: &mut [f64]) -> usize
     ensures { λ r. ⌜ (r ≡ length (L.slice (points (now (line .entry))) from to)) × (now (out .exit) ≡ over (now (out .entry)) 0 (flat (L.slice (points (now (line .entry))) from to))) ⌝ }
 {
     let len = polyline::length(line);
+    let start = polyline::point_at(line, geometry::clamp(from, 0.0, len));
+    let end = polyline::point_at(line, geometry::clamp(to, 0.0, len));
+    put_slice(line, len, from, to, start, end, out)
+}
+
+// The slice of a line whose length is known, and the points at the slice's two ends: walks along the line that two slices can share.
+fn put_slice(
+    line: &[f64],
+    len: f64,
+    from: f64,
+    to: f64,
+    start: OptionPoint3,
+    end: OptionPoint3,
+    out: &mut [f64],
+) -> usize
+    requires { ⌜ (len ≡ L.lineLength (points (now line))) × ((start ≡ L.point-at (points (now line)) (clamp from zeroᶠ len)) × ((end ≡ L.point-at (points (now line)) (clamp to zeroᶠ len)) × (length (L.slice (points (now line)) from to) * 3 ≤ length (now out)))) ⌝ }
+    ensures { λ r. ⌜ (r ≡ length (L.slice (points (now (line .entry))) from to)) × (now (out .exit) ≡ over (now (out .entry)) 0 (flat (L.slice (points (now (line .entry))) from to))) ⌝ }
+{
     let a = geometry::clamp(from, 0.0, len);
     let b = geometry::clamp(to, 0.0, len);
     if polyline::count(line) < 2 {
-        return put_optional(out, 0, polyline::point_at(line, a));
+        return put_optional(out, 0, start);
     }
     if b <= a {
-        return put_optional(out, 0, polyline::point_at(line, a));
+        return put_optional(out, 0, start);
     }
-    let head = put_optional(out, 0, polyline::point_at(line, a));
+    let head = put_optional(out, 0, start);
     let middle = put_between(line, a, b, out, head);
-    head + (middle + put_optional(out, head + middle, polyline::point_at(line, b)))
+    head + (middle + put_optional(out, head + middle, end))
 }
 
 // The two pieces of a split, in points.
@@ -145,9 +164,13 @@ pub fn split_at(line: &[f64], station: f64, out: &mut [f64]) -> Pieces
     requires { ⌜ (length (L.firstPiece (points (now line)) station) + length (L.secondPiece (points (now line)) station)) * 3 ≤ length (now out) ⌝ }
     ensures { λ r. ⌜ (r .first ≡ length (L.firstPiece (points (now (line .entry))) station)) × ((r .second ≡ length (L.secondPiece (points (now (line .entry))) station)) × (now (out .exit) ≡ over (now (out .entry)) 0 (flat (L.firstPiece (points (now (line .entry))) station ++ L.secondPiece (points (now (line .entry))) station)))) ⌝ }
 {
-    let first = slice(line, 0.0, station, out);
+    let len = polyline::length(line);
+    let start = polyline::point_at(line, geometry::clamp(0.0, 0.0, len));
+    let cut = polyline::point_at(line, geometry::clamp(station, 0.0, len));
+    let end = polyline::point_at(line, geometry::clamp(len, 0.0, len));
+    let first = put_slice(line, len, 0.0, station, start, cut, out);
     let behind = first * POINT;
-    let second = slice(line, station, polyline::length(line), &mut out[behind..]);
+    let second = put_slice(line, len, station, len, cut, end, &mut out[behind..]);
     Pieces { first, second }
 }
 

@@ -1,10 +1,10 @@
--- `root::sqrt` meets its contract, by the cases of its tests. Assumes nothing.
-use mathlib.Core.Path.{sym, subst}
+-- `root::rare` meets its contract, by the cases of its tests. Assumes nothing.
 use borrow.Author.Needs.{needs}
+use Rattle.root.proofs.rare.Statement.{statement}
+use Rattle.root.proofs.rare.Tie as tie
+use mathlib.Core.Path.{sym, subst}
 use lib.Dec.{T}
 use Rattle.root.proofs.Signs.{root-infinity, root-zero, no-root}
-use Rattle.root.proofs.sqrt.Statement.{statement}
-use Rattle.root.proofs.sqrt.Tie as tie
 
 positive-requires : tie.Need-positive-requires
 positive-requires c κs = search needs
@@ -21,5 +21,5 @@ returns-3 c = sym (root-zero (c .before .before .args .x) (c .if3 .taken))
 returns-4 : tie.Need-returns-4
 returns-4 c = no-root (c .before .before .args .x) (c .before .if1 .left) (c .if3 .left)
 
-pub sqrt-spec : {M : Type 1} → statement M
-sqrt-spec = tie.close (tie.spec positive-requires returns returns-2 returns-3 returns-4)
+pub rare-spec : {M : Type 1} → statement M
+rare-spec = tie.close (tie.spec positive-requires returns returns-2 returns-3 returns-4)
