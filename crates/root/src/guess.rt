@@ -1,6 +1,8 @@
 // The whole number nearest the root of m * 2 ^ odd * 2 ^ 52: a guess in float arithmetic, good to about one unit, which `settle` mends. Nothing
 // that is proved rests on the guess.
 ghost use Prim.Native.Nat.{_-_, _≤_, _<_, _^_};
+ghost use mathlib.Core.Path.{_≡_};
+ghost use Rattle.root.specs.Guess as G;
 ghost use Rattle.root.specs.Steps.{Rounded};
 use super::HIDDEN;
 use super::settle;
@@ -19,17 +21,22 @@ const STEP: f64 = 1.1905507922371992;
 
 // EVEN * seed(u) is 0.63 / √u for u from 1 to 2, within 1 in 13,500: the polynomial of degree 4 whose largest relative error there is least,
 // as two factors. A table would be copied to the stack at each call.
-fn seed(u: f64) -> f64 {
+fn seed(u: f64) -> f64
+    ensures { λ r. ⌜ r ≡ G.seedOf u ⌝ }
+{
     (u * (u - 1.3711668696) + 3.5488291326) * (u * (u - 6.2971467609) + 11.4895585591)
 }
 
-fn factor(odd: u64) -> f64 {
+fn factor(odd: u64) -> f64
+    ensures { λ r. ⌜ r ≡ G.factorOf odd ⌝ }
+{
     if odd == 0 { EVEN } else { ODD }
 }
 
 // √(m * 2 ^ odd / 2 ^ 52), from 1 to 2.
 pub fn guess(m: u64, odd: u64) -> f64
     requires { ⌜ (2 ^ 52 ≤ m) × ((m < 2 ^ 53) × (odd < 2)) ⌝ }
+    ensures { λ r. ⌜ r ≡ G.guessOf m odd ⌝ }
 {
     let v = f64::from_bits((ONE + odd) * HIDDEN + m);
     let s = seed(f64::from_bits(ONE * HIDDEN + m)) * factor(odd);

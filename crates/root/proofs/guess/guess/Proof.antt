@@ -1,6 +1,7 @@
 -- `root::guess::guess` meets its contract: neither pattern is a NaN's. Assumes nothing.
 use native.Mathlib.Omega.{arith}
 use borrow.Author.Needs.{needs}
+use Rattle.root.specs.Guess.{guessOf, stepped}
 use Rattle.root.proofs.Units.{no-nan-bits}
 use Rattle.root.proofs.guess.guess.Statement.{statement}
 use Rattle.root.proofs.guess.guess.Tie as tie
@@ -33,7 +34,8 @@ factor-requires : tie.Need-factor-requires
 factor-requires c κs = search needs
 
 returns : tie.Need-returns
-returns c = search needs
+unfolding guessOf stepped
+returns c = rw (c .factor .ensures, c .before .seed .ensures)
 
 pub guess-spec : {M : Type 1} → statement M
 guess-spec =
