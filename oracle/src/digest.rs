@@ -1,9 +1,10 @@
 //! What a replay must write: a line for each call of a stored stream, the answer's numbers and a digest of all that was lent.
 
 use crate::against::{FILL, expected, lend};
-use crate::ffi::Lent;
 use crate::format::{self, bits};
 use crate::generate::Case;
+use crate::jobs;
+use crate::tables::Tables;
 
 /// What a digest begins with.
 const START: u64 = 1;
@@ -16,18 +17,28 @@ fn mix(state: u64, word: u64) -> u64 {
     c ^ (c << 17)
 }
 
-/// Words of the arrays that the lists are lent from.
+/// Words of the arrays that the lists of a call are lent from.
 const ARRAYS: [usize; 4] = [64, 64, 64, 160];
 
-/// The seven tables of words, the coordinates by their bits, the arrays of the four lists.
-fn digest(lent: &Lent) -> u64 {
-    let words = lent.tables.words.iter().flatten().copied();
-    let floats = lent.tables.xyz.iter().map(|x| bits(*x));
-    let lists = lent.lists.iter().zip(ARRAYS).flat_map(|(list, n)| {
-        assert!(list.len() <= n, "more lent than the array has");
-        list.iter().copied().chain(std::iter::repeat(FILL)).take(n)
-    });
-    words.chain(floats).chain(lists).fold(START, mix)
+/// Maps one after the other, of each the seven tables of words and the coordinates by their bits, and then lists.
+pub fn of<const N: usize>(maps: [&Tables; N], lists: &[Vec<u64>; 4]) -> u64 {
+    let mut state = START;
+    for t in maps {
+        let words = t.words.iter().flatten().copied();
+        let floats = t.xyz.iter().map(|x| bits(*x));
+        state = words.chain(floats).fold(state, mix);
+    }
+    lists.iter().flatten().copied().fold(state, mix)
+}
+
+/// The lists as the arrays that they are lent from.
+fn arrays(lists: &[Vec<u64>; 4]) -> [Vec<u64>; 4] {
+    std::array::from_fn(|k| {
+        let mut list = lists[k].clone();
+        assert!(list.len() <= ARRAYS[k], "more lent than the array has");
+        list.resize(ARRAYS[k], FILL);
+        list
+    })
 }
 
 fn lines(case: &Case) -> String {
@@ -35,34 +46,32 @@ fn lines(case: &Case) -> String {
     case.play(|t| {
         let before = lend(t.before, t.room);
         let (raw, lists) = expected(t.answer, before.lists);
-        let lent = Lent {
-            tables: t.after.tables.clone(),
-            counter: t.after.counter,
-            lists,
-        };
         let (kind, id) = raw.entity.map_or((0, 0), |(kind, id)| (kind + 1, id));
         let [created, modified, deleted, warnings] = raw.counts;
         let second = raw.second.unwrap_or(0);
         text += &format!(
             "{} {kind} {id} {created} {modified} {deleted} {warnings} {second} {} {}\n",
             raw.number,
-            lent.counter,
-            digest(&lent)
+            t.after.counter,
+            of([&t.after.tables], &arrays(&lists))
         );
         true
     });
     text
 }
 
+/// What a replay of a stored stream must write, of calls or of jobs.
 pub fn run(bytes: &[u8]) -> bool {
-    match format::cases(bytes) {
-        Ok(cases) => {
-            cases.iter().for_each(|c| print!("{}", lines(c)));
-            true
-        }
-        Err(said) => {
-            eprintln!("{said}");
-            false
-        }
+    let said = match format::In(bytes).number() {
+        format::JOBS => format::jobs(bytes).map(|all| {
+            let mut tally = jobs::Tally::new();
+            all.iter().for_each(|m| print!("{}", m.lines(&mut tally)));
+            tally.print();
+        }),
+        _ => format::cases(bytes).map(|all| all.iter().for_each(|c| print!("{}", lines(c)))),
+    };
+    if let Err(said) = &said {
+        eprintln!("{said}");
     }
+    said.is_ok()
 }

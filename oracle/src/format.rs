@@ -3,6 +3,7 @@
 use std::io::{self, Write};
 
 use crate::generate::Case;
+use crate::jobs::Stored;
 use crate::step::{Call, Room};
 use crate::tables::*;
 
@@ -10,6 +11,8 @@ use crate::tables::*;
 pub const LINES: u64 = 2;
 /// The first number of a stream of calls.
 pub const CALLS: u64 = 3;
+/// The first number of a stream of jobs.
+pub const JOBS: u64 = 4;
 
 /// A map with its calls has at most so many bytes: a reader takes it in at once.
 const MOST: usize = 0x1_0000;
@@ -43,14 +46,30 @@ impl Out {
         words.for_each(|w| self.number(w));
     }
 
+    fn map(&mut self, t: &Tables, counter: u64) {
+        for w in &t.words {
+            self.table(w.iter().copied());
+        }
+        self.table(t.xyz.iter().map(|x| bits(*x)));
+        self.number(counter);
+    }
+
+    /// A map and its jobs: of each its rows, and the words lent for the area and for the lists.
+    pub fn jobs(&mut self, stored: &Stored) {
+        let start = self.0.len();
+        self.map(&stored.tables, stored.counter);
+        self.number(stored.jobs.len() as u64);
+        for (rows, sizes) in &stored.jobs {
+            self.table(rows.iter().copied());
+            sizes.iter().for_each(|n| self.number(*n as u64));
+        }
+        assert!(self.0.len() - start <= MOST, "a map too large to be stored");
+    }
+
     /// A map and its calls.
     pub fn case(&mut self, case: &Case) {
         let start = self.0.len();
-        for w in &case.tables.words {
-            self.table(w.iter().copied());
-        }
-        self.table(case.tables.xyz.iter().map(|x| bits(*x)));
-        self.number(case.counter);
+        self.map(&case.tables, case.counter);
         self.number(case.calls.len() as u64);
         for (call, room) in &case.calls {
             let Room {
@@ -105,10 +124,29 @@ impl In<'_> {
         (0..self.number()).map(|_| self.number()).collect()
     }
 
-    fn case(&mut self) -> Case {
+    fn map(&mut self) -> (Tables, u64) {
         let words = std::array::from_fn(|_| self.table());
         let xyz = self.table().into_iter().map(f64::from_bits).collect();
-        let counter = self.number();
+        (Tables { words, xyz }, self.number())
+    }
+
+    fn jobs(&mut self) -> Stored {
+        let (tables, counter) = self.map();
+        let jobs = (0..self.number())
+            .map(|_| {
+                let rows = self.table();
+                (rows, std::array::from_fn(|_| self.number() as usize))
+            })
+            .collect();
+        Stored {
+            tables,
+            counter,
+            jobs,
+        }
+    }
+
+    fn case(&mut self) -> Case {
+        let (tables, counter) = self.map();
         let calls = (0..self.number())
             .map(|_| {
                 let call = Call::of(std::array::from_fn(|_| self.number()));
@@ -124,22 +162,32 @@ impl In<'_> {
             })
             .collect();
         Case {
-            tables: Tables { words, xyz },
+            tables,
             counter,
             calls,
         }
     }
 }
 
-/// The maps and calls of a stored stream.
-pub fn cases(bytes: &[u8]) -> Result<Vec<Case>, String> {
+/// The maps of a stored stream of this form, each read by `one`.
+fn maps<T>(bytes: &[u8], form: u64, one: impl Fn(&mut In) -> T) -> Result<Vec<T>, String> {
     let mut from = In(bytes);
-    if from.number() != CALLS {
-        return Err("not a stream of calls".into());
+    if from.number() != form {
+        return Err("a stream of another form".into());
     }
-    let all = (0..from.number()).map(|_| from.case()).collect();
+    let all = (0..from.number()).map(|_| one(&mut from)).collect();
     if !from.0.is_empty() {
         return Err("bytes left over".into());
     }
     Ok(all)
+}
+
+/// The maps and calls of a stored stream.
+pub fn cases(bytes: &[u8]) -> Result<Vec<Case>, String> {
+    maps(bytes, CALLS, |from| from.case())
+}
+
+/// The maps and jobs of a stored stream.
+pub fn jobs(bytes: &[u8]) -> Result<Vec<Stored>, String> {
+    maps(bytes, JOBS, |from| from.jobs())
 }

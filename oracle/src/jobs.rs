@@ -4,15 +4,20 @@ use std::collections::BTreeSet;
 use std::time::{Duration, Instant};
 
 use crate::against::{self, PATIENCE, describe, expected, table_difference};
+use crate::digest;
 use crate::ffi::{Jobs, Told};
 use crate::generate;
-use crate::memory::{self, Area, LISTS, Memory};
+use crate::memory::{self, Area, ENTRY, LISTS, Memory};
 use crate::rng::Rng;
 use crate::step::{Answer, COMMANDS, Call, Entity, Room, State, quietly};
 use crate::tables::*;
+use vectormap_core::*;
 
 /// Edits of a job at most.
 const EDITS: usize = 64;
+
+/// As many warnings of a job the editor keeps while it makes the edits (crates/job_told); for more it makes them again.
+const KEPT: usize = 512;
 
 /// Words of a command.
 const COMMAND: usize = 5;
@@ -166,6 +171,13 @@ impl Sent {
             .map(|k| NAMES[k])
     }
 
+    /// Words lent for the lists.
+    fn lists(&self) -> [usize; 4] {
+        let r = &self.room;
+        let n = [r.created, r.modified, r.deleted, r.warnings];
+        std::array::from_fn(|k| n[k] * ENTRY[k] + self.odd[k] % ENTRY[k])
+    }
+
     fn lend(&self, before: &State) -> Memory {
         Memory::new(before, &self.room, &self.rows, self.odd)
     }
@@ -183,10 +195,7 @@ impl Sent {
         let (_, lists) = expected(&end.changes, lists);
         let mut want = self.area(&s.tables);
         let mut area = Area::new(&want);
-        // 13, 9 and the area's own 10 leave the area; all else fills it.
-        if end.told.number == 0 || end.told.number == 12 || self.reached(&end) {
-            front(&mut want, &s.tables);
-        }
+        self.filled(&end, &mut want, &s.tables);
         let got = editor.on(memory, &mut area);
         if got != end.told {
             return Some(format!("answer {got:?}, expected {:?}", end.told));
@@ -214,6 +223,13 @@ impl Sent {
             let place = table_difference(&area.words, &area.xyz, &want)?;
             Some(format!("the area's {place}"))
         })
+    }
+
+    /// 13, 9 and the area's own 10 leave the area; all else fills its front with the map as it came.
+    fn filled(&self, end: &Ended, area: &mut Tables, came: &Tables) {
+        if end.told.number == 0 || end.told.number == 12 || self.reached(end) {
+            front(area, came);
+        }
     }
 
     /// Whether a 10 is that of the lists, at the end.
@@ -322,7 +338,11 @@ fn rows(rng: &mut Rng, calls: &[Call]) -> Vec<u64> {
 
 /// A job for this state. On a map that is not sound the rows are anything.
 fn job(rng: &mut Rng, before: &State, first: &[Call]) -> Sent {
-    let n = size(rng);
+    // A long list is made whole.
+    let n = match first.len() {
+        0..10 => size(rng),
+        whole => whole,
+    };
     let rows = if before.map.is_none() || n > EDITS {
         let over = rng.below(COMMAND);
         let words = (n * COMMAND).saturating_sub(over);
@@ -371,7 +391,10 @@ struct Play {
 
 impl Play {
     fn new(seed: u64, index: usize) -> Self {
-        let (tables, counter, first) = generate::map(seed, index);
+        Self::on(generate::map(seed, index), seed, index)
+    }
+
+    fn on((tables, counter, first): (Tables, u64, Vec<Call>), seed: u64, index: usize) -> Self {
         let mut rng = Rng::new(seed ^ (index as u64 + 1).wrapping_mul(0x9E6C_63D0_876A_3F21));
         let state = State::new(tables, counter);
         let left = match state.map {
@@ -399,16 +422,140 @@ impl Play {
     }
 }
 
+/// A job with nearly as many warnings as an editor may keep, or more: a removal leaves rules without a lane, and links lead over gaps.
+fn many(which: usize) -> Play {
+    let links = 10 + which % 50;
+    let rules = match which % 4 {
+        0 => LIMIT[RULES],
+        _ => KEPT - links - 6 + which / 4 % 8,
+    };
+    let mut m = generate::grid(40, 3, 4);
+    for i in 0..rules {
+        let rule = RegulatoryElement {
+            id: RegulatoryElementId(i as u64),
+            rule: Rule::RightOfWay {
+                priority: vec![LaneId(2)],
+                yielding: vec![],
+                stop_lines: vec![],
+            },
+            lanes: vec![LaneId(1)],
+            controlled_crosswalks: vec![],
+            attributes: Attributes(0),
+        };
+        m.insert_regulatory_element(rule).expect("a new id");
+    }
+    let counter = 100_000;
+    access::set_counter(&mut m, counter);
+    let gaps = (0..links as u64).map(|i| Call::Connect {
+        from: 2 + i,
+        to: 62 + i % 50,
+    });
+    let first = std::iter::once(Call::RemoveLane { lane: 1 })
+        .chain(gaps)
+        .collect();
+    Play::on((crate::cases::plain(&m, 4, 40), counter, first), 1, which)
+}
+
+// ---- stored jobs -------------------------------------------------------------------------------
+
+/// Words of the arrays that a replay lends from: the rows of a job, the area table by table, the lists.
+const ROWS: usize = (EDITS + 6) * COMMAND;
+const AREA: [usize; 8] = [1312, 416, 352, 288, 1696, 64, 64, 4128];
+const ARRAYS: [usize; 4] = [256, 256, 256, 640];
+
+/// A map with its jobs, as it is stored: of each job its rows and the words lent for the area and for the lists.
+pub struct Stored {
+    pub tables: Tables,
+    pub counter: u64,
+    pub jobs: Vec<(Vec<u64>, [usize; 12])>,
+}
+
+impl Stored {
+    /// Some small map, and jobs on it one after the other.
+    pub fn made_up(seed: u64, index: usize) -> Self {
+        let edits: Vec<usize> = (0..COMMANDS.len()).collect();
+        let case = generate::case_of(seed, index, generate::Profile::Small, &edits);
+        let first = case.calls.iter().map(|(call, _)| *call).take(2).collect();
+        let mut play = Play::on((case.tables.clone(), case.counter, first), seed, index);
+        let mut stored = Stored {
+            tables: case.tables,
+            counter: case.counter,
+            jobs: Vec::new(),
+        };
+        while let Some((sent, before, _)) = play.next() {
+            let t = &before.tables;
+            let sizes: [usize; 12] = std::array::from_fn(|k| match k {
+                COORDINATES => (t.xyz.len() as isize + sent.longer[k]).max(0) as usize,
+                0..COORDINATES => (t.words[k].len() as isize + sent.longer[k]).max(0) as usize,
+                _ => sent.lists()[k - 8],
+            });
+            let most = |k: usize| if k < 8 { AREA[k] } else { ARRAYS[k - 8] };
+            if sent.rows.len() > ROWS || (0..12).any(|k| sizes[k] > most(k)) {
+                break;
+            }
+            stored.jobs.push((sent.rows, sizes));
+        }
+        stored
+    }
+
+    /// What a replay must write of each job: its answer, and a digest of all that was lent.
+    pub fn lines(&self, tally: &mut Tally) -> String {
+        let mut text = String::new();
+        let mut state = State::new(self.tables.clone(), self.counter);
+        tally.maps += 1;
+        for (rows, sizes) in &self.jobs {
+            let n: [usize; 4] = std::array::from_fn(|k| sizes[8 + k] / ENTRY[k]);
+            let sent = Sent {
+                rows: rows.clone(),
+                longer: std::array::from_fn(|k| match k {
+                    COORDINATES => sizes[k] as isize - state.tables.xyz.len() as isize,
+                    _ => sizes[k] as isize - state.tables.words[k].len() as isize,
+                }),
+                seed: 0,
+                room: Room {
+                    created: n[0],
+                    modified: n[1],
+                    deleted: n[2],
+                    warnings: n[3],
+                },
+                odd: std::array::from_fn(|k| sizes[8 + k] % ENTRY[k]),
+            };
+            let short = sent.short(&state.tables);
+            let end = make(&state, &read(rows), short, &sent.room);
+            tally.job(&sent, &state, &end);
+            let mut area = Tables {
+                words: std::array::from_fn(|k| vec![memory::FILL; sizes[k]]),
+                xyz: vec![0.5; sizes[COORDINATES]],
+            };
+            sent.filled(&end, &mut area, &state.tables);
+            let lists = std::array::from_fn(|k| vec![memory::FILL; sizes[8 + k]]);
+            let (_, lists) = expected(&end.changes, lists);
+            state = end.after;
+            let digest = digest::of([&state.tables, &area], &lists);
+            let t = end.told;
+            let (kind, id) = t.entity.map_or((0, 0), |(kind, id)| (kind + 1, id));
+            let [created, modified, deleted, warnings] = t.counts;
+            text += &format!(
+                "{} {} {} {kind} {id} {created} {modified} {deleted} {warnings} {} {digest}\n",
+                t.number, t.place, t.own, t.counter
+            );
+        }
+        text
+    }
+}
+
 // ---- counts ------------------------------------------------------------------------------------
 
 #[derive(Default)]
-struct Tally {
+pub struct Tally {
     maps: usize,
     jobs: usize,
     /// Made jobs by their edits, and those edits by command.
     made: Vec<usize>,
     edits: [usize; 6],
     warnings: usize,
+    /// Jobs with nearly as many warnings as are kept, from four less on, and with more.
+    nearly: [usize; 6],
     passing: usize,
     /// Refusals 9, 10, 12 and 13.
     refused: std::collections::BTreeMap<u64, usize>,
@@ -424,7 +571,7 @@ struct Tally {
 }
 
 impl Tally {
-    fn new() -> Self {
+    pub fn new() -> Self {
         Tally {
             made: vec![0; EDITS + 1],
             places: vec![0; EDITS + 1],
@@ -440,6 +587,9 @@ impl Tally {
             self.made[job.len()] += 1;
             job.iter().for_each(|c| self.edits[c.command()] += 1);
             self.warnings += told.counts[3];
+            if told.counts[3] + 4 >= KEPT {
+                self.nearly[(told.counts[3] + 4 - KEPT).min(5)] += 1;
+            }
             self.passing += (end.passing > 0) as usize;
             return;
         }
@@ -472,7 +622,7 @@ impl Tally {
         }
     }
 
-    fn print(&self) {
+    pub fn print(&self) {
         eprintln!("{} maps, {} jobs", self.maps, self.jobs);
         eprintln!(
             "{:>8} made, by edits from 0: {:?}",
@@ -483,6 +633,11 @@ impl Tally {
             eprintln!("{n:>8} {name} in made jobs");
         }
         eprintln!("{:>8} warnings of made jobs", self.warnings);
+        eprintln!(
+            "         jobs with {} warnings, one more each, more than {KEPT}: {:?}",
+            KEPT - 4,
+            self.nearly
+        );
         eprintln!(
             "{:>8} made jobs in which an entity comes and goes",
             self.passing
@@ -592,8 +747,10 @@ pub fn run(seed: u64, count: usize) -> bool {
         return false;
     };
     let (mut tally, mut left, mut differ) = (Tally::new(), PATIENCE, 0);
-    for index in 0..count {
-        if let Some(found) = map(&mut *editor, Play::new(seed, index), &mut tally, &mut left) {
+    let few = (0..count).map(|index| Play::new(seed, index));
+    let plays = few.chain((0..count / 200).map(many));
+    for (index, play) in plays.enumerate() {
+        if let Some(found) = map(&mut *editor, play, &mut tally, &mut left) {
             differ += 1;
             if differ <= TOLD {
                 println!("map {index}:");

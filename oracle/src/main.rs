@@ -32,7 +32,8 @@ use tally::Tally;
 const USAGE: &str = "\
 oracle cases                       the ten cases of document 01
 oracle calls SEED COUNT EDITS      a stream of small maps and calls of these edits (names, commas between) to standard output
-oracle digests FILE                what a replay of such a stream must write: each answer and a digest of what is lent
+oracle stored SEED COUNT           a stream of small maps and jobs to standard output
+oracle digests FILE                what a replay of either stream must write: each answer and a digest of what is lent
 oracle lines SEED COUNT            a stream of calls of the line functions with their answers
 oracle check SEED COUNT            make them, keep nothing, and try document 01's claims on each call
 oracle against SEED COUNT          call by call beside the editor's library (feature against)
@@ -79,6 +80,19 @@ fn calls(seed: u64, count: usize, edits: &[usize]) -> io::Result<bool> {
     Ok(true)
 }
 
+fn stored(seed: u64, count: usize) -> io::Result<bool> {
+    let mut to = io::BufWriter::new(io::stdout().lock());
+    let mut out = Out::default();
+    out.number(format::JOBS);
+    out.number(count as u64);
+    for index in 0..count {
+        out.jobs(&jobs::Stored::made_up(seed, index));
+        out.flush(&mut to)?;
+    }
+    to.flush()?;
+    Ok(true)
+}
+
 /// Every call keeps what document 01 claims of it.
 fn check(seed: u64, count: usize) -> bool {
     let mut tally = Tally::default();
@@ -116,7 +130,10 @@ fn verdicts(seed: u64, count: usize) -> bool {
             println!("map {index}: {fault:?}, the library says {said}, clause {clause}");
             differ += 1;
         } else if clause != sound::number(fault) {
-            others.entry((fault, clause)).and_modify(|n| *n += 1).or_insert(1);
+            others
+                .entry((fault, clause))
+                .and_modify(|n| *n += 1)
+                .or_insert(1);
             unsound += 1;
         } else if said {
             sound += 1;
@@ -165,6 +182,9 @@ fn main() {
         ["yard"] => yard::run(),
         ["calls", seed, count, names] => {
             calls(number(seed), number(count) as usize, &edits(names)).expect("standard output")
+        }
+        ["stored", seed, count] => {
+            stored(number(seed), number(count) as usize).expect("standard output")
         }
         ["digests", file] => digest::run(&std::fs::read(file).expect("a file")),
         ["lines", seed, count] => {

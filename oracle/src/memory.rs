@@ -155,7 +155,7 @@ impl Memory {
 pub const LISTS: [&str; 4] = ["created", "modified", "deleted", "warnings"];
 
 /// Words of an entry of each list.
-const ENTRY: [usize; 4] = [2, 2, 2, 10];
+pub const ENTRY: [usize; 4] = [2, 2, 2, 10];
 
 pub fn lists(room: &Room, odd: [usize; 4]) -> [Slice<u64>; 4] {
     let n = [room.created, room.modified, room.deleted, room.warnings];

@@ -6,22 +6,18 @@ use mathlib.Core.List.{List, [], _∷_, map}
 use Prim.Native.Nat.{ℕ}
 use Rattle.rules.specs.Names.{Tolerance}
 use Rattle.rules.specs.Sound.{repeatFree}
-use Rattle.tables.specs.View.{Tables, view}
+use Rattle.tables.specs.View.{Tables}
 use Rattle.tables.specs.Formed.{soundTables}
 use Rattle.store.specs.Store.{roomOf}
-use Rattle.step.specs.Step.{Lent, Ended}
+use Rattle.step.specs.Step.{Ended}
 use Rattle.step.specs.Run.{Held, Lending, heldIn, lend, lengthsOf, mapIn}
 use Rattle.ops.specs.Calls as O
 use Rattle.jobs.specs.declared.Job.{Job}
-use Rattle.jobs.specs.declared.JobAnswer.{JobAnswer}
 use Rattle.job_laws.specs.Deeds.{DeedDemand3, afterAll}
 use Rattle.job_step.specs.Job.{JobLent, JobEnded, jobLent, jobStep}
 use Rattle.job_step.specs.Run.{TableDeed, edit-with, job-with, JobLending, deedOn, lendJob, AllClosed}
 
 -- ---- one call
-
-abbrev pub jobEnded : Lent → Tables → JobAnswer → JobEnded
-jobEnded l area a = record { lent = l; area = area; answer = a }
 
 -- The contract of `apply`: made with a tolerance and a job on what is lent, a call leaves and answers this.
 abbrev pub Applied : Tolerance → Job → JobLent → JobEnded → Type 0

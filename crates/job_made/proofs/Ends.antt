@@ -1,48 +1,46 @@
 -- A job that has passed its first tests, by how it ends. Assumes nothing.
 use mathlib.Core.Path.{_≡_, refl, sym, ap, _∙_, subst}
-use mathlib.Core.Bool.{Bool, true, false, _&&_, _||_, cond}
+use mathlib.Core.Bool.{true, false, _&&_, _||_, cond}
 use mathlib.Core.List.{List, [], _∷_}
-use Prim.Native.Nat.{ℕ, _*_, _≤_}
+use Prim.Native.Nat.{ℕ, _*_}
 use native.Mathlib.Omega.{arith}
-use lib.ListN.{length, replicate, length-replicate}
-use Rattle.lists.specs.Rows.{over}
+use lib.ListN.{length, length-replicate}
 use Rattle.lists.specs.Select.{each, any, keep}
 use Rattle.entities.specs.declared.Tolerance.{Tolerance}
-use Rattle.entities.specs.Types.{kindNumber}
 use Rattle.entities.specs.Records.{ChangeSet}
 use Rattle.rules.specs.Names.{Refusal, EntityRef}
 use Rattle.rules.specs.Ops.{fitsLists}
 use Rattle.rules.specs.Demand.{entities, among, appeared, vanished}
-use Rattle.tables.specs.View.{Tables, tablesOf, view}
+use Rattle.tables.specs.View.{Tables, view}
 use Rattle.tables.specs.Formed.{soundTables}
-use Rattle.report.specs.Report.{counts, entityWords, listed, warned}
+use Rattle.report.specs.Report.{entityWords, listed, warned}
 use Rattle.report.specs.declared.Counts.{Counts}
 use Rattle.room.specs.Room.{listsFit}
-use Rattle.step.specs.Step.{Lent, lentOf, listsOf}
+use Rattle.step.specs.Step.{Lent, listsOf}
 use Rattle.step.specs.Run.{Held, lengthsOf}
 use Rattle.jobs.specs.declared.Job.{Job}
-use Rattle.jobs.specs.declared.JobAnswer.{JobAnswer}
 use Rattle.jobs.specs.declared.JobAnswer.the-variants.{Made, NoRoom, EditRefused}
 use Rattle.jobs.specs.Job.{Run, done, stopped, commands, listedBy, net}
-use Rattle.job_step.specs.Job.{JobEnded, ending, making, refusing, tableEdits}
+use Rattle.job_step.specs.Job.{JobEnded, ending, jobEnded, making, refusing, tableEdits}
 use Rattle.job_step.proofs.Area.{front-back}
 use Rattle.job_step.proofs.Edits.{edits-done}
 use Rattle.job_marks.specs.Marks.{allMarks, markAll, sortedTables}
 use Rattle.job_marks.proofs.Marked.{no-marks}
-use Rattle.job_net.specs.Net.{onlyIn, markedBoth}
+use Rattle.job_net.specs.Net.{NetListed, onlyIn, markedBoth}
 use Rattle.job_net.proofs.Lists.{bare, both-listed, only-appeared}
 use Rattle.job_turn.specs.Turn.{pairsOf}
 use Rattle.job_run.specs.Runs.{RanAs, allModified, allWarnings}
 use Rattle.job_run.specs.declared.Ran.{Ran}
 use Rattle.job_run.specs.declared.Ran.the-variants.{Stopped, Done}
-use Rattle.job_told.specs.Told.{Fronts, Left, NetReady, WrittenAs, netOf}
+use Rattle.job_told.specs.Told.{Fronts, Kept, MadeAll, NetReady, WrittenAs, keptRows, netOf}
+use Rattle.job_told.proofs.Sorted.{sound-sorted}
 use Rattle.job_told.proofs.Written.{words-length}
-use Rattle.job_made.specs.Made.{AllMade, NetListed, jobEnded, unmarked}
+use Rattle.job_made.specs.Made.{AllMade, keptFrom, unmarked}
 use Rattle.laws.proofs.Entities.{among-append}
 use Rattle.lists.proofs.Select.{keep-same}
-use Rattle.job_made.proofs.Sorted.{sound-sorted}
+use Rattle.job_made.proofs.Keeping.{kept-warned}
 
--- ---- the first run, by its answer
+-- ---- the run, by its answer
 
 clash : {A : Type 0} (p n : ℕ) (r : Refusal) (k : ℕ) → Stopped p r ≡ Done k n → A
 clash p n r k e = absurd (nothing cc)
@@ -50,39 +48,48 @@ clash p n r k e = absurd (nothing cc)
     nothing : _≡_ {A = ℕ} 0 1 → ⊥
     nothing z = omega arith
 
-module _ (old t t' : Tables) (ms ms' : List ℕ) where
-  pub ran-stopped : (r : Run Held) (a : Ran) → RanAs old ms t r a t' ms' → (p : ℕ) (x : Refusal) → a ≡ Stopped p x → (r ≡ stopped p x) × (lengthsOf t' ≡ lengthsOf t)
+module _ (old t t' : Tables) (ms ms' v v' : List ℕ) where
+  pub ran-stopped : (r : Run Held) (a : Ran) → RanAs old ms keptRows v t r a t' ms' v' → (p : ℕ) (x : Refusal) → a ≡ Stopped p x
+      → (r ≡ stopped p x) × (lengthsOf t' ≡ lengthsOf t)
   ran-stopped (stopped q y) a h p x e = (let f : Stopped q y ≡ Stopped p x = sym (h .0) ∙ e in cc, h .1)
   ran-stopped (done k css) a h p x e = clash p (length (allWarnings css)) x (k .counter) (sym e ∙ h .0)
 
-  ran-done : (r : Run Held) (a : Ran) → RanAs old ms t r a t' ms' → ms ≡ unmarked → (k n : ℕ) → a ≡ Done k n → AllMade old r k t' n ms'
-  ran-done (stopped q y) a h u k n e = clash q n y k (sym (h .0) ∙ e)
-  ran-done (done m css) a h u k n e =
-      let f : Done k n ≡ Done (m .counter) (length (allWarnings css)) = sym e ∙ h .0 in
-      (cc, (h .1 .0, (cc, h .1 .1 ∙ ap (markAll old (pairsOf (allModified css))) u)))
+  module _ (w : List ℕ) (u : ms ≡ unmarked) (from : v ≡ keptFrom w) where
+    ran-done : (r : Run Held) (a : Ran) → RanAs old ms keptRows v t r a t' ms' v' → (k n : ℕ) → a ≡ Done k n → AllMade old w r k t' n ms' v'
+    ran-done (stopped q y) a h k n e = clash q n y k (sym (h .0) ∙ e)
+    ran-done (done m css) a h k n e =
+        let f : Done k n ≡ Done (m .counter) (length (allWarnings css)) = sym e ∙ h .0 in (
+          cc,
+          (h .1 .0, (cc, (h .1 .1 .0 ∙ ap (markAll old (pairsOf (allModified css))) u, λ few. h .1 .1 .1 few ∙ ap (λ z. warned z (allWarnings css)) from))),
+        )
 
-  -- the same run, of tables that are the same
-  pub ran-made : (f : Tables → Run Held) (a b : Tables) → a ≡ b → (x : Ran) → RanAs old ms t (f b) x t' ms' → ms ≡ unmarked → (k n : ℕ) → x ≡ Done k n
-      → AllMade old (f a) k t' n ms'
-  ran-made f a b e x h u k n g = subst (λ z. AllMade old (f z) k t' n ms') (sym e) (ran-done (f b) x h u k n g)
+    -- the same run, of tables that are the same
+    pub ran-made : (f : Tables → Run Held) (a b : Tables) → a ≡ b → (x : Ran) → RanAs old ms keptRows v t (f b) x t' ms' v' → (k n : ℕ) → x ≡ Done k n
+        → AllMade old w (f a) k t' n ms' v'
+    ran-made f a b e x h k n g = subst (λ z. AllMade old w (f z) k t' n ms' v') (sym e) (ran-done (f b) x h k n g)
 
 -- ---- what made edits left
 
-module _ (tol : Tolerance) (j : Job) (counter : ℕ) (old : Tables) (sane : soundTables counter old ≡ true) where
-  abbrev run : Run Held
-  run = tableEdits tol 1 (commands j) (record { counter = counter; tables = old })
+module _ (o t : Tables) (k n : ℕ) (w ms kept : List ℕ) where
+  pub made-all : (r : Run Held) → AllMade o w r k t n ms kept → MadeAll r t n
+  made-all (stopped p x) h = h
+  made-all (done m css) h = (h .1 .0, h .1 .1 .0)
 
-  pub made-left : (r : Run Held) (o t : Tables) (k n : ℕ) (ms : List ℕ) → AllMade o r k t n ms → Left r t
-  made-left (stopped p x) o t k n ms h = h
-  made-left (done m css) o t k n ms h = h .1 .0
+  pub made-kept : length kept ≡ 25600 → (r : Run Held) → AllMade o w r k t n ms kept → Kept r kept w
+  made-kept l (stopped p x) h = h
+  made-kept l (done m css) h = λ few room. kept-warned w kept (allWarnings css) l (h .1 .1 .1 .1 few) few room
 
-  pub made-sorted : (o t : Tables) (k n : ℕ) (ms : List ℕ) → AllMade o run k t n ms → sortedTables (bare t) ≡ true
-  made-sorted o t k n ms h = go run refl h
-    where
-      go : (r : Run Held) → run ≡ r → AllMade o r k t n ms → sortedTables (bare t) ≡ true
-      go (stopped p x) e h = absurd h
-      go (done m css) e h =
-          ap (λ z. sortedTables (bare z)) (h .1 .0) ∙ sound-sorted (m .counter) (m .tables) (edits-done tol 1 (commands j) (record { counter = counter; tables = old }) sane m css e .1 .0)
+  module _ (tol : Tolerance) (j : Job) (counter : ℕ) (old : Tables) (sane : soundTables counter old ≡ true) where
+    abbrev run : Run Held
+    run = tableEdits tol 1 (commands j) (record { counter = counter; tables = old })
+
+    pub made-sorted : AllMade o w run k t n ms kept → sortedTables (bare t) ≡ true
+    made-sorted h = go run refl h
+      where
+        go : (r : Run Held) → run ≡ r → AllMade o w r k t n ms kept → sortedTables (bare t) ≡ true
+        go (stopped p x) e h = absurd h
+        go (done m css) e h =
+            ap (λ z. sortedTables (bare z)) (h .1 .0) ∙ sound-sorted (m .counter) (m .tables) (edits-done tol 1 (commands j) (record { counter = counter; tables = old }) sane m css e .1 .0)
 
 -- ---- the net lists
 
@@ -96,8 +103,8 @@ fronted : (w : List ℕ) (es : List EntityRef) → Fronts es (listed w es)
 unfolding listed
 fronted w es = front-back w (each entityWords es) (length es * 2) (sym (words-length es))
 
-module _ (old t : Tables) (ms : List ℕ) where
-  pub net-ready : sortedTables (bare old) ≡ true → (r : Run Held) (k told : ℕ) (n : Counts) (created modified deleted c m d : List ℕ) → AllMade (bare old) r k t told ms
+module _ (old t : Tables) (w ms kept : List ℕ) where
+  pub net-ready : sortedTables (bare old) ≡ true → (r : Run Held) (k told : ℕ) (n : Counts) (created modified deleted c m d : List ℕ) → AllMade (bare old) w r k t told ms kept
       → NetListed (bare t) (bare old) ms told created modified deleted n c m d → NetReady old r n c m d
   unfolding net vanished
   net-ready up (stopped p x) k told n created modified deleted c m d a h = absurd a
@@ -107,7 +114,7 @@ module _ (old t : Tables) (ms : List ℕ) where
       let appears : onlyIn (bare t) (bare old) ≡ cs .created = only-appeared t old ∙ ap (λ z. appeared (view old) (view z)) here in
       let vanishes : onlyIn (bare old) (bare t) ≡ cs .deleted = only-appeared old t ∙ ap (λ z. vanished (view old) (view z)) here in
       let changes : markedBoth (bare old) (bare t) ms ≡ cs .modified =
-      ap (markedBoth (bare old) (bare t)) (a .1 .1 .1)
+      ap (markedBoth (bare old) (bare t)) (a .1 .1 .1 .0)
       ∙ (both-listed old t up (allModified css) unmarked (length-replicate {A = ℕ} allMarks 0) (no-marks allMarks)
       ∙ (ap (λ z. keep (λ e. among e (entities (view z)) && among e (allModified css)) (entities (view old))) here
       ∙ keep-same (λ e. among e (entities (view (q .tables))) && among e (allModified css)) (λ e. among e (entities (view (q .tables))) && listedBy css e) (entities (view old))
@@ -138,15 +145,15 @@ module _ (old : Tables) (l : Lent) (n : Counts) (c m d : List ℕ) where
       let fits : fitsLists (listsOf l) (netOf old q css) ≡ false = sym (ap (λ z. listsFit z (l .created) (l .modified) (l .deleted) (l .warnings)) (h .0)) ∙ f in
       sym (ap (λ b. cond b (making l old q (netOf old q css)) (refusing l old NoRoom)) fits) ∙ ap (λ z. ended z q css) (sym e)
 
-  pub ends-made : (r : Run Held) (k told : ℕ) (t : Tables) (ms : List ℕ) → NetReady old r n c m d → AllMade (bare old) r k t told ms → l .tables ≡ old
+  pub ends-made : (r : Run Held) (k told : ℕ) (t : Tables) (w ms kept : List ℕ) → NetReady old r n c m d → AllMade (bare old) w r k t told ms kept → l .tables ≡ old
       → listsFit n (l .created) (l .modified) (l .deleted) (l .warnings) ≡ true
       → (t' : Tables) (c' m' d' w' : List ℕ) → WrittenAs old (l .created) (l .modified) (l .deleted) (l .warnings) r t' c' m' d' w'
       → jobEnded (record { counter = k; tables = t'; created = c'; modified = m'; deleted = d'; warnings = w' }) old (Made n) ≡ ending l old r
-  ends-made (stopped p x) k told t ms h a e f t' c' m' d' w' w = absurd h
-  ends-made (done q css) k told t ms h a e f t' c' m' d' w' w =
+  ends-made (stopped p x) k told t w ms kept h a e f t' c' m' d' w' g = absurd h
+  ends-made (done q css) k told t w ms kept h a e f t' c' m' d' w' g =
       let fits : fitsLists (listsOf l) (netOf old q css) ≡ true = sym (ap (λ z. listsFit z (l .created) (l .modified) (l .deleted) (l .warnings)) (h .0)) ∙ f in
       let same : jobEnded (record { counter = k; tables = t'; created = c'; modified = m'; deleted = d'; warnings = w' }) old (Made n) ≡ making l old q (netOf old q css) =
-      rw (a .0, w .0, w .1 .0, w .1 .1 .0, w .1 .1 .1 .0, w .1 .1 .1 .1, h .0) in
+      rw (a .0, g .0, g .1 .0, g .1 .1 .0, g .1 .1 .1 .0, g .1 .1 .1 .1, h .0) in
       same ∙ (sym (ap (λ b. cond b (making l old q (netOf old q css)) (refusing l old NoRoom)) fits) ∙ ap (λ z. ended z q css) (sym e))
 
 -- an edit was refused, and the map was put back

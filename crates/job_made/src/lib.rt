@@ -8,107 +8,25 @@ ghost use Rattle.tables.specs.View.{tablesOf};
 ghost use Rattle.tables.specs.Formed.{soundTables};
 ghost use Rattle.jobs.specs.Job.{commands};
 ghost use Rattle.step.specs.Step as S;
-ghost use Rattle.job_step.specs.Job.{ending, tableEdits};
-ghost use Rattle.job_marks.specs.Marks.{sortedTables};
-ghost use Rattle.job_made.specs.Made.{jobEnded, unmarked, AllMade, NetListed};
+ghost use Rattle.job_step.specs.Job.{jobEnded, ending, tableEdits};
+ghost use Rattle.job_made.specs.Made.{unmarked, keptFrom, keptWords, AllMade};
 use entities::Tolerance;
 use job_marks::MARKS;
 use job_run::Ran;
+use job_told::KEPT;
 use job_turn::ENTITY_LIST;
-use job_turn::WARNING_LIST;
+use job_turn::MOST_WARNINGS;
 use jobs::Job;
 use jobs::JobAnswer;
-use report::Counts;
+use report::WARNING;
+
+// Rows of the job's own warnings: behind the last that is kept there is room for those of any edit.
+const WARNING_LIST: usize = (KEPT + MOST_WARNINGS) * WARNING;
 
 // What a job leaves of the counter, and its answer.
 pub struct JobEnd {
     pub counter: u64,
     pub answer: JobAnswer,
-}
-
-// The net lists, by way of the lists of the edits, which are no longer wanted.
-fn net_lists(
-    lanes: &[u64],
-    boundaries: &[u64],
-    roads: &[u64],
-    junctions: &[u64],
-    rules: &[u64],
-    stop_lines: &[u64],
-    crosswalks: &[u64],
-    old_lanes: &[u64],
-    old_boundaries: &[u64],
-    old_roads: &[u64],
-    old_junctions: &[u64],
-    old_rules: &[u64],
-    old_stop_lines: &[u64],
-    old_crosswalks: &[u64],
-    marks: &[u64],
-    all_created: &mut [u64],
-    all_modified: &mut [u64],
-    all_deleted: &mut [u64],
-    told: usize,
-) -> Counts
-    requires { ⌜ (sortedTables (tablesOf (now lanes) (now boundaries) (now roads) (now junctions) (now rules) (now «stop_lines») (now crosswalks) []) ≡ true) × ((sortedTables (tablesOf (now «old_lanes») (now «old_boundaries») (now «old_roads») (now «old_junctions») (now «old_rules») (now «old_stop_lines») (now «old_crosswalks») []) ≡ true) × ((length (now marks) ≡ 6784) × ((length (now «all_created») ≡ 13568) × ((length (now «all_modified») ≡ 13568) × ((length (now «all_deleted») ≡ 13568)))))) ⌝ }
-    ensures { λ r. ⌜ NetListed (tablesOf (now (lanes .entry)) (now (boundaries .entry)) (now (roads .entry)) (now (junctions .entry)) (now (rules .entry)) (now («stop_lines» .entry)) (now (crosswalks .entry)) []) (tablesOf (now («old_lanes» .entry)) (now («old_boundaries» .entry)) (now («old_roads» .entry)) (now («old_junctions» .entry)) (now («old_rules» .entry)) (now («old_stop_lines» .entry)) (now («old_crosswalks» .entry)) []) (now (marks .entry)) told (now («all_created» .entry)) (now («all_modified» .entry)) (now («all_deleted» .entry)) r (now («all_created» .exit)) (now («all_modified» .exit)) (now («all_deleted» .exit)) ⌝ }
-{
-    let created = job_net::list_only(
-        lanes,
-        boundaries,
-        roads,
-        junctions,
-        rules,
-        stop_lines,
-        crosswalks,
-        old_lanes,
-        old_boundaries,
-        old_roads,
-        old_junctions,
-        old_rules,
-        old_stop_lines,
-        old_crosswalks,
-        all_created,
-    );
-    let deleted = job_net::list_only(
-        old_lanes,
-        old_boundaries,
-        old_roads,
-        old_junctions,
-        old_rules,
-        old_stop_lines,
-        old_crosswalks,
-        lanes,
-        boundaries,
-        roads,
-        junctions,
-        rules,
-        stop_lines,
-        crosswalks,
-        all_deleted,
-    );
-    let modified = job_net::list_both(
-        old_lanes,
-        old_boundaries,
-        old_roads,
-        old_junctions,
-        old_rules,
-        old_stop_lines,
-        old_crosswalks,
-        lanes,
-        boundaries,
-        roads,
-        junctions,
-        rules,
-        stop_lines,
-        crosswalks,
-        marks,
-        all_modified,
-    );
-    Counts {
-        created,
-        modified,
-        deleted,
-        warnings: told,
-    }
 }
 
 // The end of a job whose edits are all made: the net lists, or the way back where the lent ones are too short.
@@ -133,20 +51,21 @@ fn finish(
     old_stop_lines: &[u64],
     old_crosswalks: &[u64],
     old_coordinates: &[f64],
-    marks: &[u64],
+    marks: &mut [u64],
     all_created: &mut [u64],
     all_modified: &mut [u64],
     all_deleted: &mut [u64],
+    kept: &[u64],
     told: usize,
     created: &mut [u64],
     modified: &mut [u64],
     deleted: &mut [u64],
     warnings: &mut [u64],
 ) -> JobEnd
-    requires { ⌜ (soundTables counter (tablesOf (now «old_lanes») (now «old_boundaries») (now «old_roads») (now «old_junctions») (now «old_rules») (now «old_stop_lines») (now «old_crosswalks») (now «old_coordinates»)) ≡ true) × ((job .count ≤ 64) × ((AllMade (tablesOf (now «old_lanes») (now «old_boundaries») (now «old_roads») (now «old_junctions») (now «old_rules») (now «old_stop_lines») (now «old_crosswalks») []) (tableEdits tolerance 1 (commands job) (record { counter = counter; tables = (tablesOf (now «old_lanes») (now «old_boundaries») (now «old_roads») (now «old_junctions») (now «old_rules») (now «old_stop_lines») (now «old_crosswalks») (now «old_coordinates»)) })) next (tablesOf (now lanes) (now boundaries) (now roads) (now junctions) (now rules) (now «stop_lines») (now crosswalks) (now coordinates)) told (now marks)) × ((length (now marks) ≡ 6784) × ((length (now «all_created») ≡ 13568) × ((length (now «all_modified») ≡ 13568) × ((length (now «all_deleted») ≡ 13568))))))) ⌝ }
+    requires { ⌜ (soundTables counter (tablesOf (now «old_lanes») (now «old_boundaries») (now «old_roads») (now «old_junctions») (now «old_rules») (now «old_stop_lines») (now «old_crosswalks») (now «old_coordinates»)) ≡ true) × ((job .count ≤ 64) × (AllMade (tablesOf (now «old_lanes») (now «old_boundaries») (now «old_roads») (now «old_junctions») (now «old_rules») (now «old_stop_lines») (now «old_crosswalks») []) (now warnings) (tableEdits tolerance 1 (commands job) (record { counter = counter; tables = (tablesOf (now «old_lanes») (now «old_boundaries») (now «old_roads») (now «old_junctions») (now «old_rules») (now «old_stop_lines») (now «old_crosswalks») (now «old_coordinates»)) })) next (tablesOf (now lanes) (now boundaries) (now roads) (now junctions) (now rules) (now «stop_lines») (now crosswalks) (now coordinates)) told (now marks) (now kept) × ((length (now kept) ≡ 25600) × ((length (now marks) ≡ 6784) × ((length (now «all_created») ≡ 13568) × ((length (now «all_modified») ≡ 13568) × (length (now «all_deleted») ≡ 13568))))))) ⌝ }
     ensures { λ r. ⌜ jobEnded (S.lentOf (r .counter) (now (lanes .exit)) (now (boundaries .exit)) (now (roads .exit)) (now (junctions .exit)) (now (rules .exit)) (now («stop_lines» .exit)) (now (crosswalks .exit)) (now (coordinates .exit)) (now (created .exit)) (now (modified .exit)) (now (deleted .exit)) (now (warnings .exit))) (tablesOf (now («old_lanes» .entry)) (now («old_boundaries» .entry)) (now («old_roads» .entry)) (now («old_junctions» .entry)) (now («old_rules» .entry)) (now («old_stop_lines» .entry)) (now («old_crosswalks» .entry)) (now («old_coordinates» .entry))) (r .answer) ≡ ending (S.lentOf counter (now («old_lanes» .entry)) (now («old_boundaries» .entry)) (now («old_roads» .entry)) (now («old_junctions» .entry)) (now («old_rules» .entry)) (now («old_stop_lines» .entry)) (now («old_crosswalks» .entry)) (now («old_coordinates» .entry)) (now (created .entry)) (now (modified .entry)) (now (deleted .entry)) (now (warnings .entry))) (tablesOf (now («old_lanes» .entry)) (now («old_boundaries» .entry)) (now («old_roads» .entry)) (now («old_junctions» .entry)) (now («old_rules» .entry)) (now («old_stop_lines» .entry)) (now («old_crosswalks» .entry)) (now («old_coordinates» .entry))) (tableEdits tolerance 1 (commands job) (record { counter = counter; tables = (tablesOf (now («old_lanes» .entry)) (now («old_boundaries» .entry)) (now («old_roads» .entry)) (now («old_junctions» .entry)) (now («old_rules» .entry)) (now («old_stop_lines» .entry)) (now («old_crosswalks» .entry)) (now («old_coordinates» .entry))) })) ⌝ }
 {
-    let n = net_lists(
+    let n = job_net::net_lists(
         lanes,
         boundaries,
         roads,
@@ -211,9 +130,11 @@ fn finish(
         old_stop_lines,
         old_crosswalks,
         old_coordinates,
+        marks,
         all_created,
         all_modified,
         all_deleted,
+        kept,
         n,
         created,
         modified,
@@ -226,7 +147,7 @@ fn finish(
     }
 }
 
-// The first run, and what follows from it.
+// The edits, and what follows from them.
 fn make_with(
     counter: u64,
     tolerance: Tolerance,
@@ -251,16 +172,16 @@ fn make_with(
     all_created: &mut [u64],
     all_modified: &mut [u64],
     all_deleted: &mut [u64],
-    all_warnings: &mut [u64],
+    kept: &mut [u64],
     created: &mut [u64],
     modified: &mut [u64],
     deleted: &mut [u64],
     warnings: &mut [u64],
 ) -> JobEnd
-    requires { ⌜ (soundTables counter (tablesOf (now lanes) (now boundaries) (now roads) (now junctions) (now rules) (now «stop_lines») (now crosswalks) (now coordinates)) ≡ true) × ((job .count ≤ 64) × (((tablesOf (now «old_lanes») (now «old_boundaries») (now «old_roads») (now «old_junctions») (now «old_rules») (now «old_stop_lines») (now «old_crosswalks») (now «old_coordinates»)) ≡ (tablesOf (now lanes) (now boundaries) (now roads) (now junctions) (now rules) (now «stop_lines») (now crosswalks) (now coordinates))) × ((now marks ≡ unmarked) × ((length (now «all_warnings») ≡ 20480) × ((length (now «all_created») ≡ 13568) × ((length (now «all_modified») ≡ 13568) × ((length (now «all_deleted») ≡ 13568)))))))) ⌝ }
+    requires { ⌜ (soundTables counter (tablesOf (now lanes) (now boundaries) (now roads) (now junctions) (now rules) (now «stop_lines») (now crosswalks) (now coordinates)) ≡ true) × ((job .count ≤ 64) × (((tablesOf (now «old_lanes») (now «old_boundaries») (now «old_roads») (now «old_junctions») (now «old_rules») (now «old_stop_lines») (now «old_crosswalks») (now «old_coordinates»)) ≡ (tablesOf (now lanes) (now boundaries) (now roads) (now junctions) (now rules) (now «stop_lines») (now crosswalks) (now coordinates))) × ((now marks ≡ unmarked) × ((now kept ≡ keptFrom (now warnings)) × ((length (now «all_created») ≡ 13568) × ((length (now «all_modified») ≡ 13568) × (length (now «all_deleted») ≡ 13568))))))) ⌝ }
     ensures { λ r. ⌜ jobEnded (S.lentOf (r .counter) (now (lanes .exit)) (now (boundaries .exit)) (now (roads .exit)) (now (junctions .exit)) (now (rules .exit)) (now («stop_lines» .exit)) (now (crosswalks .exit)) (now (coordinates .exit)) (now (created .exit)) (now (modified .exit)) (now (deleted .exit)) (now (warnings .exit))) (tablesOf (now («old_lanes» .entry)) (now («old_boundaries» .entry)) (now («old_roads» .entry)) (now («old_junctions» .entry)) (now («old_rules» .entry)) (now («old_stop_lines» .entry)) (now («old_crosswalks» .entry)) (now («old_coordinates» .entry))) (r .answer) ≡ ending (S.lentOf counter (now (lanes .entry)) (now (boundaries .entry)) (now (roads .entry)) (now (junctions .entry)) (now (rules .entry)) (now («stop_lines» .entry)) (now (crosswalks .entry)) (now (coordinates .entry)) (now (created .entry)) (now (modified .entry)) (now (deleted .entry)) (now (warnings .entry))) (tablesOf (now («old_lanes» .entry)) (now («old_boundaries» .entry)) (now («old_roads» .entry)) (now («old_junctions» .entry)) (now («old_rules» .entry)) (now («old_stop_lines» .entry)) (now («old_crosswalks» .entry)) (now («old_coordinates» .entry))) (tableEdits tolerance 1 (commands job) (record { counter = counter; tables = (tablesOf (now (lanes .entry)) (now (boundaries .entry)) (now (roads .entry)) (now (junctions .entry)) (now (rules .entry)) (now («stop_lines» .entry)) (now (crosswalks .entry)) (now (coordinates .entry))) })) ⌝ }
 {
-    let ran = job_run::try_all(
+    let ran = job_run::make_edits(
         counter,
         tolerance,
         lanes,
@@ -275,7 +196,8 @@ fn make_with(
         all_created,
         all_modified,
         all_deleted,
-        all_warnings,
+        kept,
+        KEPT,
         old_lanes,
         old_boundaries,
         old_roads,
@@ -338,6 +260,7 @@ fn make_with(
             all_created,
             all_modified,
             all_deleted,
+            kept,
             told,
             created,
             modified,
@@ -345,6 +268,16 @@ fn make_with(
             warnings,
         ),
     }
+}
+
+// How many words of the lent warnings have a place among those that are kept.
+fn kept_words(n: usize) -> usize
+    ensures { λ r. ⌜ r ≡ keptWords n ⌝ }
+{
+    if n < KEPT * WARNING {
+        return n;
+    }
+    KEPT * WARNING
 }
 
 // The job made on a sound map, of which the old slices are a copy.
@@ -373,14 +306,16 @@ pub fn make(
     deleted: &mut [u64],
     warnings: &mut [u64],
 ) -> JobEnd
-    requires { ⌜ (soundTables counter (tablesOf (now lanes) (now boundaries) (now roads) (now junctions) (now rules) (now «stop_lines») (now crosswalks) (now coordinates)) ≡ true) × ((job .count ≤ 64) × (((tablesOf (now «old_lanes») (now «old_boundaries») (now «old_roads») (now «old_junctions») (now «old_rules») (now «old_stop_lines») (now «old_crosswalks») (now «old_coordinates»)) ≡ (tablesOf (now lanes) (now boundaries) (now roads) (now junctions) (now rules) (now «stop_lines») (now crosswalks) (now coordinates))))) ⌝ }
+    requires { ⌜ (soundTables counter (tablesOf (now lanes) (now boundaries) (now roads) (now junctions) (now rules) (now «stop_lines») (now crosswalks) (now coordinates)) ≡ true) × ((job .count ≤ 64) × ((tablesOf (now «old_lanes») (now «old_boundaries») (now «old_roads») (now «old_junctions») (now «old_rules») (now «old_stop_lines») (now «old_crosswalks») (now «old_coordinates»)) ≡ (tablesOf (now lanes) (now boundaries) (now roads) (now junctions) (now rules) (now «stop_lines») (now crosswalks) (now coordinates)))) ⌝ }
     ensures { λ r. ⌜ jobEnded (S.lentOf (r .counter) (now (lanes .exit)) (now (boundaries .exit)) (now (roads .exit)) (now (junctions .exit)) (now (rules .exit)) (now («stop_lines» .exit)) (now (crosswalks .exit)) (now (coordinates .exit)) (now (created .exit)) (now (modified .exit)) (now (deleted .exit)) (now (warnings .exit))) (tablesOf (now («old_lanes» .entry)) (now («old_boundaries» .entry)) (now («old_roads» .entry)) (now («old_junctions» .entry)) (now («old_rules» .entry)) (now («old_stop_lines» .entry)) (now («old_crosswalks» .entry)) (now («old_coordinates» .entry))) (r .answer) ≡ ending (S.lentOf counter (now (lanes .entry)) (now (boundaries .entry)) (now (roads .entry)) (now (junctions .entry)) (now (rules .entry)) (now («stop_lines» .entry)) (now (crosswalks .entry)) (now (coordinates .entry)) (now (created .entry)) (now (modified .entry)) (now (deleted .entry)) (now (warnings .entry))) (tablesOf (now («old_lanes» .entry)) (now («old_boundaries» .entry)) (now («old_roads» .entry)) (now («old_junctions» .entry)) (now («old_rules» .entry)) (now («old_stop_lines» .entry)) (now («old_crosswalks» .entry)) (now («old_coordinates» .entry))) (tableEdits tolerance 1 (commands job) (record { counter = counter; tables = (tablesOf (now (lanes .entry)) (now (boundaries .entry)) (now (roads .entry)) (now (junctions .entry)) (now (rules .entry)) (now («stop_lines» .entry)) (now (crosswalks .entry)) (now (coordinates .entry))) })) ⌝ }
 {
     let mut marks = [0; MARKS];
     let mut all_created = [0; ENTITY_LIST];
     let mut all_modified = [0; ENTITY_LIST];
     let mut all_deleted = [0; ENTITY_LIST];
-    let mut all_warnings = [0; WARNING_LIST];
+    let mut kept = [0; WARNING_LIST];
+    let m = kept_words(warnings.len());
+    slots::copy(&warnings[..m], &mut kept, 0);
     make_with(
         counter,
         tolerance,
@@ -405,7 +340,7 @@ pub fn make(
         &mut all_created,
         &mut all_modified,
         &mut all_deleted,
-        &mut all_warnings,
+        &mut kept,
         created,
         modified,
         deleted,

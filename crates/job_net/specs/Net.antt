@@ -1,14 +1,17 @@
 -- The net lists of a job as the rows of the two ends give them. Nothing that a host calls rests on these; their laws tie them to `net` (crate `jobs`).
+use mathlib.Core.Path.{_≡_}
 use Prim.Native.Nat.{ℕ, suc, _+_}
 use mathlib.Core.Bool.{Bool, true, false, not, _&&_, cond}
 use mathlib.Core.List.{List, [], _∷_, _++_}
 use lib.Dec.{eqb, ltb}
-use lib.ListN.{getD, drop}
+use lib.ListN.{length, getD, drop}
 use Rattle.lists.specs.Rows.{keys}
 use Rattle.lists.specs.Select.{keep, has}
 use Rattle.rules.specs.Names.{EntityRef, LaneKind, BoundaryKind, RoadKind, JunctionKind, StopLineKind, CrosswalkKind, RuleKind}
 use Rattle.rules.specs.Edit.{refs, when}
 use Rattle.tables.specs.View.{Tables, word, laneWords, boundaryWords, roadWords, junctionWords, ruleWords, stopLineWords, crosswalkWords}
+use Rattle.report.specs.Report.{listed}
+use Rattle.report.specs.declared.Counts.{Counts}
 use Rattle.job_marks.specs.Marks.{laneMarks, boundaryMarks, roadMarks, junctionMarks, stopLineMarks, crosswalkMarks, ruleMarks}
 
 -- the ids of a table
@@ -52,3 +55,17 @@ markedBoth t others ms =
     ++ (refs StopLineKind (markedIn (tableIds stopLineWords (others .stop-lines)) (drop stopLineMarks ms) (tableIds stopLineWords (t .stop-lines)))
     ++ (refs CrosswalkKind (markedIn (tableIds crosswalkWords (others .crosswalks)) (drop crosswalkMarks ms) (tableIds crosswalkWords (t .crosswalks)))
     ++ refs RuleKind (markedIn (tableIds ruleWords (others .rules)) (drop ruleMarks ms) (tableIds ruleWords (t .rules))))))))
+
+-- ---- the three lists
+
+-- each is written at the front of what is lent for it; `told` is how many warnings the job has
+abbrev pub NetListed : Tables → Tables → List ℕ → ℕ → List ℕ → List ℕ → List ℕ → Counts → List ℕ → List ℕ → List ℕ → Type 0
+NetListed t old ms told created modified deleted n c m d =
+    (n
+    ≡ record {
+      created = length (onlyIn t old);
+      modified = length (markedBoth old t ms);
+      deleted = length (onlyIn old t);
+      warnings = told;
+    })
+    × ((c ≡ listed created (onlyIn t old)) × ((m ≡ listed modified (markedBoth old t ms)) × (d ≡ listed deleted (onlyIn old t))))

@@ -27,6 +27,7 @@ use job_marks::RULE_KIND;
 use job_marks::RULE_MARKS;
 use job_marks::STOP_LINE_KIND;
 use job_marks::STOP_LINE_MARKS;
+use report::Counts;
 use tables::BOUNDARY;
 use tables::CROSSWALK;
 use tables::JUNCTION;
@@ -259,4 +260,89 @@ pub fn list_both(
         out,
         crosswalks_end,
     )
+}
+
+// The three net lists, each from its front on, and how many there are of each.
+pub fn net_lists(
+    lanes: &[u64],
+    boundaries: &[u64],
+    roads: &[u64],
+    junctions: &[u64],
+    rules: &[u64],
+    stop_lines: &[u64],
+    crosswalks: &[u64],
+    old_lanes: &[u64],
+    old_boundaries: &[u64],
+    old_roads: &[u64],
+    old_junctions: &[u64],
+    old_rules: &[u64],
+    old_stop_lines: &[u64],
+    old_crosswalks: &[u64],
+    marks: &[u64],
+    all_created: &mut [u64],
+    all_modified: &mut [u64],
+    all_deleted: &mut [u64],
+    told: usize,
+) -> Counts
+    requires { ⌜ (sortedTables (tablesOf (now lanes) (now boundaries) (now roads) (now junctions) (now rules) (now «stop_lines») (now crosswalks) []) ≡ true) × ((sortedTables (tablesOf (now «old_lanes») (now «old_boundaries») (now «old_roads») (now «old_junctions») (now «old_rules») (now «old_stop_lines») (now «old_crosswalks») []) ≡ true) × ((length (now marks) ≡ 6784) × ((length (now «all_created») ≡ 13568) × ((length (now «all_modified») ≡ 13568) × ((length (now «all_deleted») ≡ 13568)))))) ⌝ }
+    ensures { λ r. ⌜ N.NetListed (tablesOf (now (lanes .entry)) (now (boundaries .entry)) (now (roads .entry)) (now (junctions .entry)) (now (rules .entry)) (now («stop_lines» .entry)) (now (crosswalks .entry)) []) (tablesOf (now («old_lanes» .entry)) (now («old_boundaries» .entry)) (now («old_roads» .entry)) (now («old_junctions» .entry)) (now («old_rules» .entry)) (now («old_stop_lines» .entry)) (now («old_crosswalks» .entry)) []) (now (marks .entry)) told (now («all_created» .entry)) (now («all_modified» .entry)) (now («all_deleted» .entry)) r (now («all_created» .exit)) (now («all_modified» .exit)) (now («all_deleted» .exit)) ⌝ }
+{
+    let created = list_only(
+        lanes,
+        boundaries,
+        roads,
+        junctions,
+        rules,
+        stop_lines,
+        crosswalks,
+        old_lanes,
+        old_boundaries,
+        old_roads,
+        old_junctions,
+        old_rules,
+        old_stop_lines,
+        old_crosswalks,
+        all_created,
+    );
+    let deleted = list_only(
+        old_lanes,
+        old_boundaries,
+        old_roads,
+        old_junctions,
+        old_rules,
+        old_stop_lines,
+        old_crosswalks,
+        lanes,
+        boundaries,
+        roads,
+        junctions,
+        rules,
+        stop_lines,
+        crosswalks,
+        all_deleted,
+    );
+    let modified = list_both(
+        old_lanes,
+        old_boundaries,
+        old_roads,
+        old_junctions,
+        old_rules,
+        old_stop_lines,
+        old_crosswalks,
+        lanes,
+        boundaries,
+        roads,
+        junctions,
+        rules,
+        stop_lines,
+        crosswalks,
+        marks,
+        all_modified,
+    );
+    Counts {
+        created,
+        modified,
+        deleted,
+        warnings: told,
+    }
 }

@@ -28,7 +28,7 @@ use Rattle.job_step.specs.Job.{written, tableEdits}
 use Rattle.job_step.proofs.Edits.{edits-refused, edits-yield}
 use Rattle.job_step.proofs.Prefix.{precededBy, preceded-last, preceded-done, preceded-stopped}
 use Rattle.job_step.proofs.Turn.{turn-keeps, few-warnings}
-use Rattle.job_turn.proofs.Tried.{once, Made}
+use Rattle.job_turn.proofs.Made.{once, Made}
 use Rattle.job_run.specs.Runs.{allWarnings}
 
 -- ---- what one edit more adds

@@ -1,3 +1,3 @@
+pub mod Short
 pub mod Along
-pub mod Trying
-pub mod Telling
+pub mod Running

@@ -1,7 +1,10 @@
--- The two runs of a job's edits. Nothing that a host calls rests on this page; `tableEdits` (crate `job_step`) is what they make.
+-- A run through a job's edits. Nothing that a host calls rests on this page; `tableEdits` (crate `job_step`) is what it makes.
 use mathlib.Core.Path.{_≡_}
-use Prim.Native.Nat.{ℕ}
+use Prim.Native.Nat.{ℕ, _+_, _*_, _≤_}
+use mathlib.Core.Bool.{cond}
 use mathlib.Core.List.{List}
+use mathlib.Core.Logic.{_⊎_}
+use lib.Dec.{ltb}
 use lib.ListN.{length}
 use Rattle.lists.specs.Select.{each}
 use Rattle.entities.specs.Records.{ChangeSet, Issue}
@@ -23,21 +26,32 @@ allWarnings css = each (λ cs. cs .warnings) css
 abbrev pub allModified : List ChangeSet → List EntityRef
 allModified css = each (λ cs. cs .modified) css
 
--- the first run: its answer, the tables that it leaves and the marks. Where an edit was refused only the tables' lengths are told: they are put back.
-abbrev pub RanAs : Tables → List ℕ → Tables → Run Held → Ran → Tables → List ℕ → Type 0
-RanAs old ms t (J.stopped place r) a t' ms' = (a ≡ Stopped place r) × (lengthsOf t' ≡ lengthsOf t)
-RanAs old ms t (J.done k css) a t' ms' =
-    (a ≡ Done (k .counter) (length (allWarnings css))) × ((t' ≡ k .tables) × (ms' ≡ markAll old (pairsOf (allModified css)) ms))
+-- ---- the rows of warnings
 
--- the second run, of edits that are all made
-abbrev pub AllDone : Run Held → Type 0
-AllDone (J.stopped place r) = ⊥
-AllDone (J.done k css) = k ≡ k
+-- an edit's warnings go behind those of the edits before it, but no further than this
+abbrev pub rowFor : ℕ → ℕ → ℕ
+rowFor told rows = cond (ltb told rows) told rows
 
-abbrev pub warningsOf : Run Held → ℕ
-warningsOf (J.stopped place r) = 0
-warningsOf (J.done k css) = length (allWarnings css)
+-- the edits are all made, with no more warnings than this
+abbrev pub AllWithin : ℕ → Run Held → Type 0
+AllWithin rows (J.stopped place r) = ⊥
+AllWithin rows (J.done k css) = length (allWarnings css) ≤ rows
 
-abbrev pub ToldAs : List ℕ → Run Held → Tables → List ℕ → Type 0
-ToldAs w (J.stopped place r) t w' = t ≡ t
-ToldAs w (J.done k css) t w' = (t ≡ k .tables) × (w' ≡ warned w (allWarnings css))
+-- no edit has more warnings (crate `list_limits`)
+abbrev pub mostWarnings : ℕ
+mostWarnings = 2048
+
+-- rows enough: behind the first `rows` for those of any edit, or for all that there are
+abbrev pub WarningRoom : Run Held → ℕ → ℕ → Type 0
+WarningRoom run rows n = ((rows + mostWarnings) * 10 ≤ n) ⊎ (AllWithin rows run × (rows * 10 ≤ n))
+
+-- ---- the run
+
+-- Its answer, the tables that it leaves, the marks, and the warnings if they are no more than `rows`. Where an edit was refused only the tables' lengths are
+-- told: they are put back.
+abbrev pub RanAs : Tables → List ℕ → ℕ → List ℕ → Tables → Run Held → Ran → Tables → List ℕ → List ℕ → Type 0
+RanAs old ms rows w t (J.stopped place r) a t' ms' w' = (a ≡ Stopped place r) × (lengthsOf t' ≡ lengthsOf t)
+RanAs old ms rows w t (J.done k css) a t' ms' w' =
+    (a ≡ Done (k .counter) (length (allWarnings css)))
+    × ((t' ≡ k .tables)
+    × ((ms' ≡ markAll old (pairsOf (allModified css)) ms) × (length (allWarnings css) ≤ rows → w' ≡ warned w (allWarnings css))))

@@ -1,7 +1,7 @@
 -- Demand 3 on lent memory, over every list in which edits and jobs stand side by side, from any sound memory, with any tolerances and anything lent. Assumes
 -- nothing.
 use mathlib.Core.Path.{_≡_, refl, sym, ap, _∙_, subst}
-use mathlib.Core.Bool.{Bool, true, false, cond}
+use mathlib.Core.Bool.{Bool, true, false}
 use mathlib.Core.List.{List, [], _∷_, map}
 use lib.Dec.{leb}
 use Rattle.lists.specs.Select.{each}
@@ -21,15 +21,16 @@ use Rattle.step.specs.Run.{Held, lend, heldIn, lengthsOf, mapIn}
 use Rattle.step.proofs.Keeping.{closed, call-kept}
 use Rattle.step.proofs.Claim.{keeps}
 use Rattle.jobs.specs.declared.JobAnswer.{JobAnswer}
-use Rattle.jobs.specs.declared.JobAnswer.the-variants.{Made, TooManyEdits, Unsound, NoRoom, EditRefused}
+use Rattle.jobs.specs.declared.JobAnswer.the-variants.{Made, TooManyEdits, NoRoom, EditRefused}
 use Rattle.jobs.specs.Job.{JobOutcome, Run, done, stopped, maxEdits, commands, edits, net, refusedJob, finishJob, jobMap}
 use Rattle.job_laws.specs.Deeds.{Deed, a-job, stateBehind, afterAll}
 use Rattle.job_laws.proofs.Claim.{deed-claim-3}
 use Rattle.area.specs.Area.{areaFits, copied}
-use Rattle.job_step.specs.Job.{JobEnded, refusing, making, ending, jobStep, tableEdits}
+use Rattle.job_step.specs.Job.{JobLent, JobEnded, refusing, making, ending, tableEdits, jobLent}
 use Rattle.job_step.specs.Run.{JobLending, TableDeed, edit-with, job-with, lendJob, callJob, heldBehind, jobOn, deedOn, heldAfterAll, JobClosed, Closed, AllClosed, TableDeedClaim3}
 use Rattle.job_step.proofs.Edits.{Stays, Left, onMaps, room-same, edits-beside}
 use Rattle.job_step.proofs.Area.{area-same}
+use Rattle.job_step.proofs.Ends.{job-too-many, job-short, job-runs}
 
 -- ---- one job
 
@@ -58,48 +59,37 @@ module _ (tol : Tolerance) (h : Held) (sane : soundTables (h .counter) (h .table
 
   ending-kept : (area : Tables) (r : Run Held) → Left h r → JobKept h c (ending (lendJob h c) area r) (finishJob (listsOf (lendJob h c)) (mapIn h) (onMaps r))
   ending-kept area (stopped place r) left = refused-kept area (EditRefused place r)
-  ending-kept area (done k css) left = lists (O.fitsLists (listsOf (lendJob h c)) (net (view (h .tables)) (view (k .tables)) css))
+  ending-kept area (done k css) left = lists (O.fitsLists (listsOf (lendJob h c)) (net (view (h .tables)) (view (k .tables)) css)) refl
     where
-      lists : (fits : Bool)
-          → let cs = net (view (h .tables)) (view (k .tables)) css in
-          JobKept h c (cond fits (making (lendJob h c) area k cs) (refusing (lendJob h c) area NoRoom))
-          (cond fits (record { state = mapIn k; changes = cs; answer = Made (counts cs) }) (refusedJob (mapIn h) NoRoom))
-      lists true = made-kept area k (net (view (h .tables)) (view (k .tables)) css) left
-      lists false = refused-kept area NoRoom
+      lists : (fits : Bool) → O.fitsLists (listsOf (lendJob h c)) (net (view (h .tables)) (view (k .tables)) css) ≡ fits
+          → JobKept h c (ending (lendJob h c) area (done k css)) (finishJob (listsOf (lendJob h c)) (mapIn h) (onMaps (done k css)))
+      lists true e = rw e (made-kept area k (net (view (h .tables)) (view (k .tables)) css) left)
+      lists false e = rw e (refused-kept area NoRoom)
 
-  -- by its tests
-  abbrev onTables : Bool → Bool → Bool → JobEnded
-  onTables few sound area =
-      let l = lendJob h c in
-      cond few
-      (cond sound
-      (cond area (ending l (copied (h .tables) (c .area)) (tableEdits tol 1 (commands (c .job)) h)) (refusing l (c .area) NoRoom))
-      (refusing l (c .area) Unsound))
-      (refusing l (c .area) TooManyEdits)
-
-  abbrev onMap : Bool → Bool → Bool → JobOutcome
-  onMap few sound area =
-      let s = mapIn h in
-      cond few
-      (cond sound (cond area (finishJob (listsOf (lendJob h c)) s (edits tol (roomOf (h .tables)) 1 (commands (c .job)) s)) (refusedJob s NoRoom)) (refusedJob s Unsound))
-      (refusedJob s TooManyEdits)
-
-  tests-kept : (few area : Bool) → JobKept h c (onTables few true area) (onMap few true area)
-  tests-kept false area = refused-kept (c .area) TooManyEdits
-  tests-kept true false = refused-kept (c .area) NoRoom
-  tests-kept true true =
+  runs-kept : (area : Tables)
+      → JobKept h c (ending (lendJob h c) area (tableEdits tol 1 (commands (c .job)) h))
+      (finishJob (listsOf (lendJob h c)) (mapIn h) (edits tol (roomOf (h .tables)) 1 (commands (c .job)) (mapIn h)))
+  runs-kept area =
       let r = tableEdits tol 1 (commands (c .job)) h in
-      let area = copied (h .tables) (c .area) in
       let (same, left) = edits-beside tol 1 (commands (c .job)) h sane in
       subst (λ x. JobKept h c (ending (lendJob h c) area r) (finishJob (listsOf (lendJob h c)) (mapIn h) x)) same (ending-kept area r left)
 
+  -- by its tests
   pub job-kept : JobKept h c (callJob tol h c) (jobMap tol (roomOf (h .tables)) (jobOn h c) (mapIn h))
-  unfolding jobStep jobMap
-  job-kept =
-      let few = leb (c .job .count) maxEdits in
-      let area = areaFits (h .tables) (c .area) in
-      subst (λ b. JobKept h c (onTables few b area) (onMap few (sound (h .counter) (view (h .tables))) area)) (sym sane)
-      (subst (λ b. JobKept h c (onTables few true area) (onMap few b area)) (sym (sound-map (h .counter) (h .tables) sane)) (tests-kept few area))
+  unfolding jobMap
+  job-kept = tests (leb (c .job .count) maxEdits) refl (areaFits (h .tables) (c .area)) refl
+    where
+      l : JobLent
+      l = jobLent (lendJob h c) (c .area)
+
+      good : sound (h .counter) (view (h .tables)) ≡ true
+      good = sound-map (h .counter) (h .tables) sane
+
+      tests : (few : Bool) → leb (c .job .count) maxEdits ≡ few → (area : Bool) → areaFits (h .tables) (c .area) ≡ area
+          → JobKept h c (callJob tol h c) (jobMap tol (roomOf (h .tables)) (jobOn h c) (mapIn h))
+      tests false e area f = rw (job-too-many tol (c .job) l e, e) (refused-kept (c .area) TooManyEdits)
+      tests true e false f = rw (job-short tol (c .job) l e sane f, e, good, f) (refused-kept (c .area) NoRoom)
+      tests true e true f = rw (job-runs tol (c .job) l e sane f, e, good, f) (runs-kept (copied (h .tables) (c .area)))
 
 -- ---- one deed
 

@@ -22,18 +22,14 @@ use Rattle.job_step.proofs.Turn.{Turned, turn-keeps}
 -- ---- one edit of them
 
 module _ (tol : Tolerance) (place : ℕ) (c : Command) (cs : List Command) (h : Held) where
-  -- by what the first edit comes to
-  abbrev onTables : Res Edited → Run Held
-  onTables x = elim x [ refuse r ↦ stopped place r | yield e ↦ preceded (e .changes) (tableEdits tol (suc place) cs (written c h e)) ]
-
   pub edits-refused : (r : Refusal) → editOnce tol (roomOf (h .tables)) c (mapIn h) ≡ refuse r → tableEdits tol place (c ∷ cs) h ≡ stopped place r
   unfolding tableEdits
-  edits-refused r y = ap onTables y
+  edits-refused r y = rw (y, tableEdits)
 
   pub edits-yield : (e : Edited) → editOnce tol (roomOf (h .tables)) c (mapIn h) ≡ yield e
       → tableEdits tol place (c ∷ cs) h ≡ preceded (e .changes) (tableEdits tol (suc place) cs (written c h e))
   unfolding tableEdits
-  edits-yield e y = ap onTables y
+  edits-yield e y = rw (y, tableEdits)
 
 -- ---- all of them
 
@@ -90,14 +86,10 @@ module _ (tol : Tolerance) where
   edits-beside place [] h sane = (refl, (sane, refl))
   edits-beside place (c ∷ cs) h sane = go (editOnce tol (roomOf (h .tables)) c (mapIn h)) refl (edits-beside (suc place) cs)
     where
-      onMap : Res Edited → Run State
-      onMap x =
-          elim x [ refuse r ↦ stopped place r | yield e ↦ preceded (e .changes) (edits tol (roomOf (h .tables)) (suc place) cs (acceptedAs (mapIn h) e .state)) ]
-
       go : (x : Res Edited) → editOnce tol (roomOf (h .tables)) c (mapIn h) ≡ x → ((k : Held) → soundTables (k .counter) (k .tables) ≡ true → Beside (suc place) cs k)
-          → (onMaps (onTables tol place c cs h x) ≡ onMap x) × Left h (onTables tol place c cs h x)
-      go (refuse r) y rest = (refl, tt)
-      go (yield e) y rest = let t = turn-keeps tol c h sane e y in behind (suc place) c cs h e t (rest (written c h e) (t .stays-sound))
+          → Beside place (c ∷ cs) h
+      go (refuse r) y rest = rw (edits-refused tol place c cs h r y, y, edits) (refl, tt)
+      go (yield e) y rest = let t = turn-keeps tol c h sane e y in rw (edits-yield tol place c cs h e y, y, edits) (behind (suc place) c cs h e t (rest (written c h e) (t .stays-sound)))
 
   module _ (place : ℕ) (cs : List Command) (h : Held) (sane : soundTables (h .counter) (h .tables) ≡ true) where
     pub edits-stopped : (p : ℕ) (r : Refusal) → tableEdits tol place cs h ≡ stopped p r → edits tol (roomOf (h .tables)) place cs (mapIn h) ≡ stopped p r

@@ -89,7 +89,7 @@ module _ (tol : Tolerance) (c : Command) (l : Lent) (sane : soundTables (l .coun
         let k = once-kept tol (roomOf (l .tables)) c (stateOf l) map-sound e h in
         enough-fits tol c (stateOf l) map-sound e (k .edited) (sound-facts (acceptedAs (stateOf l) e .state .counter) (e .result) (k .sound-left) .limits)
 
-    -- "refuse no edit": lists of enough places, or of enough for all but the warnings
+    -- "refuse no edit": lists of enough places for all but the warnings, and of as many for these as there are
     pub enough-entities : enough .created ≤ length (l .created) / 2 → enough .modified ≤ length (l .modified) / 2 → enough .deleted ≤ length (l .deleted) / 2
         → length (e .changes .warnings) ≤ length (l .warnings) / 10 → fitsLists (listsOf l) (e .changes) ≡ true
     enough-entities created modified deleted warnings = fits-longer enough (listsOf l) (e .changes) few created modified deleted warnings
@@ -100,10 +100,6 @@ module _ (tol : Tolerance) (c : Command) (l : Lent) (sane : soundTables (l .coun
         (and-snd
         (leb (length (e .changes .created)) (enough .created) && leb (length (e .changes .modified)) (enough .modified) && leb (length (e .changes .deleted)) (enough .deleted))
         (leb (length (e .changes .warnings)) (enough .warnings)) few)
-
-    pub enough-lists : enough .created ≤ length (l .created) / 2 → enough .modified ≤ length (l .modified) / 2 → enough .deleted ≤ length (l .deleted) / 2
-        → enough .warnings ≤ length (l .warnings) / 10 → fitsLists (listsOf l) (e .changes) ≡ true
-    enough-lists created modified deleted warnings = let w = few-warnings in enough-entities created modified deleted (omega (arith, w, warnings))
 
 -- ---- what an edit that yields keeps
 

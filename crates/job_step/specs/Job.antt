@@ -88,3 +88,6 @@ jobStep tol j l =
 
 abbrev pub jobLent : Lent → Tables → JobLent
 jobLent l area = record { lent = l; area = area }
+
+abbrev pub jobEnded : Lent → Tables → JobAnswer → JobEnded
+jobEnded l area a = record { lent = l; area = area; answer = a }

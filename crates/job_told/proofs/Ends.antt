@@ -1,20 +1,16 @@
--- The way back from tables that made edits left, and a job that warns of nothing. Assumes nothing.
-use mathlib.Core.Path.{_≡_, refl, sym, ap, _∙_, subst}
-use mathlib.Core.Bool.{true, _&&_}
-use mathlib.Core.List.{List, [], _∷_}
-use Prim.Native.Nat.{ℕ, _*_, _≤_, suc}
+-- The way back from tables that made edits left, and the warnings: kept ones copied, or told by another run. Assumes nothing.
+use mathlib.Core.Path.{_≡_, refl, ap, _∙_, subst}
+use mathlib.Core.Bool.{true}
+use mathlib.Core.List.{List}
+use Prim.Native.Nat.{ℕ, _*_, _≤_}
 use native.Mathlib.Omega.{arith}
-use lib.Dec.{leb}
 use lib.ListN.{length, take, getD}
 use lib.Seq.{take-length}
 use borrow.Author.Tests.{le-leb}
+use Rattle.lists.specs.Rows.{over}
 use Rattle.entities.specs.declared.Tolerance.{Tolerance}
-use Rattle.entities.specs.Records.{ChangeSet, Issue}
-use Rattle.rules.specs.Names.{Refusal}
 use Rattle.tables.specs.View.{Tables, tablesOf}
 use Rattle.tables.specs.Formed.{soundTables}
-use Rattle.report.specs.Report.{warned}
-use Rattle.store.specs.Store.{writes}
 use Rattle.step.specs.Run.{Held, lengthsOf}
 use Rattle.jobs.specs.declared.Job.{Job}
 use Rattle.jobs.specs.Job.{Run, done, stopped, commands}
@@ -22,8 +18,9 @@ use Rattle.area.specs.Area.{areaFits, putBack}
 use Rattle.job_step.specs.Job.{tableEdits}
 use Rattle.job_step.proofs.Area.{area-same}
 use Rattle.job_step.proofs.Edits.{edits-done}
-use Rattle.job_run.specs.Runs.{AllDone, allWarnings, warningsOf, ToldAs}
-use Rattle.job_told.specs.Told.{Left}
+use Rattle.job_run.specs.declared.Ran.{Ran}
+use Rattle.job_run.specs.Runs.{AllWithin, RanAs}
+use Rattle.job_told.specs.Told.{Kept, MadeAll, ToldAs, keptRows}
 
 -- ---- slices put back
 
@@ -71,31 +68,36 @@ put-back-same t old e = ap (λ ns. backBy ns old) e ∙ back-whole old
 
 -- ---- behind a run
 
-pub left-done : (r : Run Held) (t : Tables) → Left r t → AllDone r
-left-done (stopped p x) t l = l
-left-done (done k css) t l = refl
-
 module _ (tol : Tolerance) (j : Job) (counter : ℕ) (old : Tables) (sane : soundTables counter old ≡ true) where
   abbrev run : Run Held
   run = tableEdits tol 1 (commands j) (record { counter = counter; tables = old })
 
-  pub left-lengths : (t : Tables) → Left run t → lengthsOf t ≡ lengthsOf old
-  left-lengths t l = go run refl l
+  pub made-lengths : (t : Tables) (n : ℕ) → MadeAll run t n → lengthsOf t ≡ lengthsOf old
+  made-lengths t n l = go run refl l
     where
-      go : (r : Run Held) → run ≡ r → Left r t → lengthsOf t ≡ lengthsOf old
+      go : (r : Run Held) → run ≡ r → MadeAll r t n → lengthsOf t ≡ lengthsOf old
       go (stopped p x) e l = absurd l
-      go (done k css) e l = ap lengthsOf l ∙ edits-done tol 1 (commands j) (record { counter = counter; tables = old }) sane k css e .1 .1
+      go (done k css) e l = ap lengthsOf (l .0) ∙ edits-done tol 1 (commands j) (record { counter = counter; tables = old }) sane k css e .1 .1
 
--- ---- nothing to warn of
+-- ---- the warnings
 
-none-of : (is : List Issue) → length is ≡ 0 → is ≡ []
-none-of [] e = refl
-none-of (i ∷ is) e = absurd (nothing e)
-  where
-    nothing : suc (length is) ≡ 0 → ⊥
-    nothing e = omega arith
+module _ (t : Tables) (n : ℕ) where
+  pub made-within : (r : Run Held) → MadeAll r t n → AllWithin n r
+  made-within (stopped p x) l = l
+  made-within (done k css) l = omega (arith, l .1)
 
-pub no-warnings : (r : Run Held) (t : Tables) (w : List ℕ) → Left r t → warningsOf r ≡ 0 → ToldAs w r t w
-unfolding warned writes
-no-warnings (stopped p x) t w l e = absurd l
-no-warnings (done k css) t w l e = (l, ap (warned w) (sym (none-of (allWarnings css) e)))
+  -- kept ones are copied
+  pub kept-told : (r : Run Held) (kept w w' : List ℕ) → MadeAll r t n → Kept r kept w → n ≤ keptRows → n * 10 ≤ length w → w' ≡ over w 0 (take (n * 10) kept)
+      → ToldAs w r t w'
+  kept-told (stopped p x) kept w w' l k few room e = absurd l
+  kept-told (done q css) kept w w' l k few room e =
+      (l .0, e ∙ (ap (λ m. over w 0 (take (m * 10) kept)) (l .1) ∙ k (subst (λ m. m ≤ keptRows) (l .1) few) (subst (λ m. m * 10 ≤ length w) (l .1) room)))
+
+  -- the edits were made again, on tables that are the old ones
+  module _ (old before t' : Tables) (ms ms' w w' : List ℕ) (x : Ran) where
+    told-again : (r : Run Held) → MadeAll r t n → RanAs old ms n w before r x t' ms' w' → ToldAs w r t' w'
+    told-again (stopped p y) l h = refl
+    told-again (done q css) l h = (h .1 .0, h .1 .1 .1 (omega (arith, l .1)))
+
+    pub ran-told : (f : Tables → Run Held) (a b : Tables) → b ≡ a → MadeAll (f a) t n → RanAs old ms n w before (f b) x t' ms' w' → ToldAs w (f a) t' w'
+    ran-told f a b e l h = told-again (f a) l (subst (λ z. RanAs old ms n w before (f z) x t' ms' w') e h)

@@ -5,8 +5,7 @@ use mathlib.Core.List.{List, [], _∷_}
 use Prim.Native.Nat.{ℕ, zero, suc, _*_, _/_, _≤_}
 use native.Mathlib.Omega.{arith}
 use lib.Dec.{leb}
-use lib.ListN.{length, take, length-append}
-use lib.Seq.{length-take-le}
+use lib.ListN.{length, take}
 use borrow.Author.Tests.{leb-true}
 use Rattle.lists.specs.Rows.{over}
 use Rattle.lists.specs.Select.{each}
@@ -18,8 +17,7 @@ use Rattle.report.specs.declared.Counts.{Counts}
 use Rattle.room.specs.Room.{listsFit}
 use Rattle.step.specs.Run.{Held}
 use Rattle.jobs.specs.Job.{Run, done, stopped, net}
-use Rattle.job_run.specs.Runs.{warningsOf, ToldAs}
-use Rattle.job_told.specs.Told.{Fronts, NetReady, WrittenAs, netOf}
+use Rattle.job_told.specs.Told.{Fronts, NetReady, ToldAs, WrittenAs, netOf}
 
 -- ---- room
 
@@ -78,11 +76,6 @@ module _ (old : Tables) (n : Counts) (created modified deleted : List ℕ) where
   pub ready-deleted : (r : Run Held) → NetReady old r n created modified deleted → n .deleted * 2 ≤ length deleted
   ready-deleted (stopped p x) h = absurd h
   ready-deleted (done k css) h = subst (λ m. m * 2 ≤ length deleted) (sym (ap (λ (x : Counts). x .deleted) (h .0))) (fronts-fit (netOf old k css .deleted) deleted (h .1 .1 .1))
-
-  pub ready-warnings : (r : Run Held) → NetReady old r n created modified deleted → n .warnings ≡ warningsOf r
-  unfolding net
-  ready-warnings (stopped p x) h = absurd h
-  ready-warnings (done k css) h = ap (λ (x : Counts). x .warnings) (h .0)
 
   -- a list that is copied is written
   copied-list : (es : List EntityRef) (m : ℕ) (from to : List ℕ) → m ≡ length es → Fronts es from → over to 0 (take (m * 2) from) ≡ listed to es

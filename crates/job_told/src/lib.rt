@@ -1,6 +1,7 @@
 // The lists of a job that is made, and its warnings.
 ghost use mathlib.Core.Path.{_≡_};
 ghost use mathlib.Core.Bool.{true};
+ghost use mathlib.Core.List.{[]};
 ghost use Prim.Native.Nat.{_*_, _≤_};
 ghost use lib.ListN.{length};
 ghost use Rattle.tables.specs.View.{tablesOf};
@@ -8,14 +9,18 @@ ghost use Rattle.tables.specs.Formed.{soundTables};
 ghost use Rattle.jobs.specs.Job.{commands};
 ghost use Rattle.room.specs.Room.{listsFit};
 ghost use Rattle.job_step.specs.Job.{tableEdits};
-ghost use Rattle.job_run.specs.Runs.{warningsOf, ToldAs};
-ghost use Rattle.job_told.specs.Told.{Left, NetReady, WrittenAs};
+ghost use Rattle.job_marks.specs.Marks.{sortedTables};
+ghost use Rattle.job_told.specs.Told as D;
 use entities::Tolerance;
 use jobs::Job;
 use report::Counts;
 use report::ENTITY;
+use report::WARNING;
 
-// The warnings of a job that is made, where there are any: the map is put back, and the edits are made again.
+// As many warnings of a job are kept while its edits are made. A job that has more makes its edits again to tell them.
+pub const KEPT: usize = 512;
+
+// The warnings of a job that is made. Few are copied; for more the map is put back, and the edits are made again.
 fn tell_warnings(
     counter: u64,
     tolerance: Tolerance,
@@ -36,16 +41,19 @@ fn tell_warnings(
     old_stop_lines: &[u64],
     old_crosswalks: &[u64],
     old_coordinates: &[f64],
+    marks: &mut [u64],
     all_created: &mut [u64],
     all_modified: &mut [u64],
     all_deleted: &mut [u64],
+    kept: &[u64],
     n: usize,
     warnings: &mut [u64],
 )
-    requires { ⌜ (soundTables counter (tablesOf (now «old_lanes») (now «old_boundaries») (now «old_roads») (now «old_junctions») (now «old_rules») (now «old_stop_lines») (now «old_crosswalks») (now «old_coordinates»)) ≡ true) × ((job .count ≤ 64) × ((Left (tableEdits tolerance 1 (commands job) (record { counter = counter; tables = (tablesOf (now «old_lanes») (now «old_boundaries») (now «old_roads») (now «old_junctions») (now «old_rules») (now «old_stop_lines») (now «old_crosswalks») (now «old_coordinates»)) })) (tablesOf (now lanes) (now boundaries) (now roads) (now junctions) (now rules) (now «stop_lines») (now crosswalks) (now coordinates))) × ((n ≡ warningsOf (tableEdits tolerance 1 (commands job) (record { counter = counter; tables = (tablesOf (now «old_lanes») (now «old_boundaries») (now «old_roads») (now «old_junctions») (now «old_rules») (now «old_stop_lines») (now «old_crosswalks») (now «old_coordinates»)) }))) × ((n * 10 ≤ length (now warnings)) × ((length (now «all_created») ≡ 13568) × ((length (now «all_modified») ≡ 13568) × ((length (now «all_deleted») ≡ 13568)))))))) ⌝ }
-    ensures { λ _. ⌜ ToldAs (now (warnings .entry)) (tableEdits tolerance 1 (commands job) (record { counter = counter; tables = (tablesOf (now («old_lanes» .entry)) (now («old_boundaries» .entry)) (now («old_roads» .entry)) (now («old_junctions» .entry)) (now («old_rules» .entry)) (now («old_stop_lines» .entry)) (now («old_crosswalks» .entry)) (now («old_coordinates» .entry))) })) (tablesOf (now (lanes .exit)) (now (boundaries .exit)) (now (roads .exit)) (now (junctions .exit)) (now (rules .exit)) (now («stop_lines» .exit)) (now (crosswalks .exit)) (now (coordinates .exit))) (now (warnings .exit)) ⌝ }
+    requires { ⌜ (soundTables counter (tablesOf (now «old_lanes») (now «old_boundaries») (now «old_roads») (now «old_junctions») (now «old_rules») (now «old_stop_lines») (now «old_crosswalks») (now «old_coordinates»)) ≡ true) × ((job .count ≤ 64) × (D.MadeAll (tableEdits tolerance 1 (commands job) (record { counter = counter; tables = (tablesOf (now «old_lanes») (now «old_boundaries») (now «old_roads») (now «old_junctions») (now «old_rules») (now «old_stop_lines») (now «old_crosswalks») (now «old_coordinates»)) })) (tablesOf (now lanes) (now boundaries) (now roads) (now junctions) (now rules) (now «stop_lines») (now crosswalks) (now coordinates)) n × (D.Kept (tableEdits tolerance 1 (commands job) (record { counter = counter; tables = (tablesOf (now «old_lanes») (now «old_boundaries») (now «old_roads») (now «old_junctions») (now «old_rules») (now «old_stop_lines») (now «old_crosswalks») (now «old_coordinates»)) })) (now kept) (now warnings) × ((n * 10 ≤ length (now warnings)) × ((length (now kept) ≡ 25600) × ((length (now marks) ≡ 6784) × ((length (now «all_created») ≡ 13568) × ((length (now «all_modified») ≡ 13568) × (length (now «all_deleted») ≡ 13568))))))))) ⌝ }
+    ensures { λ _. ⌜ D.ToldAs (now (warnings .entry)) (tableEdits tolerance 1 (commands job) (record { counter = counter; tables = (tablesOf (now («old_lanes» .entry)) (now («old_boundaries» .entry)) (now («old_roads» .entry)) (now («old_junctions» .entry)) (now («old_rules» .entry)) (now («old_stop_lines» .entry)) (now («old_crosswalks» .entry)) (now («old_coordinates» .entry))) })) (tablesOf (now (lanes .exit)) (now (boundaries .exit)) (now (roads .exit)) (now (junctions .exit)) (now (rules .exit)) (now («stop_lines» .exit)) (now (crosswalks .exit)) (now (coordinates .exit))) (now (warnings .exit)) ⌝ }
 {
-    if n == 0 {
+    if n <= KEPT {
+        slots::copy(&kept[..n * WARNING], warnings, 0);
         return;
     }
     area::put_back(
@@ -66,7 +74,7 @@ fn tell_warnings(
         crosswalks,
         coordinates,
     );
-    job_run::tell_all(
+    job_run::make_edits(
         counter,
         tolerance,
         lanes,
@@ -82,6 +90,15 @@ fn tell_warnings(
         all_modified,
         all_deleted,
         warnings,
+        n,
+        old_lanes,
+        old_boundaries,
+        old_roads,
+        old_junctions,
+        old_rules,
+        old_stop_lines,
+        old_crosswalks,
+        marks,
     );
 }
 
@@ -106,17 +123,19 @@ pub fn tell(
     old_stop_lines: &[u64],
     old_crosswalks: &[u64],
     old_coordinates: &[f64],
+    marks: &mut [u64],
     all_created: &mut [u64],
     all_modified: &mut [u64],
     all_deleted: &mut [u64],
+    kept: &[u64],
     n: Counts,
     created: &mut [u64],
     modified: &mut [u64],
     deleted: &mut [u64],
     warnings: &mut [u64],
 )
-    requires { ⌜ (soundTables counter (tablesOf (now «old_lanes») (now «old_boundaries») (now «old_roads») (now «old_junctions») (now «old_rules») (now «old_stop_lines») (now «old_crosswalks») (now «old_coordinates»)) ≡ true) × ((job .count ≤ 64) × ((Left (tableEdits tolerance 1 (commands job) (record { counter = counter; tables = (tablesOf (now «old_lanes») (now «old_boundaries») (now «old_roads») (now «old_junctions») (now «old_rules») (now «old_stop_lines») (now «old_crosswalks») (now «old_coordinates»)) })) (tablesOf (now lanes) (now boundaries) (now roads) (now junctions) (now rules) (now «stop_lines») (now crosswalks) (now coordinates))) × ((NetReady (tablesOf (now «old_lanes») (now «old_boundaries») (now «old_roads») (now «old_junctions») (now «old_rules») (now «old_stop_lines») (now «old_crosswalks») (now «old_coordinates»)) (tableEdits tolerance 1 (commands job) (record { counter = counter; tables = (tablesOf (now «old_lanes») (now «old_boundaries») (now «old_roads») (now «old_junctions») (now «old_rules») (now «old_stop_lines») (now «old_crosswalks») (now «old_coordinates»)) })) n (now «all_created») (now «all_modified») (now «all_deleted»)) × ((listsFit n (now created) (now modified) (now deleted) (now warnings) ≡ true) × ((length (now «all_created») ≡ 13568) × ((length (now «all_modified») ≡ 13568) × ((length (now «all_deleted») ≡ 13568)))))))) ⌝ }
-    ensures { λ _. ⌜ WrittenAs (tablesOf (now («old_lanes» .entry)) (now («old_boundaries» .entry)) (now («old_roads» .entry)) (now («old_junctions» .entry)) (now («old_rules» .entry)) (now («old_stop_lines» .entry)) (now («old_crosswalks» .entry)) (now («old_coordinates» .entry))) (now (created .entry)) (now (modified .entry)) (now (deleted .entry)) (now (warnings .entry)) (tableEdits tolerance 1 (commands job) (record { counter = counter; tables = (tablesOf (now («old_lanes» .entry)) (now («old_boundaries» .entry)) (now («old_roads» .entry)) (now («old_junctions» .entry)) (now («old_rules» .entry)) (now («old_stop_lines» .entry)) (now («old_crosswalks» .entry)) (now («old_coordinates» .entry))) })) (tablesOf (now (lanes .exit)) (now (boundaries .exit)) (now (roads .exit)) (now (junctions .exit)) (now (rules .exit)) (now («stop_lines» .exit)) (now (crosswalks .exit)) (now (coordinates .exit))) (now (created .exit)) (now (modified .exit)) (now (deleted .exit)) (now (warnings .exit)) ⌝ }
+    requires { ⌜ (soundTables counter (tablesOf (now «old_lanes») (now «old_boundaries») (now «old_roads») (now «old_junctions») (now «old_rules») (now «old_stop_lines») (now «old_crosswalks») (now «old_coordinates»)) ≡ true) × ((job .count ≤ 64) × (D.MadeAll (tableEdits tolerance 1 (commands job) (record { counter = counter; tables = (tablesOf (now «old_lanes») (now «old_boundaries») (now «old_roads») (now «old_junctions») (now «old_rules») (now «old_stop_lines») (now «old_crosswalks») (now «old_coordinates»)) })) (tablesOf (now lanes) (now boundaries) (now roads) (now junctions) (now rules) (now «stop_lines») (now crosswalks) (now coordinates)) (n .warnings) × (D.NetReady (tablesOf (now «old_lanes») (now «old_boundaries») (now «old_roads») (now «old_junctions») (now «old_rules») (now «old_stop_lines») (now «old_crosswalks») (now «old_coordinates»)) (tableEdits tolerance 1 (commands job) (record { counter = counter; tables = (tablesOf (now «old_lanes») (now «old_boundaries») (now «old_roads») (now «old_junctions») (now «old_rules») (now «old_stop_lines») (now «old_crosswalks») (now «old_coordinates»)) })) n (now «all_created») (now «all_modified») (now «all_deleted») × (D.Kept (tableEdits tolerance 1 (commands job) (record { counter = counter; tables = (tablesOf (now «old_lanes») (now «old_boundaries») (now «old_roads») (now «old_junctions») (now «old_rules») (now «old_stop_lines») (now «old_crosswalks») (now «old_coordinates»)) })) (now kept) (now warnings) × ((listsFit n (now created) (now modified) (now deleted) (now warnings) ≡ true) × ((length (now kept) ≡ 25600) × ((length (now marks) ≡ 6784) × ((length (now «all_created») ≡ 13568) × ((length (now «all_modified») ≡ 13568) × (length (now «all_deleted») ≡ 13568)))))))))) ⌝ }
+    ensures { λ _. ⌜ D.WrittenAs (tablesOf (now («old_lanes» .entry)) (now («old_boundaries» .entry)) (now («old_roads» .entry)) (now («old_junctions» .entry)) (now («old_rules» .entry)) (now («old_stop_lines» .entry)) (now («old_crosswalks» .entry)) (now («old_coordinates» .entry))) (now (created .entry)) (now (modified .entry)) (now (deleted .entry)) (now (warnings .entry)) (tableEdits tolerance 1 (commands job) (record { counter = counter; tables = (tablesOf (now («old_lanes» .entry)) (now («old_boundaries» .entry)) (now («old_roads» .entry)) (now («old_junctions» .entry)) (now («old_rules» .entry)) (now («old_stop_lines» .entry)) (now («old_crosswalks» .entry)) (now («old_coordinates» .entry))) })) (tablesOf (now (lanes .exit)) (now (boundaries .exit)) (now (roads .exit)) (now (junctions .exit)) (now (rules .exit)) (now («stop_lines» .exit)) (now (crosswalks .exit)) (now (coordinates .exit))) (now (created .exit)) (now (modified .exit)) (now (deleted .exit)) (now (warnings .exit)) ⌝ }
 {
     slots::copy(&all_created[..n.created * ENTITY], created, 0);
     slots::copy(&all_modified[..n.modified * ENTITY], modified, 0);
@@ -141,9 +160,11 @@ pub fn tell(
         old_stop_lines,
         old_crosswalks,
         old_coordinates,
+        marks,
         all_created,
         all_modified,
         all_deleted,
+        kept,
         n.warnings,
         warnings,
     );

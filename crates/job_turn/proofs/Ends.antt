@@ -29,7 +29,7 @@ use Rattle.step.specs.Run.{heldIn, mapIn}
 use Rattle.step.proofs.Counter.{step-counter, counted-on, step-counter-fits}
 use Rattle.jobs.specs.Job.{editOnce}
 use Rattle.job_step.specs.Job.{written}
-use Rattle.job_step.proofs.Turn.{turn-refused, turn-yields, enough-lists, enough-entities}
+use Rattle.job_step.proofs.Turn.{turn-refused, turn-yields, enough-entities}
 use Rattle.job_marks.specs.Marks.{markAll, pairsIn}
 use Rattle.job_marks.proofs.Pairs.{pairs-of}
 use Rattle.job_turn.specs.Turn as T
@@ -132,33 +132,25 @@ module _ (tol : Tolerance) (c : Command) (l after : Lent) (a : Answer) (ends : e
     pub may-mark : (n : Counts) → n ≡ answerCounts a → length (after .modified) ≡ length (l .modified) → n .modified * 2 ≤ length (after .modified)
     may-mark n p q = rw (p, q) (left .modified-fits)
 
-    pub tried-as : (old : Tables) (ms v : List ℕ) (n : Counts) (t : Turn) → n ≡ answerCounts a → v ≡ markAll old (pairsIn (n .modified) (after .modified)) ms
-        → t ≡ T.answered (l .counter) a → T.tryEnds (after .tables) v t ≡ T.tried tol old c (heldIn l) ms
-    unfolding T.tried
-    tried-as old ms v n t p q r =
-        let marked = q ∙ (ap (λ k. markAll old (pairsIn (k .modified) (after .modified)) ms) p ∙ left .marks-left old ms) in
-        let turned = r ∙ left .turn-is in
-        λ i. T.tryEnds (left .tables-left i) (marked i) (turned i)
-
     -- the warnings were lent as the part that begins at row `at`
-    pub told-as : (at : ℕ) (w v : List ℕ) (t : Turn) → at * 10 ≤ length w → l .warnings ≡ midOf (at * 10) (length w - at * 10) w
-        → v ≡ putMid (at * 10) (length w - at * 10) w (after .warnings) → t ≡ T.answered (l .counter) a → T.tellEnds (after .tables) v t ≡ T.told tol c (heldIn l) at w
-    unfolding T.told
-    told-as at w v t h p q r =
-        let warned = q ∙ (part-put w (after .warnings) (at * 10) h ∙ left .warnings-left at w (p ∙ part-lent w (at * 10))) in
-        let turned = r ∙ left .turn-is in
-        λ i. T.tellEnds (left .tables-left i) (warned i) (turned i)
+    pub made-as : (old : Tables) (ms ms' : List ℕ) (at : ℕ) (w w' : List ℕ) (n : Counts) (t : Turn) → n ≡ answerCounts a
+        → ms' ≡ markAll old (pairsIn (n .modified) (after .modified)) ms → at * 10 ≤ length w → l .warnings ≡ midOf (at * 10) (length w - at * 10) w
+        → w' ≡ putMid (at * 10) (length w - at * 10) w (after .warnings) → t ≡ T.answered (l .counter) a
+        → T.turnEnds (after .tables) ms' w' t ≡ T.made tol old c (heldIn l) ms at w
+    unfolding T.made
+    made-as old ms ms' at w w' n t count marking h lent put answer =
+        let marked = marking ∙ (ap (λ k. markAll old (pairsIn (k .modified) (after .modified)) ms) count ∙ left .marks-left old ms) in
+        let warned = put ∙ (part-put w (after .warnings) (at * 10) h ∙ left .warnings-left at w (lent ∙ part-lent w (at * 10))) in
+        let turned = answer ∙ left .turn-is in
+        λ i. T.turnEnds (left .tables-left i) (marked i) (warned i) (turned i)
 
 -- ---- lists that are long enough
 
 module _ (tol : Tolerance) (c : Command) (l : Lent) (sane : soundTables (l .counter) (l .tables) ≡ true) (created : length (l .created) ≡ 13568)
     (modified : length (l .modified) ≡ 13568) (deleted : length (l .deleted) ≡ 13568) where
-  pub all-fit : length (l .warnings) ≡ 20480 → Fits tol c l
-  all-fit warnings e y = enough-lists tol c l sane e y (omega arith) (omega arith) (omega arith) (omega arith)
-
   -- of the warnings no more places than the edit has, from row `at` on
-  pub told-fit : (at : ℕ) (w : List ℕ) → l .warnings ≡ midOf (at * 10) (length w - at * 10) w → (at + T.warningCount tol c (heldIn l)) * 10 ≤ length w → Fits tol c l
-  told-fit at w p h e y =
+  pub room-fits : (at : ℕ) (w : List ℕ) → l .warnings ≡ midOf (at * 10) (length w - at * 10) w → (at + T.warningCount tol c (heldIn l)) * 10 ≤ length w → Fits tol c l
+  room-fits at w p h e y =
       let n : (at + length (e .changes .warnings)) * 10 ≤ length w =
       subst (λ r. (at + elim r [ refuse x ↦ 0 | yield x ↦ length (x .changes .warnings) ]) * 10 ≤ length w) y h in
       let m : length (l .warnings) ≡ length w - at * 10 = ap length (p ∙ part-lent w (at * 10)) ∙ length-drop (at * 10) w in

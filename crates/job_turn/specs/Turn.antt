@@ -1,9 +1,8 @@
 -- One edit of a job on lent memory. Nothing that a host calls rests on this page; `tableEdits` (crate `job_step`) is the edits one after the other.
-use Prim.Native.Nat.{ℕ, _+_}
+use Prim.Native.Nat.{ℕ}
 use mathlib.Core.List.{List, map}
 use lib.ListN.{length}
 use Rattle.entities.specs.Types.{kindNumber}
-use Rattle.entities.specs.Records.{ChangeSet}
 use Rattle.rules.specs.Names.{Tolerance, EntityRef}
 use Rattle.rules.specs.Edit.{Res, refuse, yield, Edited}
 use Rattle.rules.specs.Ops.{Command}
@@ -38,41 +37,31 @@ answered counter (Changed n) = Done (counterBehind counter (Changed n)) (n .warn
 answered counter (Split n second) = Done (counterBehind counter (Split n second)) (n .warnings)
 answered counter (Refused r) = Stopped r
 
--- the first run: what the edit lists as modified is marked by the rows of the old tables
-pub record Tried : Type 0 where
+-- ---- what the edit leaves
+
+pub record Turned : Type 0 where
   pub tables : Tables
   pub marks : List ℕ
+  pub warnings : List ℕ
   pub turn : Turn
 
-abbrev pub tryEnds : Tables → List ℕ → Turn → Tried
-tryEnds t ms r = record { tables = t; marks = ms; turn = r }
+abbrev pub turnEnds : Tables → List ℕ → List ℕ → Turn → Turned
+turnEnds t ms w r = record { tables = t; marks = ms; warnings = w; turn = r }
 
+-- what it lists as modified is marked by the rows of the old tables
 abbrev pub marksBehind : Tables → List ℕ → Res Edited → List ℕ
 marksBehind old ms (refuse r) = ms
 marksBehind old ms (yield e) = markAll old (pairsOf (e .changes .modified)) ms
 
-unfoldable pub tried : Tolerance → Tables → Command → Held → List ℕ → Tried
-tried tol old c h ms =
-    let r = editOnce tol (roomOf (h .tables)) c (mapIn h) in
-    record { tables = tablesBehind c h r; marks = marksBehind old ms r; turn = turnOf c h r }
-
--- the second run: its warnings are written from row `at` on
-pub record Told : Type 0 where
-  pub tables : Tables
-  pub warnings : List ℕ
-  pub turn : Turn
-
-abbrev pub tellEnds : Tables → List ℕ → Turn → Told
-tellEnds t w r = record { tables = t; warnings = w; turn = r }
-
+-- its warnings are written from row `at` on
 abbrev pub warningsBehind : ℕ → List ℕ → Res Edited → List ℕ
 warningsBehind at w (refuse r) = w
 warningsBehind at w (yield e) = warnedAt at w (e .changes .warnings)
 
-unfoldable pub told : Tolerance → Command → Held → ℕ → List ℕ → Told
-told tol c h at w =
+unfoldable pub made : Tolerance → Tables → Command → Held → List ℕ → ℕ → List ℕ → Turned
+made tol old c h ms at w =
     let r = editOnce tol (roomOf (h .tables)) c (mapIn h) in
-    record { tables = tablesBehind c h r; warnings = warningsBehind at w r; turn = turnOf c h r }
+    record { tables = tablesBehind c h r; marks = marksBehind old ms r; warnings = warningsBehind at w r; turn = turnOf c h r }
 
 -- how many warnings an edit has
 abbrev pub warningCount : Tolerance → Command → Held → ℕ

@@ -1,7 +1,9 @@
-// Replays stored calls on stored maps (data/calls.bin; oracle/FORMAT.md, "Calls"), each as a host makes it, and writes for each the answer's numbers and a
-// digest of all that was lent. What it must write, `stdout`, is the oracle's, made of the Rust's answers.
+// Replays stored calls and jobs on stored maps (data/calls.bin and data/jobs.bin; oracle/FORMAT.md), and writes for each the answer's numbers and a digest of
+// all that was lent. What it must write, `stdout`, is the oracle's, made of the Rust's answers.
 ghost use Prim.Native.Nat.{_≤_};
 use entities::Counter;
+use entities::Tolerance;
+use job_words::ToldJob;
 use libc::STDOUT_FILENO;
 use report::ENTITY;
 use report::WARNING;
@@ -70,18 +72,21 @@ fn digest_of(
     deleted: &[u64; 64],
     warnings: &[u64; 160],
 ) -> u64 {
-    let a = digest::words(digest::START, lanes);
-    let b = digest::words(a, boundaries);
-    let c = digest::words(b, roads);
-    let d = digest::words(c, junctions);
-    let e = digest::words(d, rules);
-    let f = digest::words(e, stop_lines);
-    let g = digest::words(f, crosswalks);
-    let h = digest::floats(g, coordinates);
-    let i = digest::words(h, created);
-    let j = digest::words(i, modified);
-    let k = digest::words(j, deleted);
-    digest::words(k, warnings)
+    let map = digest::tables(
+        digest::START,
+        lanes,
+        boundaries,
+        roads,
+        junctions,
+        rules,
+        stop_lines,
+        crosswalks,
+        coordinates,
+    );
+    let a = digest::words(map, created);
+    let b = digest::words(a, modified);
+    let c = digest::words(b, deleted);
+    digest::words(c, warnings)
 }
 
 // The answer's numbers and the digest, as a line.
@@ -102,52 +107,6 @@ fn print(t: Told, digest: u64) {
     io::print_decimal(STDOUT_FILENO, t.number);
     io::write_all(STDOUT_FILENO, &text[..n]);
     io::write_all(STDOUT_FILENO, b"\n");
-}
-
-// What a call answers, and the counter as it was left.
-struct Heard {
-    told: Told,
-    counter: u64,
-}
-
-// The call as a host makes it, with a counter of its own that it lends.
-fn call(
-    counter: u64,
-    lanes: &mut [u64],
-    boundaries: &mut [u64],
-    roads: &mut [u64],
-    junctions: &mut [u64],
-    rules: &mut [u64],
-    stop_lines: &mut [u64],
-    crosswalks: &mut [u64],
-    coordinates: &mut [f64],
-    command: &[u64],
-    created: &mut [u64],
-    modified: &mut [u64],
-    deleted: &mut [u64],
-    warnings: &mut [u64],
-) -> Heard {
-    let mut own = Counter { next: counter };
-    let told = voldrekka::voldrekka_apply(
-        &mut own,
-        lanes,
-        boundaries,
-        roads,
-        junctions,
-        rules,
-        stop_lines,
-        crosswalks,
-        coordinates,
-        command,
-        created,
-        modified,
-        deleted,
-        warnings,
-    );
-    Heard {
-        told,
-        counter: own.next,
-    }
 }
 
 // Makes the call at a place of the stream, with the room for its lists that the stream gives, and writes its line.
@@ -175,8 +134,10 @@ fn make(
     let b = r.modified;
     let c = r.deleted;
     let d = r.warnings;
-    let heard = call(
-        counter,
+    let command = words::command_of(&row);
+    let answer = ops::apply(
+        Counter { next: counter },
+        Tolerance::preset(),
         lanes,
         boundaries,
         roads,
@@ -185,7 +146,7 @@ fn make(
         stop_lines,
         crosswalks,
         coordinates,
-        &row,
+        command,
         &mut created[..a],
         &mut modified[..b],
         &mut deleted[..c],
@@ -205,21 +166,273 @@ fn make(
         &deleted,
         &warnings,
     );
-    let told = heard.told;
+    let told = words::tell(counter, answer);
     print(told, digest);
     Behind {
-        counter: heard.counter,
+        counter: told.counter,
+        next,
+    }
+}
+
+// ---- one job: its rows, the words lent for the second area and for the lists, and what it answers and leaves
+
+// What the area's coordinates hold before a job.
+const BLANK: f64 = 0.5;
+
+// Words of the arrays that a job's rows, the area's slices and the lists are lent from.
+const JOB_ROWS: usize = 350;
+
+// The answer's numbers and the digest, as a line.
+fn print_job(t: ToldJob, digest: u64) {
+    let numbers = [
+        t.place,
+        t.own,
+        t.kind,
+        t.id,
+        t.created,
+        t.modified,
+        t.deleted,
+        t.warnings,
+        t.counter,
+        digest,
+    ];
+    let mut text = [0; 210];
+    let n = stream::text::row(&numbers, &mut text);
+    io::print_decimal(STDOUT_FILENO, t.number);
+    io::write_all(STDOUT_FILENO, &text[..n]);
+    io::write_all(STDOUT_FILENO, b"\n");
+}
+
+// The job with lists of the sizes that the stream gives, the last four of twelve; what it leaves of the counter. Digested is what is lent.
+fn job_with_lists(
+    counter: u64,
+    lanes: &mut [u64],
+    boundaries: &mut [u64],
+    roads: &mut [u64],
+    junctions: &mut [u64],
+    rules: &mut [u64],
+    stop_lines: &mut [u64],
+    crosswalks: &mut [u64],
+    coordinates: &mut [f64],
+    rows: &[u64],
+    old_lanes: &mut [u64],
+    old_boundaries: &mut [u64],
+    old_roads: &mut [u64],
+    old_junctions: &mut [u64],
+    old_rules: &mut [u64],
+    old_stop_lines: &mut [u64],
+    old_crosswalks: &mut [u64],
+    old_coordinates: &mut [f64],
+    sizes: &[u64; 12],
+) -> u64 {
+    let mut created = [PATTERN; 256];
+    let mut modified = [PATTERN; 256];
+    let mut deleted = [PATTERN; 256];
+    let mut warnings = [PATTERN; 640];
+    let a = stream::least(sizes[8] as usize, 256);
+    let b = stream::least(sizes[9] as usize, 256);
+    let c = stream::least(sizes[10] as usize, 256);
+    let d = stream::least(sizes[11] as usize, 640);
+    let end = job::apply(
+        counter,
+        Tolerance::preset(),
+        lanes,
+        boundaries,
+        roads,
+        junctions,
+        rules,
+        stop_lines,
+        crosswalks,
+        coordinates,
+        job_words::job_of(rows),
+        old_lanes,
+        old_boundaries,
+        old_roads,
+        old_junctions,
+        old_rules,
+        old_stop_lines,
+        old_crosswalks,
+        old_coordinates,
+        &mut created[..a],
+        &mut modified[..b],
+        &mut deleted[..c],
+        &mut warnings[..d],
+    );
+    let map = digest::tables(
+        digest::START,
+        lanes,
+        boundaries,
+        roads,
+        junctions,
+        rules,
+        stop_lines,
+        crosswalks,
+        coordinates,
+    );
+    let area = digest::tables(
+        map,
+        old_lanes,
+        old_boundaries,
+        old_roads,
+        old_junctions,
+        old_rules,
+        old_stop_lines,
+        old_crosswalks,
+        old_coordinates,
+    );
+    let e = digest::words(area, &created[..a]);
+    let f = digest::words(e, &modified[..b]);
+    let g = digest::words(f, &deleted[..c]);
+    let told = job_words::tell(end.counter, end.answer);
+    print_job(told, digest::words(g, &warnings[..d]));
+    end.counter
+}
+
+// The job with an area of the sizes that the stream gives.
+fn job_with_area(
+    counter: u64,
+    lanes: &mut [u64],
+    boundaries: &mut [u64],
+    roads: &mut [u64],
+    junctions: &mut [u64],
+    rules: &mut [u64],
+    stop_lines: &mut [u64],
+    crosswalks: &mut [u64],
+    coordinates: &mut [f64],
+    rows: &[u64],
+    sizes: &[u64; 12],
+) -> u64 {
+    let mut old_lanes = [PATTERN; 1312];
+    let mut old_boundaries = [PATTERN; 416];
+    let mut old_roads = [PATTERN; 352];
+    let mut old_junctions = [PATTERN; 288];
+    let mut old_rules = [PATTERN; 1696];
+    let mut old_stop_lines = [PATTERN; 64];
+    let mut old_crosswalks = [PATTERN; 64];
+    let mut old_coordinates = [BLANK; 4128];
+    let a = stream::least(sizes[0] as usize, 1312);
+    let b = stream::least(sizes[1] as usize, 416);
+    let c = stream::least(sizes[2] as usize, 352);
+    let d = stream::least(sizes[3] as usize, 288);
+    let e = stream::least(sizes[4] as usize, 1696);
+    let f = stream::least(sizes[5] as usize, 64);
+    let g = stream::least(sizes[6] as usize, 64);
+    let h = stream::least(sizes[7] as usize, 4128);
+    job_with_lists(
+        counter,
+        lanes,
+        boundaries,
+        roads,
+        junctions,
+        rules,
+        stop_lines,
+        crosswalks,
+        coordinates,
+        rows,
+        &mut old_lanes[..a],
+        &mut old_boundaries[..b],
+        &mut old_roads[..c],
+        &mut old_junctions[..d],
+        &mut old_rules[..e],
+        &mut old_stop_lines[..f],
+        &mut old_crosswalks[..g],
+        &mut old_coordinates[..h],
+        sizes,
+    )
+}
+
+// Makes the job at a place of the stream.
+fn make_job(
+    s: &[u8],
+    at: usize,
+    counter: u64,
+    lanes: &mut [u64],
+    boundaries: &mut [u64],
+    roads: &mut [u64],
+    junctions: &mut [u64],
+    rules: &mut [u64],
+    stop_lines: &mut [u64],
+    crosswalks: &mut [u64],
+    coordinates: &mut [f64],
+) -> Behind {
+    let mut rows = [0; JOB_ROWS];
+    let mut sizes = [0; 12];
+    let job = stream::read_words(s, at, &mut rows);
+    let next = stream::fill(s, job.next, &mut sizes);
+    let left = job_with_area(
+        counter,
+        lanes,
+        boundaries,
+        roads,
+        junctions,
+        rules,
+        stop_lines,
+        crosswalks,
+        coordinates,
+        &rows[..job.size],
+        &sizes,
+    );
+    Behind {
+        counter: left,
         next,
     }
 }
 
 // ---- the stream
 
-// What names the form of the stream.
-const FORM: u64 = 3;
+// What names the form of a stream: calls or jobs.
+const CALLS: u64 = 3;
 
-// The calls of a map, each on what the last one left; the place behind them.
+const JOBS: u64 = 4;
+
+// A call or a job, as the stream's form has it.
+fn make_one(
+    form: u64,
+    s: &[u8],
+    at: usize,
+    counter: u64,
+    lanes: &mut [u64],
+    boundaries: &mut [u64],
+    roads: &mut [u64],
+    junctions: &mut [u64],
+    rules: &mut [u64],
+    stop_lines: &mut [u64],
+    crosswalks: &mut [u64],
+    coordinates: &mut [f64],
+) -> Behind {
+    if form == JOBS {
+        return make_job(
+            s,
+            at,
+            counter,
+            lanes,
+            boundaries,
+            roads,
+            junctions,
+            rules,
+            stop_lines,
+            crosswalks,
+            coordinates,
+        );
+    }
+    make(
+        s,
+        at,
+        counter,
+        lanes,
+        boundaries,
+        roads,
+        junctions,
+        rules,
+        stop_lines,
+        crosswalks,
+        coordinates,
+    )
+}
+
+// The calls or jobs of a map, each on what the last one left; the place behind them.
 fn each_call(
+    form: u64,
     s: &[u8],
     from: usize,
     calls: u64,
@@ -237,7 +450,8 @@ fn each_call(
     let mut counter = first;
     let mut i = 0;
     while i < calls {
-        let made = make(
+        let made = make_one(
+            form,
             s,
             at,
             counter,
@@ -259,6 +473,7 @@ fn each_call(
 
 // A map, read into the fronts of the arrays, and its calls; the place behind them.
 fn replay_map(
+    form: u64,
     s: &[u8],
     lanes: &mut [u64],
     boundaries: &mut [u64],
@@ -288,6 +503,7 @@ fn replay_map(
     let crosswalks_lent = g.size;
     let coordinates_lent = h.size;
     each_call(
+        form,
         s,
         calls.next,
         calls.value,
@@ -304,7 +520,7 @@ fn replay_map(
 }
 
 // The arrays of a map.
-fn with_tables(s: &[u8]) -> usize {
+fn with_tables(form: u64, s: &[u8]) -> usize {
     let mut lanes = [0; 1280];
     let mut boundaries = [0; 384];
     let mut roads = [0; 320];
@@ -314,6 +530,7 @@ fn with_tables(s: &[u8]) -> usize {
     let mut crosswalks = [0; 32];
     let mut coordinates = [0.0; 4096];
     replay_map(
+        form,
         s,
         &mut lanes,
         &mut boundaries,
@@ -327,35 +544,39 @@ fn with_tables(s: &[u8]) -> usize {
 }
 
 // The maps of the file from a place on. A map with its calls has at most as many bytes as fit.
-fn each_map(fd: i32, from: u32, maps: u64, bytes: &mut [u8]) {
+fn each_map(form: u64, fd: i32, from: u32, maps: u64, bytes: &mut [u8]) {
     let mut at = from;
     let mut i = 0;
     while i < maps {
         let n = file::window(fd, at, bytes);
-        at = file::behind(at, with_tables(&bytes[..n]));
+        at = file::behind(at, with_tables(form, &bytes[..n]));
         i += 1;
     }
 }
 
-fn replay(fd: i32, bytes: &mut [u8]) {
+fn replay(fd: i32, form: u64, bytes: &mut [u8]) {
     let n = file::window(fd, 0, bytes);
-    let form = stream::number(&bytes[..n], 0);
-    let maps = stream::number(&bytes[..n], form.next);
-    if form.value != FORM {
-        io::write_all(STDOUT_FILENO, b"not a stream of calls\n");
+    let stored = stream::number(&bytes[..n], 0);
+    let maps = stream::number(&bytes[..n], stored.next);
+    if stored.value != form {
+        io::write_all(STDOUT_FILENO, b"not such a stream\n");
         return;
     }
-    each_map(fd, file::behind(0, maps.next), maps.value, bytes);
+    each_map(form, fd, file::behind(0, maps.next), maps.value, bytes);
 }
 
-fn main() {
-    let path = b"calls.bin";
+fn replay_file(path: &[u8], form: u64, bytes: &mut [u8]) {
     let fd = os::open_read(path);
     if fd < 0 {
         os::fail(path);
         return;
     }
-    let mut bytes = io::large_buffer();
-    replay(fd, &mut bytes);
+    replay(fd, form, bytes);
     libc::close(fd);
+}
+
+fn main() {
+    let mut bytes = io::large_buffer();
+    replay_file(b"calls.bin", CALLS, &mut bytes);
+    replay_file(b"jobs.bin", JOBS, &mut bytes);
 }

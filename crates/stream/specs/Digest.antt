@@ -24,3 +24,10 @@ ofWords state ws = digestBy (λ w. w) state ws
 -- doubles by their bits
 abbrev pub ofFloats : ℕ → List Float → ℕ
 ofFloats state xs = digestBy (toBits binary64) state xs
+
+-- the slices of a map, one after the other
+abbrev pub ofTables : ℕ → List ℕ → List ℕ → List ℕ → List ℕ → List ℕ → List ℕ → List ℕ → List Float → ℕ
+ofTables state lanes boundaries roads junctions rules stop-lines crosswalks coordinates =
+    ofFloats
+    (ofWords (ofWords (ofWords (ofWords (ofWords (ofWords (ofWords state lanes) boundaries) roads) junctions) rules) stop-lines) crosswalks)
+    coordinates

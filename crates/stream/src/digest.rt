@@ -39,3 +39,27 @@ pub fn floats(start: u64, list: &[f64]) -> u64
     }
     state
 }
+
+// The slices of a map, in their order.
+pub fn tables(
+    start: u64,
+    lanes: &[u64],
+    boundaries: &[u64],
+    roads: &[u64],
+    junctions: &[u64],
+    rules: &[u64],
+    stop_lines: &[u64],
+    crosswalks: &[u64],
+    coordinates: &[f64],
+) -> u64
+    ensures { λ r. ⌜ r ≡ D.ofTables start (now (lanes .entry)) (now (boundaries .entry)) (now (roads .entry)) (now (junctions .entry)) (now (rules .entry)) (now («stop_lines» .entry)) (now (crosswalks .entry)) (now (coordinates .entry)) ⌝ }
+{
+    let a = words(start, lanes);
+    let b = words(a, boundaries);
+    let c = words(b, roads);
+    let d = words(c, junctions);
+    let e = words(d, rules);
+    let f = words(e, stop_lines);
+    let g = words(f, crosswalks);
+    floats(g, coordinates)
+}

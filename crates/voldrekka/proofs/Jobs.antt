@@ -8,8 +8,7 @@ use Rattle.jobs.specs.declared.Job.{Job}
 use Rattle.jobs.specs.declared.JobAnswer.{JobAnswer}
 use Rattle.job_words.specs.JobWords.{toldJob}
 use Rattle.job_words.specs.declared.ToldJob.{ToldJob}
-use Rattle.job_step.specs.Job.{JobEnded, jobLent, jobStep}
-use Rattle.job.specs.Calls.{jobEnded}
+use Rattle.job_step.specs.Job.{JobEnded, jobLent, jobStep, jobEnded}
 use Rattle.voldrekka.specs.Jobs.{JobCalled, jobCalled, jobCalling}
 
 -- what an end is told as

@@ -234,8 +234,8 @@ pub extern "C" fn voldrekka_job(
 {
     let made = job_words::job_of(commands);
     let tolerance = Tolerance::preset();
-    let answer = job::apply(
-        counter,
+    let end = job::apply(
+        *counter,
         tolerance,
         lanes,
         boundaries,
@@ -259,5 +259,7 @@ pub extern "C" fn voldrekka_job(
         deleted,
         warnings,
     );
-    job_words::tell(*counter, answer)
+    *counter = end.counter;
+    let answer = end.answer;
+    job_words::tell(end.counter, answer)
 }

@@ -1,13 +1,6 @@
-use borrow.Author.Needs.{needs}
-use Rattle.job_made.proofs.net_lists.Statement.{statement}
-use Rattle.job_made.proofs.net_lists.Tie as tie
-use Rattle.job_made.proofs.net_lists.Reads as reads
-use Rattle.job_made.proofs.net_lists.Lts as lts
-use Rattle.job_net.proofs.list_both.Reads as list-both-reads
-use Rattle.job_net.proofs.list_only.Reads as list-only-reads
+use Rattle.job_net.proofs.net_lists.Statement.{statement}
+use Rattle.job_net.proofs.net_lists.Tie as tie
 use native.Mathlib.Omega.{arith}
-use mathlib.Core.Path.{_≡_, refl, sym, ap, _∙_}
-use lib.ListN.{length}
 
 -- src/lib.rt:128:9
 list-only-requires : tie.Need-list-only-requires

@@ -7,15 +7,14 @@ use lib.ListN.{drop}
 use Rattle.lists.specs.Rows.{keys}
 use Rattle.lists.specs.Select.{ascending}
 use Rattle.lists.proofs.Booleans.{and-both, and-fst, and-snd}
-use Rattle.rules.specs.Sound.{sound, idsAscend}
-use Rattle.rules.proofs.Facts.{Sound, sound-facts}
+use Rattle.rules.specs.Sound.{sound}
+use Rattle.rules.proofs.Facts.{sound-facts}
 use Rattle.laws.proofs.Entities.{keys-of}
 use Rattle.tables.specs.View.{Tables, view, word}
 use Rattle.tables.specs.Formed.{counted, formed, soundTables}
 use Rattle.lookup.specs.Lookup.{sortedTable}
 use Rattle.soundness.proofs.Counts.{counts}
 use Rattle.soundness.proofs.Back.{formed-parts}
-use Rattle.sound_facts.proofs.Found.{sound-map}
 use Rattle.job_marks.specs.Marks.{sortedTables}
 use Rattle.job_marks.proofs.Sorted.{all-sorted}
 use Rattle.job_net.proofs.Lists.{bare, boundary-ids, crosswalk-ids, junction-ids, lane-ids, road-ids, rule-ids, sorted-bare, stop-line-ids}
