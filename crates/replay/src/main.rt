@@ -283,7 +283,8 @@ fn job_with_lists(
     let e = digest::words(area, &created[..a]);
     let f = digest::words(e, &modified[..b]);
     let g = digest::words(f, &deleted[..c]);
-    let told = job_words::tell(end.counter, end.answer);
+    let answer = end.answer;
+    let told = job_words::tell(end.counter, answer);
     print_job(told, digest::words(g, &warnings[..d]));
     end.counter
 }

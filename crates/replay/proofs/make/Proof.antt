@@ -1,15 +1,11 @@
 use borrow.Author.Needs.{needs}
 use Rattle.replay.proofs.make.Statement.{statement}
 use Rattle.replay.proofs.make.Tie as tie
-use Rattle.replay.proofs.make.Reads as reads
-use Rattle.replay.proofs.make.Lts as lts
-use Rattle.replay.proofs.call.Reads as call-reads
-use Rattle.replay.proofs.digest_of.Reads as digest-of-reads
-use Rattle.replay.proofs.print.Reads as print-reads
-use Rattle.replay.proofs.room.Reads as room-reads
-use Rattle.stream.proofs.fill.Reads as fill-reads
-use mathlib.Core.Path.{_≡_, refl, sym, ap, _∙_}
+use mathlib.Core.Path.{sym}
 use lib.Seq.{length-take-le}
+use native.Mathlib.Omega.{arith}
+use Prim.Native.Nat.{_<_, _^_}
+use Rattle.ops.proofs.Counters.{counter-word}
 
 slice-aggregate-fill : tie.Need-slice-aggregate-fill
 slice-aggregate-fill c = search needs
@@ -20,65 +16,74 @@ fill-requires c κs = search needs
 room-requires : tie.Need-room-requires
 room-requires c κs = search needs
 
-slice-aggregate-call : tie.Need-slice-aggregate-call
-slice-aggregate-call c = search needs
+slice-aggregate-command-of : tie.Need-slice-aggregate-command-of
+slice-aggregate-command-of c = search needs
+
+command-of-requires : tie.Need-command-of-requires
+command-of-requires c κs = search needs
+
+preset-requires : tie.Need-preset-requires
+preset-requires c κs = search needs
 
 array-borrow-prefix-created : tie.Need-array-borrow-prefix-created
-array-borrow-prefix-created c = search needs
+array-borrow-prefix-created c = c .before .before .before .before .before .before .before .before .before .before .before .room .ensures .0
 
-slice-aggregate-call-2 : tie.Need-slice-aggregate-call-2
-slice-aggregate-call-2 c = sym (length-take-le _ _ (c .before .before .before .before .before .before .before .before .before .before .room .ensures .0))
+slice-aggregate-apply : tie.Need-slice-aggregate-apply
+slice-aggregate-apply c = sym (length-take-le _ _ (c .before .before .before .before .before .before .before .before .before .before .before .before .room .ensures .0))
 
 array-borrow-prefix-modified : tie.Need-array-borrow-prefix-modified
-array-borrow-prefix-modified c = search needs
+array-borrow-prefix-modified c = c .before .before .before .before .before .before .before .before .before .before .before .before .room .ensures .1 .0
 
-slice-aggregate-call-3 : tie.Need-slice-aggregate-call-3
-slice-aggregate-call-3 c = sym (length-take-le _ _ (c .before .before .before .before .before .before .before .before .before .before .before .room .ensures .1 .0))
+slice-aggregate-apply-2 : tie.Need-slice-aggregate-apply-2
+slice-aggregate-apply-2 c = sym (length-take-le _ _ (c .before .before .before .before .before .before .before .before .before .before .before .before .before .room .ensures .1 .0))
 
 array-borrow-prefix-deleted : tie.Need-array-borrow-prefix-deleted
-array-borrow-prefix-deleted c = search needs
+array-borrow-prefix-deleted c = c .before .before .before .before .before .before .before .before .before .before .before .before .before .room .ensures .1 .1 .0
 
-slice-aggregate-call-4 : tie.Need-slice-aggregate-call-4
-slice-aggregate-call-4 c = sym (length-take-le _ _ (c .before .before .before .before .before .before .before .before .before .before .before .before .room .ensures .1 .1 .0))
+slice-aggregate-apply-3 : tie.Need-slice-aggregate-apply-3
+slice-aggregate-apply-3 c = sym (length-take-le _ _ (c .before .before .before .before .before .before .before .before .before .before .before .before .before .before .room .ensures .1 .1 .0))
 
 array-borrow-prefix-warnings : tie.Need-array-borrow-prefix-warnings
-array-borrow-prefix-warnings c = search needs
+array-borrow-prefix-warnings c = c .before .before .before .before .before .before .before .before .before .before .before .before .before .before .room .ensures .1 .1 .1
 
-slice-aggregate-call-5 : tie.Need-slice-aggregate-call-5
-slice-aggregate-call-5 c = sym (length-take-le _ _ (c .before .before .before .before .before .before .before .before .before .before .before .before .before .room .ensures .1 .1 .1))
+slice-aggregate-apply-4 : tie.Need-slice-aggregate-apply-4
+slice-aggregate-apply-4 c = sym (length-take-le _ _ (c .before .before .before .before .before .before .before .before .before .before .before .before .before .before .before .room .ensures .1 .1 .1))
 
-call-requires : tie.Need-call-requires
-call-requires c κs = search needs
+apply-requires : tie.Need-apply-requires
+apply-requires c κs = search needs
 
 digest-of-requires : tie.Need-digest-of-requires
 digest-of-requires c κs = search needs
+
+tell-requires : tie.Need-tell-requires
+tell-requires c κs = let h : c .before .before .before .before .before .before .before .before .before .before .before .before .before .before .before .before .before .before .before .before .before .before .before .before .before .before .before .before .before .before .before .before .before .before .before .before .before .before .before .before .before .before .before .before .before .before .before .before .before .before .before .before .before .before .before .before .before .before .before .before .before .before .before .args .counter < 2 ^ 64 = omega (arith, c .before .before .before .before .before .before .before .before .before .before .before .before .before .before .before .before .before .before .before .before .before .before .before .before .before .before .before .before .before .before .before .before .before .before .before .before .before .before .before .before .before .before .before .before .before .before .before .before .before .before .before .before .before .before .before .before .before .before .before .before .before .before .before .fits .counter) in counter-word (c .before .before .before .before .before .before .before .before .before .before .before .before .before .before .before .before .before .before .before .before .before .before .before .before .before .before .before .before .before .before .before .before .before .before .before .before .before .before .before .before .before .before .before .before .before .before .preset .result) (c .before .before .before .before .before .before .before .before .before .before .before .before .before .before .before .before .before .before .before .before .before .before .before .before .before .before .before .before .before .before .before .before .before .before .before .before .before .before .before .before .before .before .before .before .before .before .before .command-of .result) _ h _ (c .before .before .before .before .before .before .before .before .before .before .before .before .before .before .before .before .before .before .before .before .before .before .before .before .before .before .before .before .before .before .before .before .before .apply .result) (c .before .before .before .before .before .before .before .before .before .before .before .before .before .before .before .before .before .before .before .before .before .before .before .before .before .before .before .before .before .before .before .before .before .apply .ensures)
 
 print-requires : tie.Need-print-requires
 print-requires c κs = search needs
 
 same-length : tie.Need-same-length
-same-length c = c .before .before .before .before .before .before .before .before .before .before .before .before .before .before .before .before .before .before .before .before .before .before .before .before .before .before .before .before .before .before .before .before .before .before .before .call .kept .1 .0
+same-length c = c .before .before .before .before .before .before .before .before .before .before .before .before .before .before .before .before .before .before .before .before .before .before .before .before .before .before .before .before .before .before .before .before .before .before .before .apply .kept .1 .1 .0
 
 same-length-2 : tie.Need-same-length-2
-same-length-2 c = c .before .before .before .before .before .before .before .before .before .before .before .before .before .before .before .before .before .before .before .before .before .before .before .before .before .before .before .before .before .before .before .before .before .before .before .call .kept .1 .1 .0
+same-length-2 c = c .before .before .before .before .before .before .before .before .before .before .before .before .before .before .before .before .before .before .before .before .before .before .before .before .before .before .before .before .before .before .before .before .before .before .before .apply .kept .1 .1 .1 .0
 
 same-length-3 : tie.Need-same-length-3
-same-length-3 c = c .before .before .before .before .before .before .before .before .before .before .before .before .before .before .before .before .before .before .before .before .before .before .before .before .before .before .before .before .before .before .before .before .before .before .before .call .kept .1 .1 .1 .0
+same-length-3 c = c .before .before .before .before .before .before .before .before .before .before .before .before .before .before .before .before .before .before .before .before .before .before .before .before .before .before .before .before .before .before .before .before .before .before .before .apply .kept .1 .1 .1 .1 .0
 
 same-length-4 : tie.Need-same-length-4
-same-length-4 c = c .before .before .before .before .before .before .before .before .before .before .before .before .before .before .before .before .before .before .before .before .before .before .before .before .before .before .before .before .before .before .before .before .before .before .before .call .kept .1 .1 .1 .1 .0
+same-length-4 c = c .before .before .before .before .before .before .before .before .before .before .before .before .before .before .before .before .before .before .before .before .before .before .before .before .before .before .before .before .before .before .before .before .before .before .before .apply .kept .1 .1 .1 .1 .1 .0
 
 same-length-5 : tie.Need-same-length-5
-same-length-5 c = c .before .before .before .before .before .before .before .before .before .before .before .before .before .before .before .before .before .before .before .before .before .before .before .before .before .before .before .before .before .before .before .before .before .before .before .call .kept .1 .1 .1 .1 .1 .0
+same-length-5 c = c .before .before .before .before .before .before .before .before .before .before .before .before .before .before .before .before .before .before .before .before .before .before .before .before .before .before .before .before .before .before .before .before .before .before .before .apply .kept .1 .1 .1 .1 .1 .1 .0
 
 same-length-6 : tie.Need-same-length-6
-same-length-6 c = c .before .before .before .before .before .before .before .before .before .before .before .before .before .before .before .before .before .before .before .before .before .before .before .before .before .before .before .before .before .before .before .before .before .before .before .call .kept .1 .1 .1 .1 .1 .1 .0
+same-length-6 c = c .before .before .before .before .before .before .before .before .before .before .before .before .before .before .before .before .before .before .before .before .before .before .before .before .before .before .before .before .before .before .before .before .before .before .before .apply .kept .1 .1 .1 .1 .1 .1 .1 .0
 
 same-length-7 : tie.Need-same-length-7
-same-length-7 c = c .before .before .before .before .before .before .before .before .before .before .before .before .before .before .before .before .before .before .before .before .before .before .before .before .before .before .before .before .before .before .before .before .before .before .before .call .kept .1 .1 .1 .1 .1 .1 .1 .0
+same-length-7 c = c .before .before .before .before .before .before .before .before .before .before .before .before .before .before .before .before .before .before .before .before .before .before .before .before .before .before .before .before .before .before .before .before .before .before .before .apply .kept .1 .1 .1 .1 .1 .1 .1 .1 .0
 
 same-length-8 : tie.Need-same-length-8
-same-length-8 c = c .before .before .before .before .before .before .before .before .before .before .before .before .before .before .before .before .before .before .before .before .before .before .before .before .before .before .before .before .before .before .before .before .before .before .before .call .kept .1 .1 .1 .1 .1 .1 .1 .1 .0
+same-length-8 c = c .before .before .before .before .before .before .before .before .before .before .before .before .before .before .before .before .before .before .before .before .before .before .before .before .before .before .before .before .before .before .before .before .before .before .before .apply .kept .1 .1 .1 .1 .1 .1 .1 .1 .1 .0
 
 returns : tie.Need-returns
 returns c = search needs
@@ -90,17 +95,20 @@ make-spec =
     slice-aggregate-fill
     fill-requires
     room-requires
-    slice-aggregate-call
+    slice-aggregate-command-of
+    command-of-requires
+    preset-requires
     array-borrow-prefix-created
-    slice-aggregate-call-2
+    slice-aggregate-apply
     array-borrow-prefix-modified
-    slice-aggregate-call-3
+    slice-aggregate-apply-2
     array-borrow-prefix-deleted
-    slice-aggregate-call-4
+    slice-aggregate-apply-3
     array-borrow-prefix-warnings
-    slice-aggregate-call-5
-    call-requires
+    slice-aggregate-apply-4
+    apply-requires
     digest-of-requires
+    tell-requires
     print-requires
     same-length
     same-length-2
