@@ -1,10 +1,9 @@
 -- What an area that fits has room for, and the way back from a copy. Assumes nothing.
 use mathlib.Core.Path.{_≡_, sym, _∙_}
-use mathlib.Core.Bool.{true, _&&_}
+use mathlib.Core.Bool.{Bool, true, _&&_}
 use mathlib.Core.List.{List}
 use Prim.Native.Nat.{_+_, _≤_}
 use native.Mathlib.Omega.{arith}
-use lib.Dec.{leb}
 use lib.ListN.{length, take}
 use lib.Seq.{length-take-le, take-all}
 use borrow.Author.Tests.{leb-true}
@@ -24,32 +23,39 @@ pub record Fits (t area : Tables) : Type 0 where
   pub crosswalks-fit : length (t .crosswalks) ≤ length (area .crosswalks)
   pub coordinates-fit : length (t .coordinates) ≤ length (area .coordinates)
 
+-- each of eight tests
+each-passes : (a b c d e f g h : Bool) → (a && b && c && d && e && f && g && h) ≡ true
+    → (a ≡ true) × (b ≡ true) × (c ≡ true) × (d ≡ true) × (e ≡ true) × (f ≡ true) × (g ≡ true) × (h ≡ true)
+each-passes a b c d e f g h p8 =
+    let p7 = and-fst (a && b && c && d && e && f && g) h p8 in
+    let p6 = and-fst (a && b && c && d && e && f) g p7 in
+    let p5 = and-fst (a && b && c && d && e) f p6 in
+    let p4 = and-fst (a && b && c && d) e p5 in
+    let p3 = and-fst (a && b && c) d p4 in
+    let p2 = and-fst (a && b) c p3 in (
+      and-fst a b p2,
+      and-snd a b p2,
+      and-snd (a && b) c p3,
+      and-snd (a && b && c) d p4,
+      and-snd (a && b && c && d) e p5,
+      and-snd (a && b && c && d && e) f p6,
+      and-snd (a && b && c && d && e && f) g p7,
+      and-snd (a && b && c && d && e && f && g) h p8,
+    )
+
 pub fits-of : (t area : Tables) → areaFits t area ≡ true → Fits t area
 unfolding areaFits
 fits-of t area h =
-    let h7 = and-fst (leb (length (t .lanes)) (length (area .lanes)) && leb (length (t .boundaries)) (length (area .boundaries)) && leb (length (t .roads)) (length (area .roads)) && leb (length (t .junctions)) (length (area .junctions)) && leb (length (t .rules)) (length (area .rules)) && leb (length (t .stop-lines)) (length (area .stop-lines)) && leb (length (t .crosswalks)) (length (area .crosswalks))) (leb (length (t .coordinates)) (length (area .coordinates))) h in
-    let p8 = and-snd (leb (length (t .lanes)) (length (area .lanes)) && leb (length (t .boundaries)) (length (area .boundaries)) && leb (length (t .roads)) (length (area .roads)) && leb (length (t .junctions)) (length (area .junctions)) && leb (length (t .rules)) (length (area .rules)) && leb (length (t .stop-lines)) (length (area .stop-lines)) && leb (length (t .crosswalks)) (length (area .crosswalks))) (leb (length (t .coordinates)) (length (area .coordinates))) h in
-    let h6 = and-fst (leb (length (t .lanes)) (length (area .lanes)) && leb (length (t .boundaries)) (length (area .boundaries)) && leb (length (t .roads)) (length (area .roads)) && leb (length (t .junctions)) (length (area .junctions)) && leb (length (t .rules)) (length (area .rules)) && leb (length (t .stop-lines)) (length (area .stop-lines))) (leb (length (t .crosswalks)) (length (area .crosswalks))) h7 in
-    let p7 = and-snd (leb (length (t .lanes)) (length (area .lanes)) && leb (length (t .boundaries)) (length (area .boundaries)) && leb (length (t .roads)) (length (area .roads)) && leb (length (t .junctions)) (length (area .junctions)) && leb (length (t .rules)) (length (area .rules)) && leb (length (t .stop-lines)) (length (area .stop-lines))) (leb (length (t .crosswalks)) (length (area .crosswalks))) h7 in
-    let h5 = and-fst (leb (length (t .lanes)) (length (area .lanes)) && leb (length (t .boundaries)) (length (area .boundaries)) && leb (length (t .roads)) (length (area .roads)) && leb (length (t .junctions)) (length (area .junctions)) && leb (length (t .rules)) (length (area .rules))) (leb (length (t .stop-lines)) (length (area .stop-lines))) h6 in
-    let p6 = and-snd (leb (length (t .lanes)) (length (area .lanes)) && leb (length (t .boundaries)) (length (area .boundaries)) && leb (length (t .roads)) (length (area .roads)) && leb (length (t .junctions)) (length (area .junctions)) && leb (length (t .rules)) (length (area .rules))) (leb (length (t .stop-lines)) (length (area .stop-lines))) h6 in
-    let h4 = and-fst (leb (length (t .lanes)) (length (area .lanes)) && leb (length (t .boundaries)) (length (area .boundaries)) && leb (length (t .roads)) (length (area .roads)) && leb (length (t .junctions)) (length (area .junctions))) (leb (length (t .rules)) (length (area .rules))) h5 in
-    let p5 = and-snd (leb (length (t .lanes)) (length (area .lanes)) && leb (length (t .boundaries)) (length (area .boundaries)) && leb (length (t .roads)) (length (area .roads)) && leb (length (t .junctions)) (length (area .junctions))) (leb (length (t .rules)) (length (area .rules))) h5 in
-    let h3 = and-fst (leb (length (t .lanes)) (length (area .lanes)) && leb (length (t .boundaries)) (length (area .boundaries)) && leb (length (t .roads)) (length (area .roads))) (leb (length (t .junctions)) (length (area .junctions))) h4 in
-    let p4 = and-snd (leb (length (t .lanes)) (length (area .lanes)) && leb (length (t .boundaries)) (length (area .boundaries)) && leb (length (t .roads)) (length (area .roads))) (leb (length (t .junctions)) (length (area .junctions))) h4 in
-    let h2 = and-fst (leb (length (t .lanes)) (length (area .lanes)) && leb (length (t .boundaries)) (length (area .boundaries))) (leb (length (t .roads)) (length (area .roads))) h3 in
-    let p3 = and-snd (leb (length (t .lanes)) (length (area .lanes)) && leb (length (t .boundaries)) (length (area .boundaries))) (leb (length (t .roads)) (length (area .roads))) h3 in
-    let h1 = and-fst (leb (length (t .lanes)) (length (area .lanes))) (leb (length (t .boundaries)) (length (area .boundaries))) h2 in
-    let p2 = and-snd (leb (length (t .lanes)) (length (area .lanes))) (leb (length (t .boundaries)) (length (area .boundaries))) h2 in
+    let (p0, p1, p2, p3, p4, p5, p6, p7) = each-passes _ _ _ _ _ _ _ _ h in
     record {
-      lanes-fit = leb-true (length (t .lanes)) (length (area .lanes)) h1;
-      boundaries-fit = leb-true (length (t .boundaries)) (length (area .boundaries)) p2;
-      roads-fit = leb-true (length (t .roads)) (length (area .roads)) p3;
-      junctions-fit = leb-true (length (t .junctions)) (length (area .junctions)) p4;
-      rules-fit = leb-true (length (t .rules)) (length (area .rules)) p5;
-      stop-lines-fit = leb-true (length (t .stop-lines)) (length (area .stop-lines)) p6;
-      crosswalks-fit = leb-true (length (t .crosswalks)) (length (area .crosswalks)) p7;
-      coordinates-fit = leb-true (length (t .coordinates)) (length (area .coordinates)) p8;
+      lanes-fit = leb-true (length (t .lanes)) (length (area .lanes)) p0;
+      boundaries-fit = leb-true (length (t .boundaries)) (length (area .boundaries)) p1;
+      roads-fit = leb-true (length (t .roads)) (length (area .roads)) p2;
+      junctions-fit = leb-true (length (t .junctions)) (length (area .junctions)) p3;
+      rules-fit = leb-true (length (t .rules)) (length (area .rules)) p4;
+      stop-lines-fit = leb-true (length (t .stop-lines)) (length (area .stop-lines)) p5;
+      crosswalks-fit = leb-true (length (t .crosswalks)) (length (area .crosswalks)) p6;
+      coordinates-fit = leb-true (length (t .coordinates)) (length (area .coordinates)) p7;
     }
 
 -- ---- the whole of a list, written over another or taken from its front

@@ -2,18 +2,17 @@
 use mathlib.Core.Path.{_≡_, refl, sym, ap, _∙_}
 use mathlib.Core.Bool.{Bool, true, _&&_}
 use mathlib.Core.List.{List}
-use Prim.Native.Nat.{ℕ, _+_}
+use Prim.Native.Nat.{ℕ, _+_, _≤_}
 use native.Mathlib.Omega.{arith}
 use lib.Dec.{leb}
 use lib.ListN.{length, take, drop, getD}
 use lib.Seq.{take-at}
-use borrow.Author.Tests.{leb-true}
 use Rattle.lists.specs.Rows.{over}
-use Rattle.lists.proofs.Booleans.{and-fst, and-snd}
 use Rattle.lists.proofs.Rows.{length-over}
 use Rattle.tables.specs.View.{Tables}
 use Rattle.step.specs.Run.{lengthsOf}
 use Rattle.area.specs.Area.{areaFits, copied, putBack}
+use Rattle.area.proofs.Lengths.{Fits, fits-of}
 
 -- ---- one slice
 
@@ -23,8 +22,8 @@ module _ {A : Type 0} (w l : List A) where
   unfolding over
   front-back n e = take-at l (drop (0 + length l) w) n (sym e)
 
-  pub front-length : leb (length l) (length w) ≡ true → length (over w 0 l) ≡ length w
-  front-length h = let k = leb-true (length l) (length w) h in length-over w 0 l (omega arith)
+  pub front-length : length l ≤ length w → length (over w 0 l) ≡ length w
+  front-length h = length-over w 0 l (omega arith)
 
 -- ---- the area
 
@@ -44,40 +43,20 @@ pub area-same : (t u a b : Tables) → lengthsOf u ≡ lengthsOf t → lengthsOf
 unfolding areaFits fitsBy
 area-same t u a b e f = ap (λ ns. fitsBy ns (lengthsOf b)) e ∙ ap (fitsBy (lengthsOf t)) f
 
--- each of eight tests
-each-passes : (a b c d e f g h : Bool) → (a && b && c && d && e && f && g && h) ≡ true
-    → (a ≡ true) × (b ≡ true) × (c ≡ true) × (d ≡ true) × (e ≡ true) × (f ≡ true) × (g ≡ true) × (h ≡ true)
-each-passes a b c d e f g h p8 =
-    let p7 = and-fst (a && b && c && d && e && f && g) h p8 in
-    let p6 = and-fst (a && b && c && d && e && f) g p7 in
-    let p5 = and-fst (a && b && c && d && e) f p6 in
-    let p4 = and-fst (a && b && c && d) e p5 in
-    let p3 = and-fst (a && b && c) d p4 in
-    let p2 = and-fst (a && b) c p3 in (
-      and-fst a b p2,
-      and-snd a b p2,
-      and-snd (a && b) c p3,
-      and-snd (a && b && c) d p4,
-      and-snd (a && b && c && d) e p5,
-      and-snd (a && b && c && d && e) f p6,
-      and-snd (a && b && c && d && e && f) g p7,
-      and-snd (a && b && c && d && e && f && g) h p8,
-    )
-
 module _ (t area : Tables) where
   pub copied-lengths : areaFits t area ≡ true → lengthsOf (copied t area) ≡ lengthsOf area
-  unfolding areaFits copied
+  unfolding copied
   copied-lengths h =
-      let (p0, p1, p2, p3, p4, p5, p6, p7) = each-passes _ _ _ _ _ _ _ _ h in
+      let f = fits-of t area h in
       rw (
-        front-length (area .lanes) (t .lanes) p0,
-        front-length (area .boundaries) (t .boundaries) p1,
-        front-length (area .roads) (t .roads) p2,
-        front-length (area .junctions) (t .junctions) p3,
-        front-length (area .rules) (t .rules) p4,
-        front-length (area .stop-lines) (t .stop-lines) p5,
-        front-length (area .crosswalks) (t .crosswalks) p6,
-        front-length (area .coordinates) (t .coordinates) p7,
+        front-length (area .lanes) (t .lanes) (f .lanes-fit),
+        front-length (area .boundaries) (t .boundaries) (f .boundaries-fit),
+        front-length (area .roads) (t .roads) (f .roads-fit),
+        front-length (area .junctions) (t .junctions) (f .junctions-fit),
+        front-length (area .rules) (t .rules) (f .rules-fit),
+        front-length (area .stop-lines) (t .stop-lines) (f .stop-lines-fit),
+        front-length (area .crosswalks) (t .crosswalks) (f .crosswalks-fit),
+        front-length (area .coordinates) (t .coordinates) (f .coordinates-fit),
       )
 
   -- for slices as long as those that were copied

@@ -18,7 +18,7 @@ use Rattle.report.specs.Report.{listed, warned, counts}
 use Rattle.sound_facts.proofs.Found.{sound-map}
 use Rattle.step.specs.Step.{listsOf}
 use Rattle.step.specs.Run.{Held, lend, heldIn, lengthsOf, mapIn}
-use Rattle.step.proofs.Keeping.{closed, call-kept}
+use Rattle.step.proofs.Keeping.{closed, call-kept, room-same}
 use Rattle.step.proofs.Claim.{keeps}
 use Rattle.jobs.specs.declared.JobAnswer.{JobAnswer}
 use Rattle.jobs.specs.declared.JobAnswer.the-variants.{Made, TooManyEdits, NoRoom, EditRefused}
@@ -28,7 +28,7 @@ use Rattle.job_laws.proofs.Claim.{deed-claim-3}
 use Rattle.area.specs.Area.{areaFits, copied}
 use Rattle.job_step.specs.Job.{JobLent, JobEnded, refusing, making, ending, tableEdits, jobLent}
 use Rattle.job_step.specs.Run.{JobLending, TableDeed, edit-with, job-with, lendJob, callJob, heldBehind, jobOn, deedOn, heldAfterAll, JobClosed, Closed, AllClosed, TableDeedClaim3}
-use Rattle.job_step.proofs.Edits.{Stays, Left, onMaps, room-same, edits-beside}
+use Rattle.job_step.proofs.Edits.{Stays, Left, onMaps, edits-beside}
 use Rattle.job_step.proofs.Area.{area-same}
 use Rattle.job_step.proofs.Ends.{job-too-many, job-short, job-runs}
 

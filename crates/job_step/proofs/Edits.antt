@@ -3,18 +3,16 @@ use mathlib.Core.Path.{_≡_, refl, sym, ap, _∙_, subst}
 use mathlib.Core.Bool.{true}
 use mathlib.Core.List.{List, [], _∷_}
 use Prim.{Unit, tt}
-use Prim.Native.Nat.{ℕ, suc, _-_, _/_}
-use lib.ListN.{getD}
+use Prim.Native.Nat.{ℕ, suc}
 use Rattle.entities.specs.declared.Refusal.{Refusal}
 use Rattle.entities.specs.Records.{ChangeSet}
 use Rattle.rules.specs.Names.{Tolerance}
-use Rattle.rules.specs.Sound.{Room}
 use Rattle.rules.specs.Edit.{Res, refuse, yield, Edited}
 use Rattle.rules.specs.Ops.{Command, State, acceptedAs}
-use Rattle.tables.specs.View.{Tables, laneWords, boundaryWords}
 use Rattle.tables.specs.Formed.{soundTables}
 use Rattle.store.specs.Store.{roomOf}
 use Rattle.step.specs.Run.{Held, mapIn, lengthsOf}
+use Rattle.step.proofs.Keeping.{room-same}
 use Rattle.jobs.specs.Job.{Run, done, stopped, preceded, editOnce, edits}
 use Rattle.job_step.specs.Job.{written, tableEdits}
 use Rattle.job_step.proofs.Turn.{Turned, turn-keeps}
@@ -45,14 +43,6 @@ Stays h k = (soundTables (k .counter) (k .tables) ≡ true) × (lengthsOf (k .ta
 abbrev pub Left : Held → Run Held → Type 0
 Left h (done k css) = Stays h k
 Left h (stopped place r) = Unit
-
--- the room is read from the lengths
-roomBy : List ℕ → Room
-roomBy ns = record { lanes = (getD ns 0 0 - 1) / laneWords; boundaries = (getD ns 1 0 - 1) / boundaryWords; points = getD ns 7 0 / 3 }
-
-pub room-same : (t u : Tables) → lengthsOf t ≡ lengthsOf u → roomOf t ≡ roomOf u
-unfolding roomBy
-room-same t u e = ap roomBy e
 
 on-maps-preceded : (cs : ChangeSet) (r : Run Held) → onMaps (preceded cs r) ≡ preceded cs (onMaps r)
 on-maps-preceded cs (done h css) = refl

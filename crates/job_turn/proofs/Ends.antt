@@ -3,7 +3,7 @@ use mathlib.Core.Path.{_≡_, refl, sym, ap, _∙_, subst}
 use mathlib.Core.Bool.{true, _&&_}
 use mathlib.Core.List.{List, [], _++_, append-nil}
 use mathlib.Core.Option.{Option, none, some}
-use Prim.Native.Nat.{ℕ, _+_, _*_, _-_, _/_, _^_, _≤_, _<_}
+use Prim.Native.Nat.{ℕ, _+_, _*_, _-_, _/_, _≤_}
 use native.Mathlib.Omega.{arith}
 use lib.Dec.{leb}
 use lib.ListN.{length, take, drop, length-drop, take-append-drop}
@@ -26,7 +26,7 @@ use Rattle.report.specs.declared.Counts.{Counts}
 use Rattle.report.proofs.Warnings.{room}
 use Rattle.step.specs.Step.{Lent, Ended, ended, step, changing, listsOf, stateOf}
 use Rattle.step.specs.Run.{heldIn, mapIn}
-use Rattle.step.proofs.Counter.{step-counter, counted-on, step-counter-fits}
+use Rattle.step.proofs.Counter.{step-counter}
 use Rattle.jobs.specs.Job.{editOnce}
 use Rattle.job_step.specs.Job.{written}
 use Rattle.job_step.proofs.Turn.{turn-refused, turn-yields, enough-entities}
@@ -109,13 +109,6 @@ part-put w v a h = let t : postOf a (length w - a) w ≡ [] = post-is a (length 
 -- ---- a call
 
 module _ (tol : Tolerance) (c : Command) (l after : Lent) (a : Answer) (ends : ended after a ≡ step tol c l) where
-  pub counter-word : l .counter < 2 ^ 64 → counterBehind (l .counter) a < 2 ^ 64
-  counter-word fits =
-      let p = counted-on tol c l after a ends in
-      let q = step-counter-fits tol c l (omega arith) in
-      let r : after .counter ≡ step tol c l .lent .counter = ap (λ n. n .lent .counter) ends in
-      omega (arith, p, q, r)
-
   module _ (sane : soundTables (l .counter) (l .tables) ≡ true) (fits : Fits tol c l) where
     by-outcome : (r : Res Edited) → outcome tol c l ≡ r → Left c l after a r
     by-outcome (refuse r) y = subst (λ n. Left c l (n .lent) (n .answer) (refuse r)) (sym (ends ∙ turn-refused tol c l sane r y)) (left-refused c l r)

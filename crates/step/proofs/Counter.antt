@@ -1,9 +1,10 @@
 -- What the counter becomes follows from the answer, on any memory that is lent. Assumes nothing.
 use mathlib.Core.Path.{_≡_, refl, sym, ap, _∙_, subst}
-use Prim.Native.Nat.{ℕ, _≤_}
+use Prim.Native.Nat.{ℕ, _≤_, _<_, _^_}
 use mathlib.Core.Bool.{Bool, true, false, cond, _&&_}
 use mathlib.Core.List.{List}
 use mathlib.Core.Option.{Option, none, some}
+use native.Mathlib.Omega.{arith}
 use lib.Dec.{leb}
 use lib.Ieee.{Float}
 use lib.ListN.{length}
@@ -71,6 +72,13 @@ module _ (tol : Tolerance) (c : O.Command) (l : Lent) where
 
   pub counted-on : (after : Lent) (a : Answer) → ended after a ≡ step tol c l → after .counter ≡ counterBehind (l .counter) a
   counted-on after a e = subst (λ n. n .lent .counter ≡ counterBehind (l .counter) (n .answer)) (sym e) step-counter
+
+  -- the counter behind a call is a word
+  pub counter-word : (after : Lent) (a : Answer) → ended after a ≡ step tol c l → l .counter < 2 ^ 64 → counterBehind (l .counter) a < 2 ^ 64
+  counter-word after a e fits =
+      let k = step-counter in
+      let m = step-counter-fits (omega arith) in
+      subst (λ n. counterBehind (l .counter) (n .answer) < 2 ^ 64) (sym e) (omega (arith, k, m))
 
 -- the same lent memory with another counter
 abbrev pub withCounter : ℕ → Lent → Lent

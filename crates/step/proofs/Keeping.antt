@@ -15,7 +15,7 @@ use Rattle.rules.specs.Edit.{Res, refuse, yield, _>>=_, check, Edited}
 use Rattle.rules.specs.Ops as O
 use Rattle.rules.specs.Demand.{Told}
 use Rattle.laws.proofs.Law.{Lawful, AllLawful, step-kept, demand-3}
-use Rattle.tables.specs.View.{Tables, view}
+use Rattle.tables.specs.View.{Tables, view, laneWords, boundaryWords}
 use Rattle.tables.specs.Formed.{soundTables}
 use Rattle.store.specs.Store.{roomOf}
 use Rattle.step.specs.Step.{Lent, listsOf, callOf, stateOf, refusing, writing, changing, closing, step}
@@ -42,9 +42,9 @@ Keeps tol c =
 
 -- the room is read from the lengths
 roomBy : List ℕ → Room
-roomBy ns = record { lanes = (getD ns 0 0 - 1) / 52; boundaries = (getD ns 1 0 - 1) / 5; points = getD ns 7 0 / 3 }
+roomBy ns = record { lanes = (getD ns 0 0 - 1) / laneWords; boundaries = (getD ns 1 0 - 1) / boundaryWords; points = getD ns 7 0 / 3 }
 
-room-same : (t u : Tables) → lengthsOf t ≡ lengthsOf u → roomOf t ≡ roomOf u
+pub room-same : (t u : Tables) → lengthsOf t ≡ lengthsOf u → roomOf t ≡ roomOf u
 unfolding roomBy
 room-same t u e = ap roomBy e
 

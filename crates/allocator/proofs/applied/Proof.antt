@@ -8,7 +8,7 @@ use Rattle.ops.proofs.apply.Reads as apply-reads
 use mathlib.Core.Path.{_≡_, refl, sym, ap, _∙_}
 use native.Mathlib.Omega.{arith}
 use Rattle.step.specs.Step.{Lent, lentOf}
-use Rattle.ops.proofs.Counters.{counter-word}
+use Rattle.step.proofs.Counter.{counter-word}
 use Rattle.allocator.proofs.Advances.{advances}
 
 -- what is lent
@@ -23,7 +23,7 @@ apply-requires c κs = search needs
 
 -- src/lib.rt:67:5
 advance-requires : tie.Need-advance-requires
-advance-requires c κs = let s = c .before .before .before .before .before .before .before .before .before .before .before .before .before .before .before .before .before .before .before .before .before .before .before .before .before .before .before .before .before .before .before .before .before .before .before .before .before .before .before .before .before .before .before .before .before .before .before .before .before in counter-word (s .args .tolerance) (s .args .command) (lent s) (omega arith) _ (c .before .before .before .before .before .before .before .before .before .before .before .before .before .before .before .before .before .before .before .before .before .before .before .before .apply .result) (c .before .before .before .before .before .before .before .before .before .before .before .before .before .before .before .before .before .before .before .before .before .before .before .before .apply .ensures)
+advance-requires c κs = let s = c .before .before .before .before .before .before .before .before .before .before .before .before .before .before .before .before .before .before .before .before .before .before .before .before .before .before .before .before .before .before .before .before .before .before .before .before .before .before .before .before .before .before .before .before .before .before .before .before .before in counter-word (s .args .tolerance) (s .args .command) (lent s) _ (c .before .before .before .before .before .before .before .before .before .before .before .before .before .before .before .before .before .before .before .before .before .before .before .before .apply .result) (c .before .before .before .before .before .before .before .before .before .before .before .before .before .before .before .before .before .before .before .before .before .before .before .before .apply .ensures) (omega arith)
 
 -- src/lib.rt:31:1
 same-length : tie.Need-same-length

@@ -11,7 +11,8 @@ use lib.ListN.{length}
 use borrow.Rule.Slice.PartMut.{midOf, same-len-mid}
 use Rattle.tables.specs.View.{Tables, tablesOf}
 use Rattle.step.specs.Step.{Lent, lentOf}
-use Rattle.job_turn.proofs.Ends.{Fits, room-fits, counter-word, may-mark, made-as}
+use Rattle.job_turn.proofs.Ends.{Fits, room-fits, may-mark, made-as}
+use Rattle.step.proofs.Counter.{counter-word}
 
 -- what is lent
 abbrev lent : tie.Start → Lent
