@@ -7,6 +7,7 @@ use crate::tables::Tables;
 /// What a call is lent, and after it what it left: the tables, the counter, and the words of
 /// created, modified, deleted (two a pair) and warnings (ten each).
 #[derive(Clone)]
+#[cfg_attr(not(feature = "against"), allow(dead_code))]
 pub struct Lent {
     pub tables: Tables,
     pub counter: u64,

@@ -1,5 +1,6 @@
 //! What the Rust answers to the calls of yard's output.
 use crate::cases::filled;
+use crate::jobs;
 use crate::step::{Answer, Call, Room, State};
 use std::io::Read;
 use vectormap_core::*;
@@ -162,6 +163,24 @@ fn call(words: &[&str]) -> Call {
     };
     Call::of(row)
 }
+/// A job, its edits behind semicolons: what it answers, and the state that it leaves.
+fn job(s: &mut State, edits: &str, room: &Room) -> String {
+    let rows: Vec<Call> = edits
+        .split("; ")
+        .skip(1)
+        .map(|c| call(&c.split(' ').collect::<Vec<&str>>()))
+        .collect();
+    let end = jobs::make(s, &rows, None, room);
+    *s = end.after;
+    let t = &end.told;
+    match &end.changes {
+        made @ Answer::Changed { .. } => text(made),
+        Answer::Refused { number, .. } => {
+            let entity = t.entity.map_or(String::new(), |(k, i)| format!(" | {k} {i}"));
+            format!("{number} {} {}{entity}", t.place, t.own)
+        }
+    }
+}
 fn ids(l: impl Iterator<Item = u64>) -> String {
     l.map(|i| format!(" {i}")).collect()
 }
@@ -242,7 +261,7 @@ pub fn run() -> bool {
                 s = state(two(), 50);
                 continue;
             }
-            "long list" => {
+            "long list" | "jobs" => {
                 s = state(eight(), 19);
                 continue;
             }
@@ -262,7 +281,10 @@ pub fn run() -> bool {
             room.deleted = 1;
         }
         little = if little > 0 { little - 1 } else { 0 };
-        let got = text(&s.step(&call(&words), &room));
+        let got = match c.strip_prefix("job") {
+            Some(edits) => job(&mut s, edits, &room),
+            None => text(&s.step(&call(&words), &room)),
+        };
         calls += 1;
         if got != a {
             bad += 1;

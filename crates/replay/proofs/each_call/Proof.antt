@@ -1,4 +1,5 @@
 use borrow.Author.Needs.{needs}
+use Prim.{tt}
 use Rattle.replay.proofs.each_call.Statement.{statement}
 use Rattle.replay.proofs.each_call.Tie as tie
 use mathlib.Core.Path.{_≡_, refl, _∙_}
@@ -16,7 +17,7 @@ loop-holds : tie.Need-loop-holds Inv-loop μ-loop
 loop-holds c = (refl, (refl, (refl, (refl, (refl, (refl, (refl, refl)))))))
 
 make-one-requires : tie.Need-make-one-requires Inv-loop μ-loop
-make-one-requires c κs = search needs
+make-one-requires c κs = tt
 
 add-i : tie.Need-add-i Inv-loop μ-loop
 add-i c = omega (arith, c .before .before .before .before .before .before .before .before .before .before .before .before .before .before .before .before .before .before .before .before .before .before .before .before .before .loop-test .taken, c .before .before .before .before .before .before .before .before .before .before .before .before .before .before .before .before .before .before .before .before .before .before .before .before .before .before .before .before .before .before .before .before .before .before .before .before .fits .calls)

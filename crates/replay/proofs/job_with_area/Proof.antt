@@ -1,4 +1,5 @@
 use borrow.Author.Needs.{needs}
+use Prim.{tt}
 use Rattle.replay.proofs.job_with_area.Statement.{statement}
 use Rattle.replay.proofs.job_with_area.Tie as tie
 use mathlib.Core.Path.{sym}
@@ -8,49 +9,49 @@ element-copy-out-least : tie.Need-element-copy-out-least
 element-copy-out-least c = search needs
 
 least-requires : tie.Need-least-requires
-least-requires c κs = search needs
+least-requires c κs = tt
 
 element-copy-out-least-2 : tie.Need-element-copy-out-least-2
 element-copy-out-least-2 c = search needs
 
 least-requires-2 : tie.Need-least-requires-2
-least-requires-2 c κs = search needs
+least-requires-2 c κs = tt
 
 element-copy-out-least-3 : tie.Need-element-copy-out-least-3
 element-copy-out-least-3 c = search needs
 
 least-requires-3 : tie.Need-least-requires-3
-least-requires-3 c κs = search needs
+least-requires-3 c κs = tt
 
 element-copy-out-least-4 : tie.Need-element-copy-out-least-4
 element-copy-out-least-4 c = search needs
 
 least-requires-4 : tie.Need-least-requires-4
-least-requires-4 c κs = search needs
+least-requires-4 c κs = tt
 
 element-copy-out-least-5 : tie.Need-element-copy-out-least-5
 element-copy-out-least-5 c = search needs
 
 least-requires-5 : tie.Need-least-requires-5
-least-requires-5 c κs = search needs
+least-requires-5 c κs = tt
 
 element-copy-out-least-6 : tie.Need-element-copy-out-least-6
 element-copy-out-least-6 c = search needs
 
 least-requires-6 : tie.Need-least-requires-6
-least-requires-6 c κs = search needs
+least-requires-6 c κs = tt
 
 element-copy-out-least-7 : tie.Need-element-copy-out-least-7
 element-copy-out-least-7 c = search needs
 
 least-requires-7 : tie.Need-least-requires-7
-least-requires-7 c κs = search needs
+least-requires-7 c κs = tt
 
 element-copy-out-least-8 : tie.Need-element-copy-out-least-8
 element-copy-out-least-8 c = search needs
 
 least-requires-8 : tie.Need-least-requires-8
-least-requires-8 c κs = search needs
+least-requires-8 c κs = tt
 
 array-borrow-prefix-old-lanes : tie.Need-array-borrow-prefix-old-lanes
 array-borrow-prefix-old-lanes c = c .before .before .before .before .before .before .before .before .before .before .before .before .before .before .before .before .before .before .before .before .before .before .least .ensures .1
@@ -101,7 +102,7 @@ slice-aggregate-job-with-lists-8 : tie.Need-slice-aggregate-job-with-lists-8
 slice-aggregate-job-with-lists-8 c = sym (length-take-le _ _ (c .before .before .before .before .before .before .before .before .before .before .before .before .before .before .before .before .least8 .ensures .1))
 
 job-with-lists-requires : tie.Need-job-with-lists-requires
-job-with-lists-requires c κs = search needs
+job-with-lists-requires c κs = tt
 
 same-length : tie.Need-same-length
 same-length c = c .before .before .before .before .before .before .before .before .before .before .before .before .before .before .before .before .before .before .before .before .before .before .before .before .job-with-lists .kept .1 .0

@@ -1,4 +1,5 @@
 use borrow.Author.Needs.{needs}
+use Prim.{tt}
 use Rattle.replay.proofs.make.Statement.{statement}
 use Rattle.replay.proofs.make.Tie as tie
 use mathlib.Core.Path.{sym}
@@ -11,19 +12,19 @@ slice-aggregate-fill : tie.Need-slice-aggregate-fill
 slice-aggregate-fill c = search needs
 
 fill-requires : tie.Need-fill-requires
-fill-requires c κs = search needs
+fill-requires c κs = tt
 
 room-requires : tie.Need-room-requires
-room-requires c κs = search needs
+room-requires c κs = tt
 
 slice-aggregate-command-of : tie.Need-slice-aggregate-command-of
 slice-aggregate-command-of c = search needs
 
 command-of-requires : tie.Need-command-of-requires
-command-of-requires c κs = search needs
+command-of-requires c κs = tt
 
 preset-requires : tie.Need-preset-requires
-preset-requires c κs = search needs
+preset-requires c κs = tt
 
 array-borrow-prefix-created : tie.Need-array-borrow-prefix-created
 array-borrow-prefix-created c = c .before .before .before .before .before .before .before .before .before .before .before .room .ensures .0
@@ -50,16 +51,16 @@ slice-aggregate-apply-4 : tie.Need-slice-aggregate-apply-4
 slice-aggregate-apply-4 c = sym (length-take-le _ _ (c .before .before .before .before .before .before .before .before .before .before .before .before .before .before .before .room .ensures .1 .1 .1))
 
 apply-requires : tie.Need-apply-requires
-apply-requires c κs = search needs
+apply-requires c κs = tt
 
 digest-of-requires : tie.Need-digest-of-requires
-digest-of-requires c κs = search needs
+digest-of-requires c κs = tt
 
 tell-requires : tie.Need-tell-requires
 tell-requires c κs = let h : c .before .before .before .before .before .before .before .before .before .before .before .before .before .before .before .before .before .before .before .before .before .before .before .before .before .before .before .before .before .before .before .before .before .before .before .before .before .before .before .before .before .before .before .before .before .before .before .before .before .before .before .before .before .before .before .before .before .before .before .before .before .before .before .args .counter < 2 ^ 64 = omega (arith, c .before .before .before .before .before .before .before .before .before .before .before .before .before .before .before .before .before .before .before .before .before .before .before .before .before .before .before .before .before .before .before .before .before .before .before .before .before .before .before .before .before .before .before .before .before .before .before .before .before .before .before .before .before .before .before .before .before .before .before .before .before .before .before .fits .counter) in counter-word (c .before .before .before .before .before .before .before .before .before .before .before .before .before .before .before .before .before .before .before .before .before .before .before .before .before .before .before .before .before .before .before .before .before .before .before .before .before .before .before .before .before .before .before .before .before .before .preset .result) (c .before .before .before .before .before .before .before .before .before .before .before .before .before .before .before .before .before .before .before .before .before .before .before .before .before .before .before .before .before .before .before .before .before .before .before .before .before .before .before .before .before .before .before .before .before .before .before .command-of .result) _ _ (c .before .before .before .before .before .before .before .before .before .before .before .before .before .before .before .before .before .before .before .before .before .before .before .before .before .before .before .before .before .before .before .before .before .apply .result) (c .before .before .before .before .before .before .before .before .before .before .before .before .before .before .before .before .before .before .before .before .before .before .before .before .before .before .before .before .before .before .before .before .before .apply .ensures) h
 
 print-requires : tie.Need-print-requires
-print-requires c κs = search needs
+print-requires c κs = tt
 
 same-length : tie.Need-same-length
 same-length c = c .before .before .before .before .before .before .before .before .before .before .before .before .before .before .before .before .before .before .before .before .before .before .before .before .before .before .before .before .before .before .before .before .before .before .before .apply .kept .1 .1 .0

@@ -1,4 +1,5 @@
 use borrow.Author.Needs.{needs}
+use Prim.{tt}
 use Rattle.replay.proofs.make_job.Statement.{statement}
 use Rattle.replay.proofs.make_job.Tie as tie
 
@@ -6,13 +7,13 @@ slice-aggregate-read-words : tie.Need-slice-aggregate-read-words
 slice-aggregate-read-words c = search needs
 
 read-words-requires : tie.Need-read-words-requires
-read-words-requires c κs = search needs
+read-words-requires c κs = tt
 
 slice-aggregate-fill : tie.Need-slice-aggregate-fill
 slice-aggregate-fill c = search needs
 
 fill-requires : tie.Need-fill-requires
-fill-requires c κs = search needs
+fill-requires c κs = tt
 
 array-share-prefix-rows : tie.Need-array-share-prefix-rows
 array-share-prefix-rows c = c .before .before .before .before .before .before .before .before .before .before .before .before .read-words .ensures .1 .1 .0
@@ -21,7 +22,7 @@ slice-aggregate-job-with-area : tie.Need-slice-aggregate-job-with-area
 slice-aggregate-job-with-area c = c .before .before .before .before .before .before .before .before .before .before .before .before .before .read-words .ensures .1 .1 .1
 
 job-with-area-requires : tie.Need-job-with-area-requires
-job-with-area-requires c κs = search needs
+job-with-area-requires c κs = tt
 
 same-length : tie.Need-same-length
 same-length c = c .before .before .before .before .before .before .before .before .before .before .before .before .before .before .before .before .job-with-area .kept .1 .0

@@ -1,9 +1,10 @@
 use borrow.Author.Needs.{needs}
+use Prim.{tt}
 use Rattle.replay.proofs.make_one.Statement.{statement}
 use Rattle.replay.proofs.make_one.Tie as tie
 
 make-job-requires : tie.Need-make-job-requires
-make-job-requires c κs = search needs
+make-job-requires c κs = tt
 
 same-length : tie.Need-same-length
 same-length c = c .before .before .before .before .before .before .before .before .before .before .before .before .before .before .before .before .make-job .kept .1 .1 .1 .0
@@ -33,7 +34,7 @@ returns : tie.Need-returns
 returns c = search needs
 
 make-requires : tie.Need-make-requires
-make-requires c κs = search needs
+make-requires c κs = tt
 
 same-length-9 : tie.Need-same-length-9
 same-length-9 c = c .before .before .before .before .before .before .before .before .before .before .before .before .before .before .before .before .make .kept .1 .1 .1 .0

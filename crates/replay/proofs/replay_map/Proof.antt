@@ -1,37 +1,38 @@
 use borrow.Author.Needs.{needs}
+use Prim.{tt}
 use Rattle.replay.proofs.replay_map.Statement.{statement}
 use Rattle.replay.proofs.replay_map.Tie as tie
 use Rattle.replay.proofs.Parts.{put-back}
 
 read-words-requires : tie.Need-read-words-requires
-read-words-requires c κs = search needs
+read-words-requires c κs = tt
 
 read-words-requires-2 : tie.Need-read-words-requires-2
-read-words-requires-2 c κs = search needs
+read-words-requires-2 c κs = tt
 
 read-words-requires-3 : tie.Need-read-words-requires-3
-read-words-requires-3 c κs = search needs
+read-words-requires-3 c κs = tt
 
 read-words-requires-4 : tie.Need-read-words-requires-4
-read-words-requires-4 c κs = search needs
+read-words-requires-4 c κs = tt
 
 read-words-requires-5 : tie.Need-read-words-requires-5
-read-words-requires-5 c κs = search needs
+read-words-requires-5 c κs = tt
 
 read-words-requires-6 : tie.Need-read-words-requires-6
-read-words-requires-6 c κs = search needs
+read-words-requires-6 c κs = tt
 
 read-words-requires-7 : tie.Need-read-words-requires-7
-read-words-requires-7 c κs = search needs
+read-words-requires-7 c κs = tt
 
 read-floats-requires : tie.Need-read-floats-requires
-read-floats-requires c κs = search needs
+read-floats-requires c κs = tt
 
 number-requires : tie.Need-number-requires
-number-requires c κs = search needs
+number-requires c κs = tt
 
 number-requires-2 : tie.Need-number-requires-2
-number-requires-2 c κs = search needs
+number-requires-2 c κs = tt
 
 slice-relend-prefix-each-call : tie.Need-slice-relend-prefix-each-call
 slice-relend-prefix-each-call c = c .before .before .before .before .before .before .before .before .before .before .before .before .before .before .before .before .before .before .before .before .before .before .before .before .before .before .before .before .before .before .before .before .read-words .ensures .1 .1 .0
@@ -82,7 +83,7 @@ slice-aggregate-each-call-8 : tie.Need-slice-aggregate-each-call-8
 slice-aggregate-each-call-8 c = c .before .before .before .before .before .before .before .before .before .before .before .before .read-floats .ensures .1 .1 .1
 
 each-call-requires : tie.Need-each-call-requires
-each-call-requires c κs = search needs
+each-call-requires c κs = tt
 
 same-length : tie.Need-same-length
 same-length c = put-back (c .before .before .before .before .before .before .before .before .before .before .before .before .before .before .before .before .before .before .before .before .before .before .before .before .before .before .before .before .before .before .before .before .before .before .before .before .before .before .before .before .before .before .before .before .before .before .before .before .before .before .before .before .before .before .before .before .before .read-words .result .size) (c .before .before .before .before .before .before .before .before .before .before .before .before .before .before .before .before .each-call .last .1 .1 .1 .1 .1 .0) (c .before .before .before .before .before .before .before .before .before .before .before .before .before .before .before .before .before .before .before .before .before .before .before .before .before .before .before .before .before .before .before .before .before .before .before .before .before .before .before .before .before .before .before .before .before .before .before .before .before .before .before .before .before .before .before .before .before .read-words .last .1 .1 .0) (c .before .before .before .before .before .before .before .before .before .before .before .before .before .before .before .before .before .before .before .before .before .before .before .before .before .before .before .before .before .before .before .before .before .before .before .before .before .before .before .before .before .before .before .before .before .before .before .before .before .before .before .before .before .before .before .before .before .before .before .before .before .before .before .before .before .before .before .before .args .lanes .now) (c .before .before .before .before .before .before .before .before .before .before .before .before .before .before .before .before .each-call .kept .1 .1 .1 .1 .1 .0) (c .before .before .before .before .before .before .before .before .before .before .before .before .before .before .before .before .before .before .before .before .before .before .before .before .before .before .before .before .before .before .before .before .before .before .before .before .before .before .before .before .before .before .before .before .before .before .before .before .before .before .before .before .before .before .before .before .before .read-words .kept .1 .1 .0)
