@@ -789,6 +789,8 @@ enum Fault {
     ModifiedListsDeleted,
     ListsWhatPasses,
     WarningsOfLastEdit,
+    BlanksUnusedWords,
+    WarnsPastKeptAgain,
     ListsTestedByEdits,
     CutRowIsNoEdit,
     SixtyFourIsTooMany,
@@ -796,7 +798,7 @@ enum Fault {
 
 use Fault::*;
 
-const FAULTS: [Fault; 20] = [
+const FAULTS: [Fault; 22] = [
     KeepsEditsBeforeRefused,
     KeepsCounterOfRefused,
     PlaceFromZero,
@@ -814,6 +816,8 @@ const FAULTS: [Fault; 20] = [
     ModifiedListsDeleted,
     ListsWhatPasses,
     WarningsOfLastEdit,
+    BlanksUnusedWords,
+    WarnsPastKeptAgain,
     ListsTestedByEdits,
     CutRowIsNoEdit,
     SixtyFourIsTooMany,
@@ -926,6 +930,7 @@ impl Own {
             Some(ModifiedListsDeleted) => *modified = sorted(modified, among(deleted)),
             Some(ListsWhatPasses) => *created = sorted(created, born.into_iter().collect()),
             Some(WarningsOfLastEdit) => *warnings = warnings.split_off(warnings.len() - last),
+            Some(WarnsPastKeptAgain) if warnings.len() > KEPT => warnings[KEPT] = warnings[0],
             _ => {}
         }
         answer
@@ -987,6 +992,14 @@ impl Jobs for Own {
             words
         });
         let (raw, lists) = expected(&changes, lists);
+        let mut lists = lists;
+        if self.has(BlanksUnusedWords) {
+            // Those of related entities that a warning does not have.
+            for row in lists[3].chunks_mut(ENTRY[3]).take(raw.counts[3]) {
+                let used = 5 + 2 * row[4] as usize;
+                row[used..9].fill(0);
+            }
+        }
         if told.number == 0 {
             told.counts = raw.counts;
             for (slice, list) in memory.lists.iter_mut().zip(&lists) {
@@ -1004,8 +1017,11 @@ pub fn try_out(seed: u64, count: usize) -> bool {
     for fault in std::iter::once(None).chain(FAULTS.map(Some)) {
         let (mut tally, mut left) = (Tally::new(), PATIENCE);
         let mut editor = Own { fault };
-        let found =
-            (0..count).find_map(|i| map(&mut editor, Play::new(seed, i), &mut tally, &mut left));
+        let plays = (0..count).map(|i| match i % 40 {
+            39 => many(i / 40),
+            _ => Play::new(seed, i),
+        });
+        let found = { plays }.find_map(|p| map(&mut editor, p, &mut tally, &mut left));
         match (&fault, &found) {
             (None, None) => println!("jobs, no fault: 0 differences in {} jobs", tally.jobs),
             (Some(f), Some(found)) if tally.jobs <= 10_000 => {
