@@ -6,7 +6,7 @@ ghost use Rattle.job_step.specs.Job.{jobLent, jobEnded};
 ghost use Rattle.job.specs.Calls.{Applied};
 ghost use Rattle.job.specs.First.{firstTests};
 use entities::Tolerance;
-use job_made::JobEnd;
+use job_decided::JobEnd;
 use jobs::Job;
 use jobs::JobAnswer;
 use jobs::MAX_EDITS;

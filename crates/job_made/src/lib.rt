@@ -1,7 +1,6 @@
 // A job that has passed its first tests: its edits made in place, the net lists, and the way back where it is refused.
 ghost use mathlib.Core.Path.{_≡_};
 ghost use mathlib.Core.Bool.{true};
-ghost use mathlib.Core.List.{[]};
 ghost use Prim.Native.Nat.{_≤_};
 ghost use lib.ListN.{length};
 ghost use Rattle.tables.specs.View.{tablesOf};
@@ -9,10 +8,10 @@ ghost use Rattle.tables.specs.Formed.{soundTables};
 ghost use Rattle.jobs.specs.Job.{commands};
 ghost use Rattle.step.specs.Step as S;
 ghost use Rattle.job_step.specs.Job.{jobEnded, ending, tableEdits};
-ghost use Rattle.job_made.specs.Made.{unmarked, keptFrom, keptWords, AllMade};
+ghost use Rattle.job_made.specs.Made.{unmarked, keptFrom, keptWords};
 use entities::Tolerance;
+use job_decided::JobEnd;
 use job_marks::MARKS;
-use job_run::Ran;
 use job_told::KEPT;
 use job_turn::ENTITY_LIST;
 use job_turn::MOST_WARNINGS;
@@ -23,131 +22,7 @@ use report::WARNING;
 // Rows of the job's own warnings: behind the last that is kept there is room for those of any edit.
 const WARNING_LIST: usize = (KEPT + MOST_WARNINGS) * WARNING;
 
-// What a job leaves of the counter, and its answer.
-pub struct JobEnd {
-    pub counter: u64,
-    pub answer: JobAnswer,
-}
-
-// The end of a job whose edits are all made: the net lists, or the way back where the lent ones are too short.
-fn finish(
-    counter: u64,
-    next: u64,
-    tolerance: Tolerance,
-    lanes: &mut [u64],
-    boundaries: &mut [u64],
-    roads: &mut [u64],
-    junctions: &mut [u64],
-    rules: &mut [u64],
-    stop_lines: &mut [u64],
-    crosswalks: &mut [u64],
-    coordinates: &mut [f64],
-    job: Job,
-    old_lanes: &[u64],
-    old_boundaries: &[u64],
-    old_roads: &[u64],
-    old_junctions: &[u64],
-    old_rules: &[u64],
-    old_stop_lines: &[u64],
-    old_crosswalks: &[u64],
-    old_coordinates: &[f64],
-    marks: &mut [u64],
-    all_created: &mut [u64],
-    all_modified: &mut [u64],
-    all_deleted: &mut [u64],
-    kept: &[u64],
-    told: usize,
-    created: &mut [u64],
-    modified: &mut [u64],
-    deleted: &mut [u64],
-    warnings: &mut [u64],
-) -> JobEnd
-    requires { ⌜ (soundTables counter (tablesOf (now «old_lanes») (now «old_boundaries») (now «old_roads») (now «old_junctions») (now «old_rules») (now «old_stop_lines») (now «old_crosswalks») (now «old_coordinates»)) ≡ true) × ((job .count ≤ 64) × (AllMade (tablesOf (now «old_lanes») (now «old_boundaries») (now «old_roads») (now «old_junctions») (now «old_rules») (now «old_stop_lines») (now «old_crosswalks») []) (now warnings) (tableEdits tolerance 1 (commands job) (record { counter = counter; tables = (tablesOf (now «old_lanes») (now «old_boundaries») (now «old_roads») (now «old_junctions») (now «old_rules») (now «old_stop_lines») (now «old_crosswalks») (now «old_coordinates»)) })) next (tablesOf (now lanes) (now boundaries) (now roads) (now junctions) (now rules) (now «stop_lines») (now crosswalks) (now coordinates)) told (now marks) (now kept) × ((length (now kept) ≡ 25600) × ((length (now marks) ≡ 6784) × ((length (now «all_created») ≡ 13568) × ((length (now «all_modified») ≡ 13568) × (length (now «all_deleted») ≡ 13568))))))) ⌝ }
-    ensures { λ r. ⌜ jobEnded (S.lentOf (r .counter) (now (lanes .exit)) (now (boundaries .exit)) (now (roads .exit)) (now (junctions .exit)) (now (rules .exit)) (now («stop_lines» .exit)) (now (crosswalks .exit)) (now (coordinates .exit)) (now (created .exit)) (now (modified .exit)) (now (deleted .exit)) (now (warnings .exit))) (tablesOf (now («old_lanes» .entry)) (now («old_boundaries» .entry)) (now («old_roads» .entry)) (now («old_junctions» .entry)) (now («old_rules» .entry)) (now («old_stop_lines» .entry)) (now («old_crosswalks» .entry)) (now («old_coordinates» .entry))) (r .answer) ≡ ending (S.lentOf counter (now («old_lanes» .entry)) (now («old_boundaries» .entry)) (now («old_roads» .entry)) (now («old_junctions» .entry)) (now («old_rules» .entry)) (now («old_stop_lines» .entry)) (now («old_crosswalks» .entry)) (now («old_coordinates» .entry)) (now (created .entry)) (now (modified .entry)) (now (deleted .entry)) (now (warnings .entry))) (tablesOf (now («old_lanes» .entry)) (now («old_boundaries» .entry)) (now («old_roads» .entry)) (now («old_junctions» .entry)) (now («old_rules» .entry)) (now («old_stop_lines» .entry)) (now («old_crosswalks» .entry)) (now («old_coordinates» .entry))) (tableEdits tolerance 1 (commands job) (record { counter = counter; tables = (tablesOf (now («old_lanes» .entry)) (now («old_boundaries» .entry)) (now («old_roads» .entry)) (now («old_junctions» .entry)) (now («old_rules» .entry)) (now («old_stop_lines» .entry)) (now («old_crosswalks» .entry)) (now («old_coordinates» .entry))) })) ⌝ }
-{
-    let n = job_net::net_lists(
-        lanes,
-        boundaries,
-        roads,
-        junctions,
-        rules,
-        stop_lines,
-        crosswalks,
-        old_lanes,
-        old_boundaries,
-        old_roads,
-        old_junctions,
-        old_rules,
-        old_stop_lines,
-        old_crosswalks,
-        marks,
-        all_created,
-        all_modified,
-        all_deleted,
-        told,
-    );
-    if !room::lists_fit(n, created, modified, deleted, warnings) {
-        area::put_back(
-            old_lanes,
-            old_boundaries,
-            old_roads,
-            old_junctions,
-            old_rules,
-            old_stop_lines,
-            old_crosswalks,
-            old_coordinates,
-            lanes,
-            boundaries,
-            roads,
-            junctions,
-            rules,
-            stop_lines,
-            crosswalks,
-            coordinates,
-        );
-        return JobEnd {
-            counter,
-            answer: JobAnswer::NoRoom,
-        };
-    }
-    job_told::tell(
-        counter,
-        tolerance,
-        lanes,
-        boundaries,
-        roads,
-        junctions,
-        rules,
-        stop_lines,
-        crosswalks,
-        coordinates,
-        job,
-        old_lanes,
-        old_boundaries,
-        old_roads,
-        old_junctions,
-        old_rules,
-        old_stop_lines,
-        old_crosswalks,
-        old_coordinates,
-        marks,
-        all_created,
-        all_modified,
-        all_deleted,
-        kept,
-        n,
-        created,
-        modified,
-        deleted,
-        warnings,
-    );
-    JobEnd {
-        counter: next,
-        answer: JobAnswer::Made(n),
-    }
-}
-
-// The edits, and what follows from them.
+// The edits, what they come to, and then the lists or the way back.
 fn make_with(
     counter: u64,
     tolerance: Tolerance,
@@ -207,37 +82,45 @@ fn make_with(
         old_crosswalks,
         marks,
     );
-    match ran {
-        Ran::Stopped { place, refusal } => {
-            area::put_back(
-                old_lanes,
-                old_boundaries,
-                old_roads,
-                old_junctions,
-                old_rules,
-                old_stop_lines,
-                old_crosswalks,
-                old_coordinates,
-                lanes,
-                boundaries,
-                roads,
-                junctions,
-                rules,
-                stop_lines,
-                crosswalks,
-                coordinates,
-            );
-            JobEnd {
-                counter,
-                answer: JobAnswer::EditRefused { place, refusal },
-            }
-        }
-        Ran::Done {
-            counter: next,
-            warnings: told,
-        } => finish(
+    let end = job_decided::decided(
+        counter,
+        lanes,
+        boundaries,
+        roads,
+        junctions,
+        rules,
+        stop_lines,
+        crosswalks,
+        old_lanes,
+        old_boundaries,
+        old_roads,
+        old_junctions,
+        old_rules,
+        old_stop_lines,
+        old_crosswalks,
+        marks,
+        all_created,
+        all_modified,
+        all_deleted,
+        ran,
+        created,
+        modified,
+        deleted,
+        warnings,
+    );
+    let answer = end.answer;
+    if let JobAnswer::Made(n) = answer {
+        job_told::tell_lists(
+            all_created,
+            all_modified,
+            all_deleted,
+            n,
+            created,
+            modified,
+            deleted,
+        );
+        job_told::tell_warnings(
             counter,
-            next,
             tolerance,
             lanes,
             boundaries,
@@ -261,13 +144,30 @@ fn make_with(
             all_modified,
             all_deleted,
             kept,
-            told,
-            created,
-            modified,
-            deleted,
+            n.warnings,
             warnings,
-        ),
+        );
+        return end;
     }
+    area::put_back(
+        old_lanes,
+        old_boundaries,
+        old_roads,
+        old_junctions,
+        old_rules,
+        old_stop_lines,
+        old_crosswalks,
+        old_coordinates,
+        lanes,
+        boundaries,
+        roads,
+        junctions,
+        rules,
+        stop_lines,
+        crosswalks,
+        coordinates,
+    );
+    end
 }
 
 // How many words of the lent warnings have a place among those that are kept.

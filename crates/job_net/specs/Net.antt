@@ -58,14 +58,13 @@ markedBoth t others ms =
 
 -- ---- the three lists
 
--- each is written at the front of what is lent for it; `told` is how many warnings the job has
+-- how many there are of each; `told` is how many warnings the job has
+abbrev pub netCounts : Tables → Tables → List ℕ → ℕ → Counts
+netCounts t old ms told =
+    record { created = length (onlyIn t old); modified = length (markedBoth old t ms); deleted = length (onlyIn old t); warnings = told }
+
+-- each is written at the front of what is lent for it
 abbrev pub NetListed : Tables → Tables → List ℕ → ℕ → List ℕ → List ℕ → List ℕ → Counts → List ℕ → List ℕ → List ℕ → Type 0
 NetListed t old ms told created modified deleted n c m d =
-    (n
-    ≡ record {
-      created = length (onlyIn t old);
-      modified = length (markedBoth old t ms);
-      deleted = length (onlyIn old t);
-      warnings = told;
-    })
+    (n ≡ netCounts t old ms told)
     × ((c ≡ listed created (onlyIn t old)) × ((m ≡ listed modified (markedBoth old t ms)) × (d ≡ listed deleted (onlyIn old t))))

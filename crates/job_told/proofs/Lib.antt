@@ -1,3 +1,2 @@
 pub mod Sorted
 pub mod Ends
-pub mod Written

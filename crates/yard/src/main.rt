@@ -1,12 +1,14 @@
 // How a yard calls the editor: it lays out maps in memory of its own and makes calls, good and bad ones, each on what the last left. First come the cases of
-// document 01, then calls that meet other answers, then a long list of drawn ones. A call is a line: the command; the answer's number; of a refusal its
-// entity, if it has one, and of a change the created, the modified and the deleted, each an entity's kind and id, and the warnings.
+// document 01, then calls that meet other answers, then a long list of drawn ones, then jobs of several edits. A call is a line: the command; the answer's number;
+// of a refusal its entity, if it has one, and of a change the created, the modified and the deleted, each an entity's kind and id, and the warnings. A job is a
+// line too: its commands; the answer's number; of a refused command its place, its own number and its entity, and of a change the net lists.
 ghost use Prim.Native.Nat.{_+_, _≤_, _<_};
 ghost use lib.ListN.{length};
 ghost use mathlib.Core.Path.{_≡_};
 use entities::Counter;
 use entities::OptionEntity;
 use entities::Tolerance;
+use jobs::JobAnswer;
 use libc::STDOUT_FILENO;
 use report::Answer;
 use report::Counts;
@@ -150,6 +152,8 @@ const LOW_COUNTER: usize = 13;
 
 const LONG: usize = 14;
 
+const JOBS: usize = 15;
+
 // How many calls each map gets.
 fn calls(map: usize) -> usize {
     match map {
@@ -157,7 +161,8 @@ fn calls(map: usize) -> usize {
         CASE_1 | CASE_7 | CASE_9 | LITTLE_ROOM => 2,
         CASE_3 | CASE_4 | CASE_8 => 3,
         OTHERS => 14,
-        _ => 128,
+        LONG => 128,
+        _ => 0,
     }
 }
 
@@ -795,7 +800,7 @@ fn asked_neighbor(row: [u64; COMMAND]) {
     next(row[4]);
 }
 
-fn asked(row: [u64; COMMAND]) {
+fn command(row: [u64; COMMAND]) {
     term(least(row[0] as usize, 5));
     next(row[1]);
     match row[0] {
@@ -804,6 +809,10 @@ fn asked(row: [u64; COMMAND]) {
         REMOVE => {}
         _ => next(row[2]),
     }
+}
+
+fn asked(row: [u64; COMMAND]) {
+    command(row);
     write(b": ");
 }
 
@@ -888,6 +897,97 @@ fn change(n: Counts, created: &[u64], modified: &[u64], deleted: &[u64], warning
     each_pair(modified, n.modified);
     each_pair(deleted, n.deleted);
     each_warning(warnings, n.warnings);
+}
+
+// ---- jobs
+
+// How many jobs a map gets, behind its calls.
+fn jobs(map: usize) -> usize {
+    if map == JOBS {
+        return 3;
+    }
+    0
+}
+
+// The words of a job: lane 5 is closed, and lane 1 led to lane 6; then one whose second edit is refused, so that none is made.
+const JOB: usize = 15;
+
+fn job_rows(k: usize) -> [u64; JOB] {
+    match k {
+        0 => [
+            DISCONNECT,
+            1,
+            5,
+            0,
+            0,
+            REMOVE,
+            5,
+            0,
+            0,
+            0,
+            CONNECT,
+            1,
+            6,
+            0,
+            0,
+        ],
+        _ => [CONNECT, 2, 7, 0, 0, MERGE, 2, 99, 0, 0, REMOVE, 2, 0, 0, 0],
+    }
+}
+
+// The third has no edit.
+fn job_size(k: usize) -> usize
+    ensures { λ r. ⌜ r ≤ 15 ⌝ }
+{
+    if k < 2 {
+        return JOB;
+    }
+    0
+}
+
+fn row_at(rows: &[u64], at: usize) -> [u64; COMMAND]
+    requires { ⌜ at < 1000000 ⌝ }
+{
+    [
+        word(rows, at),
+        word(rows, at + 1),
+        word(rows, at + 2),
+        word(rows, at + 3),
+        word(rows, at + 4),
+    ]
+}
+
+fn asked_job(rows: &[u64])
+    requires { ⌜ length (now rows) ≤ 15 ⌝ }
+{
+    write(b"job");
+    let n = rows.len() / COMMAND;
+    let mut i = 0;
+    while i < n {
+        write(b"; ");
+        command(row_at(rows, i * COMMAND));
+        i += 1;
+    }
+    write(b": ");
+}
+
+fn job_answer(
+    a: JobAnswer,
+    created: &[u64; ROOM],
+    modified: &[u64; ROOM],
+    deleted: &[u64; ROOM],
+    warnings: &[u64; 320],
+) {
+    number(a.number());
+    match a {
+        JobAnswer::Made(n) => change(n, created, modified, deleted, warnings),
+        _ => {
+            next(a.place());
+            next(a.own_number());
+            entity(a.entity());
+        }
+    }
+    write(b"\n");
 }
 
 // ---- what is left
@@ -1030,6 +1130,13 @@ fn end(map: usize, lanes: &[u64]) {
     }
 }
 
+// The links that n jobs leave.
+fn end_jobs(n: usize, lanes: &[u64]) {
+    if 0 < n {
+        each_lane(lanes);
+    }
+}
+
 // ---- the yard
 
 // The counter behind a call, and what is worth showing then: lanes where something was modified, lines too where something came or went.
@@ -1090,9 +1197,168 @@ fn make(
     behind_call(a.counter(counter), a.counts())
 }
 
+// The job with lists of 64 pairs and of 32 warnings; the counter behind it.
+fn job_with_lists(
+    counter: u64,
+    lanes: &mut [u64],
+    boundaries: &mut [u64],
+    roads: &mut [u64],
+    junctions: &mut [u64],
+    rules: &mut [u64],
+    stop_lines: &mut [u64],
+    crosswalks: &mut [u64],
+    coordinates: &mut [f64],
+    rows: &[u64],
+    old_lanes: &mut [u64],
+    old_boundaries: &mut [u64],
+    old_roads: &mut [u64],
+    old_junctions: &mut [u64],
+    old_rules: &mut [u64],
+    old_stop_lines: &mut [u64],
+    old_crosswalks: &mut [u64],
+    old_coordinates: &mut [f64],
+) -> u64 {
+    let mut created = [0; 128];
+    let mut modified = [0; 128];
+    let mut deleted = [0; 128];
+    let mut warnings = [0; 320];
+    let end = job::apply(
+        counter,
+        Tolerance::preset(),
+        lanes,
+        boundaries,
+        roads,
+        junctions,
+        rules,
+        stop_lines,
+        crosswalks,
+        coordinates,
+        job_words::job_of(rows),
+        old_lanes,
+        old_boundaries,
+        old_roads,
+        old_junctions,
+        old_rules,
+        old_stop_lines,
+        old_crosswalks,
+        old_coordinates,
+        &mut created,
+        &mut modified,
+        &mut deleted,
+        &mut warnings,
+    );
+    let a = end.answer;
+    job_answer(a, &created, &modified, &deleted, &warnings);
+    end.counter
+}
+
+// The job with a second area as large as the map's.
+fn job_with_area(
+    counter: u64,
+    lanes: &mut [u64],
+    boundaries: &mut [u64],
+    roads: &mut [u64],
+    junctions: &mut [u64],
+    rules: &mut [u64],
+    stop_lines: &mut [u64],
+    crosswalks: &mut [u64],
+    coordinates: &mut [f64],
+    rows: &[u64],
+) -> u64 {
+    let mut old_lanes = [0; 3329];
+    let mut old_boundaries = [0; 641];
+    let mut old_roads = [0; 69];
+    let mut old_junctions = [0; 70];
+    let mut old_rules = [0; 331];
+    let mut old_stop_lines = [0; 5];
+    let mut old_crosswalks = [0; 8];
+    let mut old_coordinates = [0.0; 3000];
+    job_with_lists(
+        counter,
+        lanes,
+        boundaries,
+        roads,
+        junctions,
+        rules,
+        stop_lines,
+        crosswalks,
+        coordinates,
+        rows,
+        &mut old_lanes,
+        &mut old_boundaries,
+        &mut old_roads,
+        &mut old_junctions,
+        &mut old_rules,
+        &mut old_stop_lines,
+        &mut old_crosswalks,
+        &mut old_coordinates,
+    )
+}
+
+// Asks for a job and writes its line.
+fn make_job(
+    k: usize,
+    counter: u64,
+    lanes: &mut [u64],
+    boundaries: &mut [u64],
+    roads: &mut [u64],
+    junctions: &mut [u64],
+    rules: &mut [u64],
+    stop_lines: &mut [u64],
+    crosswalks: &mut [u64],
+    coordinates: &mut [f64],
+) -> u64 {
+    let rows = job_rows(k);
+    let n = job_size(k);
+    asked_job(&rows[..n]);
+    job_with_area(
+        counter,
+        lanes,
+        boundaries,
+        roads,
+        junctions,
+        rules,
+        stop_lines,
+        crosswalks,
+        coordinates,
+        &rows[..n],
+    )
+}
+
+fn each_job(
+    n: usize,
+    lanes: &mut [u64],
+    boundaries: &mut [u64],
+    roads: &mut [u64],
+    junctions: &mut [u64],
+    rules: &mut [u64],
+    stop_lines: &mut [u64],
+    crosswalks: &mut [u64],
+    coordinates: &mut [f64],
+) {
+    let mut counter = first_counter(JOBS);
+    let mut k = 0;
+    while k < n {
+        counter = make_job(
+            k,
+            counter,
+            lanes,
+            boundaries,
+            roads,
+            junctions,
+            rules,
+            stop_lines,
+            crosswalks,
+            coordinates,
+        );
+        k += 1;
+    }
+    end_jobs(n, lanes);
+}
+
 fn first_counter(map: usize) -> u64 {
     match map {
-        LONG => 19,
+        LONG | JOBS => 19,
         _ => COUNTER,
     }
 }
@@ -1134,6 +1400,14 @@ fn each_call(
     end(map, lanes);
 }
 
+// The jobs are made on the long list's map.
+fn layout(map: usize) -> usize {
+    if map == JOBS {
+        return LONG;
+    }
+    map
+}
+
 // The tables, with room for 64 lanes, 128 boundaries, 1,000 points, and one row of each other table.
 fn run(map: usize) {
     let mut lanes = [0; 3329];
@@ -1144,14 +1418,26 @@ fn run(map: usize) {
     let mut stop_lines = [0; 5];
     let mut crosswalks = [0; 8];
     let mut coordinates = [0.0; 3000];
-    lay_lanes(&mut lanes, map);
-    lay_boundaries(&mut boundaries, map);
-    lay_lines(&mut coordinates, map);
-    lay_rule(&mut rules, map);
-    lay_stop_line(&mut stop_lines, map);
+    let laid = layout(map);
+    lay_lanes(&mut lanes, laid);
+    lay_boundaries(&mut boundaries, laid);
+    lay_lines(&mut coordinates, laid);
+    lay_rule(&mut rules, laid);
+    lay_stop_line(&mut stop_lines, laid);
     each_call(
         map,
         calls(map),
+        &mut lanes,
+        &mut boundaries,
+        &mut roads,
+        &mut junctions,
+        &mut rules,
+        &mut stop_lines,
+        &mut crosswalks,
+        &mut coordinates,
+    );
+    each_job(
+        jobs(map),
         &mut lanes,
         &mut boundaries,
         &mut roads,
@@ -1182,4 +1468,6 @@ fn main() {
     run(LOW_COUNTER);
     write(b"long list\n");
     run(LONG);
+    write(b"jobs\n");
+    run(JOBS);
 }
