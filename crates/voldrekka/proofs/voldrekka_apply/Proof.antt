@@ -42,7 +42,7 @@ use Rattle.words.specs.Words.{commandOf, told}
 use Rattle.report.specs.Report.{counterBehind}
 use Rattle.step.specs.Step.{Lent, lentOf, ended}
 use Rattle.ops.specs.Calls.{Applied}
-use Rattle.ops.proofs.Counters.{counter-word}
+use Rattle.step.proofs.Counter.{counter-word}
 use Rattle.voldrekka.specs.Edits.{called, calling}
 use Rattle.voldrekka.proofs.Calls.{all-called}
 use Rattle.entities.specs.declared.Counter.{Counter}
@@ -278,7 +278,7 @@ module _ {M : Type 1} (𝓤 : URA M) (H : Heap 𝓤) (A : Atoms 𝓤) (W : Given
         facts ! AnswerT.the-row (Is AnswerT.the-row) (shows 𝓤 H A AnswerT.the-row) r (w ∷ []) (λ is-r. land ! (from ! (stop !)) (init ! (3 + loc 18) refl (EL.lawful AnswerT.the-type AnswerL.the-laws 𝓤 H A W tt .typed r _ is-r .0)) $
         -- `tell`
         nothing ! $ owned ! AnswerT.the-row (Is AnswerT.the-row) (EL.makes AnswerT.the-type AnswerL.the-plain 𝓤 H A) r _ is-r $ fjoin ! $ owned ! u64 (Is u64) (uint-makes 𝓤 H A W w64) (h .next) _ (refl, h-fits was) $ fjoin ! $ nothing ! $
-        use2 W (raw (Tell 𝓤 H A at-mem run .pre (to-tell r w))) (goes-tell r w (counter-word t d (lent (h .next)) (h-fits was) (after t d zs) r e)) $
+        use2 W (raw (Tell 𝓤 H A at-mem run .pre (to-tell r w))) (goes-tell r w (counter-word t d (lent (h .next)) (after t d zs) r e (h-fits was))) $
         calls-at ! fm (Tell 𝓤 H A at-mem run) known-tell (to-tell r w) (and-then ! (load ! (from ! (stop !)) (look ! (4 + loc 15) refl)) (and-then ! (load ! (from ! (stop !)) (look ! (4 + loc 18) refl)) (no-more !))) (λ x.
         use1 W (later (some (λ (s : Told). (‵ ftrue ⊛ ‵ (ToldT.the-row .own s (x ∷ []))) ⊛ raw (ensured 𝓤 H A tell.ended (tell.clauses 𝓤 H A at-mem run) tt (h .next, (r, tt)) tt s)))) (id⊢ 𝓤 _) $ await ! tt $ pick ! (λ s.
         split ! $ move ! (1 ∷ []) $ use1 W (raw (fact 𝓤 (s ≡ told (h .next) r))) (tell-said 𝓤 H A at-mem run (h .next) r s) $ heard ! (s ≡ told (h .next) r) (λ e₃. split ! $ drop ! $
