@@ -1,33 +1,29 @@
 -- The tests before a job's first edit, and a job on the front of the second area. Assumes nothing.
 use mathlib.Core.Path.{_≡_, refl, sym, ap, _∙_}
-use mathlib.Core.Bool.{Bool, true, false, cond}
+use mathlib.Core.Bool.{Bool, true, false}
 use Prim.Native.Nat.{ℕ}
 use native.Mathlib.Omega.{arith}
 use lib.Dec.{leb}
 use lib.ListN.{length, take}
-use Rattle.entities.specs.Records.{ChangeSet}
 use Rattle.rules.specs.Names.{Tolerance}
 use Rattle.rules.specs.Ops.{fitsLists}
 use Rattle.tables.specs.View.{Tables, tablesOf, view}
 use Rattle.tables.specs.Formed.{soundTables}
 use Rattle.step.specs.Step.{Lent, listsOf}
-use Rattle.step.specs.Run.{Held, heldIn}
+use Rattle.step.specs.Run.{Held}
 use Rattle.jobs.specs.declared.Job.{Job}
 use Rattle.jobs.specs.declared.JobAnswer.{JobAnswer}
 use Rattle.jobs.specs.declared.JobAnswer.the-variants.{NoRoom, TooManyEdits, Unsound}
-use Rattle.jobs.specs.Job.{Run, done, stopped, commands, maxEdits, net}
+use Rattle.jobs.specs.Job.{Run, done, stopped, maxEdits, net}
 use Rattle.area.specs.Area.{areaFits, copied, putBack}
-use Rattle.job_step.specs.Job.{JobEnded, JobLent, ending, jobStep, making, refusing, tableEdits, jobEnded}
+use Rattle.job_step.specs.Job.{JobEnded, JobLent, ending, jobStep, refusing, jobEnded}
 use Rattle.job_step.proofs.Area.{copied-front}
+use Rattle.job_step.proofs.Ends.{job-too-many, job-unsound, job-short}
 use Rattle.job.specs.First.{firstTests}
 use Rattle.job.specs.declared.First.{First}
 use Rattle.job.specs.declared.First.the-variants.{Passed, Refused}
 
 -- ---- the first tests
-
--- three tests in a row, and what each refuses with
-abbrev tested : {A : Type 0} → Bool → Bool → Bool → A → A → A → A → A
-tested few sane fits passed short unsound many = cond few (cond sane (cond fits passed short) unsound) many
 
 clash : {A : Type 0} (a : JobAnswer) → Passed ≡ Refused a → A
 clash a e = absurd (nothing cc)
@@ -37,21 +33,6 @@ clash a e = absurd (nothing cc)
 
 same-answer : (a b : JobAnswer) → Refused a ≡ Refused b → a ≡ b
 same-answer a b e = cc
-
-refused : (few sane fits : Bool) (a : JobAnswer) (refuse : JobAnswer → JobEnded) (runs : JobEnded)
-    → tested few sane fits Passed (Refused NoRoom) (Refused Unsound) (Refused TooManyEdits) ≡ Refused a
-    → tested few sane fits runs (refuse NoRoom) (refuse Unsound) (refuse TooManyEdits) ≡ refuse a
-refused true true true a refuse runs e = clash a e
-refused true true false a refuse runs e = ap refuse (same-answer NoRoom a e)
-refused true false fits a refuse runs e = ap refuse (same-answer Unsound a e)
-refused false sane fits a refuse runs e = ap refuse (same-answer TooManyEdits a e)
-
-passed : (few sane fits : Bool) → tested few sane fits Passed (Refused NoRoom) (Refused Unsound) (Refused TooManyEdits) ≡ Passed
-    → (few ≡ true) × ((sane ≡ true) × (fits ≡ true))
-passed true true true e = (refl, (refl, refl))
-passed true true false e = clash NoRoom (sym e)
-passed true false fits e = clash Unsound (sym e)
-passed false sane fits e = clash TooManyEdits (sym e)
 
 module _ (counter : ℕ) (t : Tables) (edits : ℕ) (area : Tables) where
   pub many-refused : leb edits maxEdits ≡ false → firstTests counter t edits area ≡ Refused TooManyEdits
@@ -69,17 +50,36 @@ module _ (counter : ℕ) (t : Tables) (edits : ℕ) (area : Tables) where
       all-passed h = rw (few, sane, h)
 
 module _ (l : JobLent) (j : Job) where
-  pub tests-refused : (tol : Tolerance) (x : First) (a : JobAnswer) → x ≡ firstTests (l .lent .counter) (l .lent .tables) (j .count) (l .area) → x ≡ Refused a
-      → jobStep tol j l ≡ refusing (l .lent) (l .area) a
-  unfolding jobStep
-  tests-refused tol x a e h =
-      refused (leb (j .count) maxEdits) (soundTables (l .lent .counter) (l .lent .tables)) (areaFits (l .lent .tables) (l .area)) a (refusing (l .lent) (l .area))
-      (ending (l .lent) (copied (l .lent .tables) (l .area)) (tableEdits tol 1 (commands j) (heldIn (l .lent)))) (sym e ∙ h)
+  abbrev k : ℕ
+  k = l .lent .counter
 
-  pub tests-passed : (x : First) → x ≡ firstTests (l .lent .counter) (l .lent .tables) (j .count) (l .area) → x ≡ Passed
-      → (leb (j .count) maxEdits ≡ true) × ((soundTables (l .lent .counter) (l .lent .tables) ≡ true) × (areaFits (l .lent .tables) (l .area) ≡ true))
-  tests-passed x e h =
-      passed (leb (j .count) maxEdits) (soundTables (l .lent .counter) (l .lent .tables)) (areaFits (l .lent .tables) (l .area)) (sym e ∙ h)
+  abbrev t : Tables
+  t = l .lent .tables
+
+  pub tests-refused : (tol : Tolerance) (x : First) (a : JobAnswer) → x ≡ firstTests k t (j .count) (l .area) → x ≡ Refused a
+      → jobStep tol j l ≡ refusing (l .lent) (l .area) a
+  tests-refused tol x a e h = go (leb (j .count) maxEdits) refl (soundTables k t) refl (areaFits t (l .area)) refl
+    where
+      told : (b : JobAnswer) → firstTests k t (j .count) (l .area) ≡ Refused b → refusing (l .lent) (l .area) b ≡ refusing (l .lent) (l .area) a
+      told b p = ap (refusing (l .lent) (l .area)) (same-answer b a (sym p ∙ (sym e ∙ h)))
+
+      go : (few : Bool) → leb (j .count) maxEdits ≡ few → (sane : Bool) → soundTables k t ≡ sane → (fits : Bool) → areaFits t (l .area) ≡ fits
+          → jobStep tol j l ≡ refusing (l .lent) (l .area) a
+      go false p sane q fits r = job-too-many tol j l p ∙ told TooManyEdits (many-refused k t (j .count) (l .area) p)
+      go true p false q fits r = job-unsound tol j l p q ∙ told Unsound (unsound-refused k t (j .count) (l .area) p q)
+      go true p true q false r = job-short tol j l p q r ∙ told NoRoom (short-refused k t (j .count) (l .area) p q r)
+      go true p true q true r = clash a (sym (all-passed k t (j .count) (l .area) p q r) ∙ (sym e ∙ h))
+
+  pub tests-passed : (x : First) → x ≡ firstTests k t (j .count) (l .area) → x ≡ Passed
+      → (leb (j .count) maxEdits ≡ true) × ((soundTables k t ≡ true) × (areaFits t (l .area) ≡ true))
+  tests-passed x e h = go (leb (j .count) maxEdits) refl (soundTables k t) refl (areaFits t (l .area)) refl
+    where
+      go : (few : Bool) → leb (j .count) maxEdits ≡ few → (sane : Bool) → soundTables k t ≡ sane → (fits : Bool) → areaFits t (l .area) ≡ fits
+          → (leb (j .count) maxEdits ≡ true) × ((soundTables k t ≡ true) × (areaFits t (l .area) ≡ true))
+      go false p sane q fits r = clash TooManyEdits (sym (sym e ∙ h) ∙ many-refused k t (j .count) (l .area) p)
+      go true p false q fits r = clash Unsound (sym (sym e ∙ h) ∙ unsound-refused k t (j .count) (l .area) p q)
+      go true p true q false r = clash NoRoom (sym (sym e ∙ h) ∙ short-refused k t (j .count) (l .area) p q r)
+      go true p true q true r = (p, (q, r))
 
 -- ---- the second area
 
@@ -99,11 +99,11 @@ withArea b e = record { lent = e .lent; area = b; answer = e .answer }
 area-changed : (l : Lent) (a b : Tables) (r : Run Held) → withArea b (ending l a r) ≡ ending l b r
 unfolding withArea
 area-changed l a b (stopped place x) = refl
-area-changed l a b (done h css) = tests (net (view (l .tables)) (view (h .tables)) css) (fitsLists (listsOf l) (net (view (l .tables)) (view (h .tables)) css))
+area-changed l a b (done h css) = tests (fitsLists (listsOf l) (net (view (l .tables)) (view (h .tables)) css)) refl
   where
-    tests : (cs : ChangeSet) (t : Bool) → withArea b (cond t (making l a h cs) (refusing l a NoRoom)) ≡ cond t (making l b h cs) (refusing l b NoRoom)
-    tests cs true = refl
-    tests cs false = refl
+    tests : (fits : Bool) → fitsLists (listsOf l) (net (view (l .tables)) (view (h .tables)) css) ≡ fits → withArea b (ending l a (done h css)) ≡ ending l b (done h css)
+    tests true e = rw e
+    tests false e = rw e
 
 pub other-area : (l left : Lent) (a b : Tables) (r : Run Held) (x : JobAnswer) → jobEnded left a x ≡ ending l a r → jobEnded left b x ≡ ending l b r
 unfolding withArea

@@ -3,19 +3,16 @@
 use mathlib.Core.Path.{_≡_}
 use mathlib.Core.Bool.{true}
 use mathlib.Core.List.{List, [], _∷_, map}
-use Prim.Native.Nat.{ℕ}
 use Rattle.rules.specs.Names.{Tolerance}
-use Rattle.rules.specs.Sound.{repeatFree}
-use Rattle.tables.specs.View.{Tables}
 use Rattle.tables.specs.Formed.{soundTables}
 use Rattle.store.specs.Store.{roomOf}
 use Rattle.step.specs.Step.{Ended}
-use Rattle.step.specs.Run.{Held, Lending, heldIn, lend, lengthsOf, mapIn}
+use Rattle.step.specs.Run.{Held, heldIn, lend, lengthsOf, mapIn}
 use Rattle.ops.specs.Calls as O
 use Rattle.jobs.specs.declared.Job.{Job}
 use Rattle.job_laws.specs.Deeds.{DeedDemand3, afterAll}
 use Rattle.job_step.specs.Job.{JobLent, JobEnded, jobLent, jobStep}
-use Rattle.job_step.specs.Run.{TableDeed, edit-with, job-with, JobLending, deedOn, lendJob, AllClosed}
+use Rattle.job_step.specs.Run.{TableDeed, edit-with, job-with, deedOn, lendJob, AllClosed}
 
 -- ---- one call
 

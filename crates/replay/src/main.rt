@@ -179,7 +179,7 @@ fn make(
 // What the area's coordinates hold before a job.
 const BLANK: f64 = 0.5;
 
-// Words of the arrays that a job's rows, the area's slices and the lists are lent from.
+// The most words of a job that the stream has: 70 rows.
 const JOB_ROWS: usize = 350;
 
 // The answer's numbers and the digest, as a line.
