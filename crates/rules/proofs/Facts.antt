@@ -4,7 +4,7 @@ use mathlib.Core.Bool.{Bool, true, _&&_}
 use Prim.Native.Nat.{ℕ}
 use Rattle.lists.proofs.Booleans.{and-both, and-fst, and-snd}
 use Rattle.entities.specs.Records.{Map}
-use Rattle.rules.specs.Sound.{sound, withinLimits, idsAscend, counterAbove, linesInReach, kindsLegal, handlesLegal, linksAscend, linksReciprocal, neighborsReciprocal}
+use Rattle.rules.specs.Sound.{sound, withinLimits, idsAscend, counterAbove, linesInReach, kindsLegal, handlesLegal, linksAscend, linksReciprocal, neighborsReciprocal, repeatFree}
 
 pub record Sound (counter : ℕ) (m : Map) : Type 0 where
   pub limits : withinLimits m ≡ true
@@ -16,6 +16,7 @@ pub record Sound (counter : ℕ) (m : Map) : Type 0 where
   pub links-ascend : linksAscend m ≡ true
   pub links : linksReciprocal m ≡ true
   pub neighbors : neighborsReciprocal m ≡ true
+  pub once : repeatFree m ≡ true
 
 pub sound-facts : (c : ℕ) (m : Map) → sound c m ≡ true → Sound c m
 unfolding sound
@@ -28,7 +29,9 @@ sound-facts c m h =
     let a6 = a5 && handlesLegal m in
     let a7 = a6 && linksAscend m in
     let a8 = a7 && linksReciprocal m in
-    let h8 = and-fst a8 (neighborsReciprocal m) h in
+    let a9 = a8 && neighborsReciprocal m in
+    let h9 = and-fst a9 (repeatFree m) h in
+    let h8 = and-fst a8 (neighborsReciprocal m) h9 in
     let h7 = and-fst a7 (linksReciprocal m) h8 in
     let h6 = and-fst a6 (linksAscend m) h7 in
     let h5 = and-fst a5 (handlesLegal m) h6 in
@@ -44,10 +47,11 @@ sound-facts c m h =
       handles = and-snd a5 (handlesLegal m) h6;
       links-ascend = and-snd a6 (linksAscend m) h7;
       links = and-snd a7 (linksReciprocal m) h8;
-      neighbors = and-snd a8 (neighborsReciprocal m) h;
+      neighbors = and-snd a8 (neighborsReciprocal m) h9;
+      once = and-snd a9 (repeatFree m) h;
     }
 
 pub facts-sound : (c : ℕ) (m : Map) → Sound c m → sound c m ≡ true
 unfolding sound
 facts-sound c m s =
-    rw (s .limits, s .ids, s .counter-above, s .reach, s .kinds, s .handles, s .links-ascend, s .links, s .neighbors)
+    rw (s .limits, s .ids, s .counter-above, s .reach, s .kinds, s .handles, s .links-ascend, s .links, s .neighbors, s .once)

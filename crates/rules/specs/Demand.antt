@@ -107,20 +107,16 @@ AllTold tol room [] s = s ≡ s
 AllTold tol room (c ∷ cs) s = Told s (stepMap tol room c s) × AllTold tol room cs (stepMap tol room c s .state)
 
 -- Demand 3, of the whole list: the map is what document 01 makes of it call by call, sound, links and neighbours reciprocal; its links are exactly the link book's.
+-- Document 02, (b): "The promise that lists stay free of repeats then holds after every accepted edit."
 pub record Demand3 (tol : Tolerance) (room : Room) (s : State) (calls : List Call) : Type 0 where
   pub stays-sound : sound (after tol room calls s .counter) (after tol room calls s .map) ≡ true
   pub links-reciprocal : (a b : ℕ) → leads-to (after tol room calls s .map) a b ≡ comes-from (after tol room calls s .map) a b
   pub neighbors-reciprocal : (a b : ℕ) (side : Side) (d : NeighborDirection)
       → has-neighbor (after tol room calls s .map) a side b d ≡ has-neighbor (after tol room calls s .map) b (reciprocal-side side d) a d
+  pub stays-repeat-free : repeatFree (after tol room calls s .map) ≡ true
   pub links-booked : (a b : ℕ) → leads-to (after tol room calls s .map) a b ≡ bookAfter tol room calls s (firstBook (s .map)) a b
   pub lists-told : AllTold tol room calls s
 
 -- The claim, for every tolerance, room, sound map and list of calls.
 abbrev pub Claim3 : Type 0
 Claim3 = (tol : Tolerance) (room : Room) (s : State) → sound (s .counter) (s .map) ≡ true → (calls : List Call) → Demand3 tol room s calls
-
--- "that lists of roads, junctions and rules stay free of repeats is promised only to a host that began so"
-abbrev pub RepeatFreeClaim : Type 0
-RepeatFreeClaim =
-    (tol : Tolerance) (room : Room) (s : State)
-    → sound (s .counter) (s .map) ≡ true → repeatFree (s .map) ≡ true → (calls : List Call) → repeatFree (after tol room calls s .map) ≡ true

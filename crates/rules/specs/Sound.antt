@@ -1,4 +1,4 @@
--- Document 01, "The map": when a map with its counter is sound, and the room of a map.
+-- Document 01, "The map", and document 02, (b): when a map with its counter is sound, and the room of a map.
 -- What concerns the lent memory alone (counts against lent lengths, lines apart from each other) is in the crate `tables`.
 use Prim.Native.Nat.{ℕ, zero, suc, _+_, _-_, _^_, max}
 use mathlib.Core.Bool.{Bool, true, false, not, _&&_, _||_, cond}
@@ -164,6 +164,13 @@ unfoldable pub neighborsReciprocal : Map → Bool
 neighborsReciprocal m =
     all (λ l. slotReturned m (l .id) Left (l .left-neighbor) && slotReturned m (l .id) Right (l .right-neighbor)) (m .lanes)
 
+-- Document 02, (b): "no lane stands twice in a road, a junction, or one list of a rule". A lane may stand in two lists.
+unfoldable pub repeatFree : Map → Bool
+repeatFree m =
+    all (λ r. distinct (r .lanes)) (m .roads)
+    && all (λ j. distinct (j .lanes)) (m .junctions)
+    && all (λ r. distinct (r .lanes) && distinct (r .priority) && distinct (r .yielding)) (m .rules)
+
 -- ---- "counts keep these limits"
 
 abbrev pub idLists : Rule → List (List ℕ)
@@ -185,7 +192,7 @@ withinLimits m =
     && all (λ j. leb (length (j .lanes)) maxIds) (m .junctions)
     && all (λ r. all (λ ids. leb (length ids) maxIds) (idLists r)) (m .rules)
 
--- "A map is sound when .."
+-- "A map is sound when ..", and (b) of document 02: "A repeat now makes the map unsound"
 unfoldable pub sound : ℕ → Map → Bool
 sound counter m =
     withinLimits m
@@ -197,6 +204,7 @@ sound counter m =
     && linksAscend m
     && linksReciprocal m
     && neighborsReciprocal m
+    && repeatFree m
 
 -- ---- the room that a host lends
 
@@ -216,10 +224,3 @@ pub record Lists : Type 0 where
 unfoldable pub fitsRoom : Room → Map → Bool
 fitsRoom room m =
     withinLimits m && leb (length (m .lanes)) (room .lanes) && leb (length (m .boundaries)) (room .boundaries) && leb (pointCount m) (room .points)
-
--- ---- what a host may keep to: "that lists of roads, junctions and rules stay free of repeats is promised only to a host that began so"
-unfoldable pub repeatFree : Map → Bool
-repeatFree m =
-    all (λ r. distinct (r .lanes)) (m .roads)
-    && all (λ j. distinct (j .lanes)) (m .junctions)
-    && all (λ r. distinct (r .lanes) && distinct (r .priority) && distinct (r .yielding)) (m .rules)
