@@ -13,7 +13,7 @@ use Rattle.lists.proofs.Select.{all-each, keys-map, all-map, all-keep, all-weak
 use Rattle.entities.specs.declared.Neighbor.{Neighbor}
 use Rattle.entities.specs.Records.{Lane, Map}
 use Rattle.rules.specs.Map.{lane}
-use Rattle.rules.specs.Sound.{lines, optionalLine, idsNamed, laneNames, ruleNames, slotId, nextId, lastCounter, idsAscend, counterAbove, linesInReach, kindsLegal, handlesLegal, handleWidth, speedLegal, withinLimits, linksAscend, linksReciprocal, neighborsReciprocal, sound}
+use Rattle.rules.specs.Sound.{lines, optionalLine, idsNamed, laneNames, ruleNames, slotId, nextId, lastCounter, idsAscend, counterAbove, linesInReach, kindsLegal, handlesLegal, handleWidth, speedLegal, withinLimits, linksAscend, linksReciprocal, neighborsReciprocal, repeatFree, sound}
 use Rattle.rules.specs.Edit.{relinked, withLanes}
 use Rattle.rules.proofs.Facts.{Sound, sound-facts, facts-sound}
 
@@ -67,6 +67,10 @@ module _ (m : Map) (ln rn : Lane → Option Neighbor) (ps ss : Lane → List ℕ
   unfolding handlesLegal
   handles-kept = rw (all-map (λ l. ltb (l .attributes) handleWidth && speedLegal (l .speed-limit)) f (m .lanes))
 
+  once-kept : repeatFree after ≡ repeatFree m
+  unfolding repeatFree
+  once-kept = refl
+
   -- ids that all pass a test: the lanes' names, and the rest
   names-after : (below : ℕ → Bool) → all below (idsNamed m) ≡ true
       → ((l : Lane) → all below (laneNames l) ≡ true → all below (laneNames (f l)) ≡ true) → all below (idsNamed after) ≡ true
@@ -110,4 +114,5 @@ module _ (m : Map) (ln rn : Lane → Option Neighbor) (ps ss : Lane → List ℕ
         links-ascend = up;
         links = links;
         neighbors = neighbors;
+        once = once-kept ∙ s .once;
       })

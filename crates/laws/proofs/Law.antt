@@ -127,6 +127,7 @@ demand-3 tol room s sane calls ls =
       stays-sound = after-sound tol room calls s sane ls;
       links-reciprocal = links-agree (end .map) (facts .links);
       neighbors-reciprocal = neighbors-agree (end .map) (facts .neighbors);
+      stays-repeat-free = facts .once;
       links-booked = all-booked tol room calls s sane ls;
       lists-told = all-told tol room calls s sane ls;
     }

@@ -11,6 +11,8 @@ pub mod Lawful
 pub mod Part
 pub mod Leaving
 pub mod RemoveLinks
+pub mod Once
+pub mod OnceRows
 pub mod Remove
 pub mod Order
 pub mod Entities
@@ -51,11 +53,9 @@ pub mod SplitGroup
 pub mod SplitPlans
 pub mod SoundParts
 pub mod SplitYield
+pub mod SplitOnce
 pub mod SplitLaw
 pub mod SplitLawful
 pub mod SplitLastCounter
 pub mod Claim
-pub mod Distinct
-pub mod DistinctRows
-pub mod RepeatFree
 pub mod Allocated

@@ -32,6 +32,8 @@ use Rattle.laws.proofs.MergeLinks.{merge-links, merge-neighbors}
 use Rattle.laws.proofs.MergePlans.{both-of, Planned, line-planned, drawn, new-passes}
 use Rattle.laws.proofs.MergeCounter.{counter-free, merged-counter}
 use Rattle.laws.proofs.MergeIds.{merged-ids}
+use Rattle.laws.proofs.Once.{distinct-without, distinct-replace}
+use Rattle.laws.proofs.OnceRows.{plain-free}
 
 -- ---- rules: an empty list stays empty
 
@@ -202,4 +204,7 @@ merge-sound tol counter m a b pl pr ea eb apart out into fl fr h room limits =
       links-ascend = merged-ascend tol next m a b pl pr ea eb fl fr (s .links-ascend);
       links = merge-links tol next m a b pl pr ea eb apart (keys-of m (s .ids) .lanes-up) (s .links) out into;
       neighbors = merge-neighbors tol next m a b pl pr (s .neighbors);
+      once =
+          plain-free (without (b .id)) (replace-lane (a .id) (b .id)) (distinct-without (b .id)) (distinct-replace (a .id) (b .id)) m
+          (mergedMap tol next m a b pl pr) refl refl refl (s .once);
     })

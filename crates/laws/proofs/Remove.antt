@@ -1,5 +1,5 @@
 -- remove_lane keeps soundness and limits, books its links, and leaves no more of anything. Assumes nothing.
-use mathlib.Core.Path.{_≡_}
+use mathlib.Core.Path.{_≡_, refl}
 use mathlib.Core.Bool.{Bool, true, not, _&&_}
 use mathlib.Core.List.{[], _∷_, map}
 use mathlib.Core.Option.{some}
@@ -14,6 +14,8 @@ use Rattle.rules.specs.Lane.{forgetting, roadLanes, junctionLanes, ruleLanes, u
 use Rattle.rules.proofs.Facts.{sound-facts, facts-sound}
 use Rattle.laws.proofs.Leaving.{thinned-fewer, thinned-limits, thinned-ids, thinned-counter, thinned-reach, thinned-kinds, thinned-handles, thinned-ascend}
 use Rattle.laws.proofs.RemoveLinks.{other, thinned-leads, thinned-links, thinned-neighbors}
+use Rattle.laws.proofs.Once.{distinct-without}
+use Rattle.laws.proofs.OnceRows.{plain-free}
 
 -- the map that remove-lane yields
 abbrev pub removed : ℕ → Lane → Map → Map
@@ -48,6 +50,7 @@ remove-sound counter m a gone e h =
       links-ascend = thinned-ascend a (other a) q m .so (s .links-ascend);
       links = thinned-links a q m (s .links);
       neighbors = thinned-neighbors a q m (s .neighbors);
+      once = plain-free (without a) (without a) (distinct-without a) (distinct-without a) m (removed a gone m) refl refl refl (s .once);
     })
 
 -- The link book's entry: every pair that names the lane goes.

@@ -39,6 +39,7 @@ use Rattle.laws.proofs.SplitSound.{divided, Drawing, split-ids, split-n
 use Rattle.laws.proofs.SplitClauses.{split-reach, split-kinds, split-handles, split-ascend}
 use Rattle.laws.proofs.SplitExact.{cutTests, split-exact}
 use Rattle.laws.proofs.SplitPlans.{plans-reach}
+use Rattle.laws.proofs.SplitOnce.{split-once}
 use Rattle.laws.proofs.SplitYield.{cutOf, drawnOf, piecesOf, followed, yielded, choice, firsts-group, counter-is}
 
 -- ---- an accepted call
@@ -176,6 +177,7 @@ module _ (tol : Tolerance) (counter : ℕ) (m : Map) (sane : sound counter m ≡
             (facts .links-ascend);
         links = split-links m ps next cutting xs after refl (facts .links);
         neighbors = split-neighbors m ps next cutting xs after refl (facts .neighbors);
+        once = split-once tol counter m sane low i l found neighbors at p ps plans (facts .once);
       }))
     where
       copied : (q : Boundary → Bool) → all q (m .boundaries) ≡ true → all (λ x. q (x .of)) xs ≡ true

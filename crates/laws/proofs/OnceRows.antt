@@ -1,37 +1,19 @@
--- Lists of roads, junctions and rules stay free of repeats where an edit changes them one by one; split_lane does. Assumes nothing.
+-- Lists of roads, junctions and rules stay free of repeats where an edit changes them one by one. Assumes nothing.
 use mathlib.Core.Path.{_≡_, refl, sym, ap, _∙_}
 use mathlib.Core.Bool.{Bool, true, not, _&&_}
 use mathlib.Core.List.{List, [], _∷_, _++_, map}
-use mathlib.Core.Option.{some}
-use Prim.Native.Nat.{ℕ, _+_}
-use native.Mathlib.Omega.{arith}
-use lib.Dec.{ltb, leb}
-use lib.Ieee.{Float}
-use lib.ListN.{length}
-use borrow.Author.Tests.{ltb-true, lt-ltb}
+use Prim.Native.Nat.{ℕ}
 use Rattle.lists.specs.Every.{all}
-use Rattle.lists.specs.Select.{each, has, ascending, distinct, insert-after}
+use Rattle.lists.specs.Select.{each, distinct}
 use Rattle.lists.proofs.Booleans.{and-both, and-fst, and-snd}
 use Rattle.lists.proofs.Every.{all-split, all-tail}
-use Rattle.lists.proofs.Select.{all-map, all-each, all-keep, all-weaken, keys-keep}
-use Rattle.geometry.specs.declared.Point2.{Point2}
-use Rattle.entities.specs.declared.Tolerance.{Tolerance}
-use Rattle.entities.specs.Records.{Lane, Road, Junction, Rule, Map}
-use Rattle.rules.specs.Map.{lane, laneIds, rule-anchor}
-use Rattle.rules.specs.Sound.{sound, Lists, idsNamed, laneNames, ruleNames, optionalId, nextId, lastCounter, repeatFree}
-use Rattle.rules.specs.Edit.{yield}
+use Rattle.lists.proofs.Select.{all-map, all-each, all-weaken}
+use Rattle.entities.specs.Records.{Road, Junction, Rule, Map}
+use Rattle.rules.specs.Sound.{idsNamed, laneNames, ruleNames, optionalId, repeatFree}
 use Rattle.rules.specs.Lane.{roadLanes, junctionLanes, ruleLanes}
-use Rattle.rules.specs.Split.{LanePlan, Piece, piecesIds, halves, lane-plans, cutMap, groupOf}
-use Rattle.rules.specs.Ops.{edit, counterAfter}
-use Rattle.rules.proofs.Facts.{sound-facts}
+use Rattle.rules.specs.Ops.{edit}
 use Rattle.laws.proofs.Keeps.{otherNames}
-use Rattle.laws.proofs.Still.{ids-up}
-use Rattle.laws.proofs.SoundParts.{names-below, names-own}
-use Rattle.laws.proofs.SplitLanes.{map-map}
 use Rattle.laws.proofs.SplitTests.{all-both}
-use Rattle.laws.proofs.SplitPlans.{plans-of}
-use Rattle.laws.proofs.SplitYield.{cutOf, piecesOf, followed, yielded, ids-left}
-use Rattle.laws.proofs.Distinct.{Fine, below-clear, under, cutIds, distinct-follow, distinct-after}
 
 -- ---- general
 
@@ -123,7 +105,7 @@ module _ (p : ℕ → Bool) (g h : List ℕ → List ℕ) (f : Rule → List ℕ
       (kh (r .yielding) (and-snd (all p (r .lanes) && all p (r .priority)) (all p (r .yielding)) a)
       (and-snd (distinct (r .lanes) && distinct (r .priority)) (distinct (r .yielding)) d))
 
-  lists-free : (m n : Map) → n .roads ≡ map (roadLanes g) (m .roads) → n .junctions ≡ map (junctionLanes g) (m .junctions)
+  pub lists-free : (m n : Map) → n .roads ≡ map (roadLanes g) (m .roads) → n .junctions ≡ map (junctionLanes g) (m .junctions)
       → n .rules ≡ map (λ r. ruleLanes (f r) h r) (m .rules) → all p (idsNamed m) ≡ true → repeatFree m ≡ true → repeatFree n ≡ true
   unfolding repeatFree
   lists-free m n er ej eu a t =
@@ -157,55 +139,3 @@ plain-free g h kg kh m n er ej eu =
 pub same-free : (m n : Map) → n .roads ≡ m .roads → n .junctions ≡ m .junctions → n .rules ≡ m .rules → repeatFree m ≡ true → repeatFree n ≡ true
 unfolding repeatFree
 same-free m n er ej eu t = rw (er, ej, eu) t
-
--- ---- split_lane
-
-module _ (tol : Tolerance) (counter : ℕ) (m : Map) (sane : sound counter m ≡ true) (i : ℕ) (l : Lane) (found : lane m i ≡ some l) (neighbors : Bool) (at : Float) (p : Point2)
-    (ps : List LanePlan) (plans : lane-plans tol m i at p (cutOf m (groupOf m i neighbors)) ≡ yield ps) where
-  abbrev xs : List Piece
-  xs = piecesOf m (groupOf m i neighbors) p (nextId counter)
-
-  abbrev next : ℕ
-  next = nextId counter + piecesIds xs
-
-  abbrev cuts : List Lane
-  cuts = cutOf m (groupOf m i neighbors)
-
-  cut-ids : cutIds ps ≡ map (λ k. k .id) cuts
-  cut-ids = sym (map-map (λ k. k .id) (λ x. x .of) ps) ∙ ap (λ ks. map (λ k. k .id) ks) (plans-of tol m i at p cuts ps plans)
-
-  pub split-free : leb (counterAfter counter (piecesIds xs + length ps)) lastCounter ≡ true → repeatFree m ≡ true
-      → repeatFree (yielded tol (nextId counter) m i (groupOf m i neighbors) ps xs .result) ≡ true
-  split-free within =
-      lists-free (λ j. ltb j start) (insert-after (halves next ps)) (insert-after (halves next ps)) (followed tol m ps xs next)
-      (λ ids a d. distinct-after next ps ids up low (fine ids a d)) (λ ids a d. distinct-after next ps ids up low (fine ids a d))
-      (λ r ids a d. distinct-follow (tol .join) (cutMap m ps xs (halves next ps) next) (rule-anchor (cutMap m ps xs (halves next ps) next) r) next ps ids low (fine ids a d))
-      m (yielded tol start m i (groupOf m i neighbors) ps xs .result) refl refl refl below
-    where
-      start : ℕ
-      start = nextId counter
-
-      ascends : ascending (laneIds m) ≡ true
-      ascends = ids-up counter m sane
-
-      below : all (λ j. ltb j start) (idsNamed m) ≡ true
-      below =
-          names-below counter m lastCounter refl (ids-left tol counter m ascends i l found neighbors at p ps plans (piecesIds xs) lastCounter refl within)
-          (sound-facts counter m sane .counter-above)
-
-      up : ascending (cutIds ps) ≡ true
-      up = ap ascending cut-ids ∙ keys-keep (λ k. k .id) (λ x. has (x .id) (groupOf m i neighbors)) (m .lanes) ascends
-
-      raised : (a b : ℕ) (j : ℕ) → ltb j a ≡ true → ltb j (a + b) ≡ true
-      raised a b j t = let u = ltb-true j a t in lt-ltb j (a + b) (omega arith)
-
-      low : under next ps ≡ true
-      low =
-          sym (all-map (λ j. ltb j next) (λ x. x .of .id) ps)
-          ∙ (ap (all (λ j. ltb j next)) cut-ids
-          ∙ (all-map (λ j. ltb j next) (λ k. k .id) cuts
-          ∙ all-weaken (λ k. ltb (k .id) start) (λ k. ltb (k .id) next) cuts (λ k. raised start (piecesIds xs) (k .id))
-          (all-keep (λ k. ltb (k .id) start) (λ x. has (x .id) (groupOf m i neighbors)) (m .lanes) (names-own (λ j. ltb j start) m below))))
-
-      fine : (ids : List ℕ) → all (λ j. ltb j start) ids ≡ true → distinct ids ≡ true → Fine next ids
-      fine ids a d = record { once = d; clear = below-clear next ids (all-weaken (λ j. ltb j start) (λ j. ltb j next) ids (raised start (piecesIds xs)) a) }
