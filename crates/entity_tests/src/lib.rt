@@ -204,7 +204,7 @@ pub fn road_good(w: &[u64], most: u64) -> bool
         w[ROAD_LANES] <= IDS,
     ) {
         let end = ROAD_FIRST_LANE + w[ROAD_LANES] as usize;
-        return lists::all_at_most(&w[ROAD_FIRST_LANE..end], most);
+        return once::lanes_good(&w[ROAD_FIRST_LANE..end], most);
     }
     false
 }
@@ -222,7 +222,7 @@ pub fn junction_good(w: &[u64], most: u64) -> bool
     );
     if both(handles, w[JUNCTION_LANES] <= IDS) {
         let end = JUNCTION_FIRST_LANE + w[JUNCTION_LANES] as usize;
-        return lists::all_at_most(&w[JUNCTION_FIRST_LANE..end], most);
+        return once::lanes_good(&w[JUNCTION_FIRST_LANE..end], most);
     }
     false
 }
@@ -234,6 +234,19 @@ fn list_good(w: &[u64], k: usize, most: u64) -> bool
 {
     let start = k + 1;
     let end = start + w[k] as usize;
+    lists::all_at_most(&w[start..end], most)
+}
+
+// The same for a list of lanes; `once` asks that none stands twice.
+fn lanes_good(w: &[u64], k: usize, once: bool, most: u64) -> bool
+    requires { ⌜ (length (now w) ≡ 330) × ((k + 65 ≤ 330) × (word k (now w) ≤ 64)) ⌝ }
+    ensures { λ r. ⌜ r ≡ G.lanesGood once most (idsAt k (now (w .entry))) ⌝ }
+{
+    let start = k + 1;
+    let end = start + w[k] as usize;
+    if once {
+        return once::lanes_good(&w[start..end], most);
+    }
     lists::all_at_most(&w[start..end], most)
 }
 
@@ -285,7 +298,7 @@ pub fn content_good(kind: u64, content: u64) -> bool
     true
 }
 
-fn rule_numbers(w: &[u64], most: u64) -> bool
+pub fn rule_numbers(w: &[u64], most: u64) -> bool
     requires { ⌜ length (now w) ≡ 330 ⌝ }
     ensures { λ r. ⌜ r ≡ G.ruleNumbers most (now (w .entry)) ⌝ }
 {
@@ -306,13 +319,13 @@ fn rule_numbers(w: &[u64], most: u64) -> bool
     )
 }
 
-// The lists that a rule's kind has.
-fn rule_lists(w: &[u64], most: u64) -> bool
+// The lists that a rule's kind has; `once` asks that no lane stands twice in one.
+pub fn rule_lists(w: &[u64], once: bool, most: u64) -> bool
     requires { ⌜ (length (now w) ≡ 330) × (ruleFormed (now w) ≡ true) ⌝ }
-    ensures { λ r. ⌜ r ≡ G.ruleLists most (now (w .entry)) ⌝ }
+    ensures { λ r. ⌜ r ≡ G.ruleLists once most (now (w .entry)) ⌝ }
 {
     if both(
-        list_good(w, RULE_LANES, most),
+        lanes_good(w, RULE_LANES, once, most),
         list_good(w, RULE_CONTROLLED, most),
     ) {
         if w[RULE_KIND] == OTHER {
@@ -321,8 +334,8 @@ fn rule_lists(w: &[u64], most: u64) -> bool
         if list_good(w, RULE_STOP_LINES, most) {
             if w[RULE_KIND] == RIGHT_OF_WAY {
                 return both(
-                    list_good(w, RULE_PRIORITY, most),
-                    list_good(w, RULE_YIELDING, most),
+                    lanes_good(w, RULE_PRIORITY, once, most),
+                    lanes_good(w, RULE_YIELDING, once, most),
                 );
             }
             return true;
@@ -336,7 +349,7 @@ pub fn rule_good(w: &[u64], most: u64) -> bool
     ensures { λ r. ⌜ r ≡ G.ruleGood most (now (w .entry)) ⌝ }
 {
     if both(rule_formed(w), rule_numbers(w, most)) {
-        return rule_lists(w, most);
+        return rule_lists(w, true, most);
     }
     false
 }

@@ -1,6 +1,6 @@
 -- Lists of roads, junctions and rules stay free of repeats where an edit changes them one by one. Assumes nothing.
 use mathlib.Core.Path.{_≡_, refl, sym, ap, _∙_}
-use mathlib.Core.Bool.{Bool, true, not, _&&_}
+use mathlib.Core.Bool.{Bool, true, _&&_}
 use mathlib.Core.List.{List, [], _∷_, _++_, map}
 use Prim.Native.Nat.{ℕ}
 use Rattle.lists.specs.Every.{all}
@@ -11,7 +11,6 @@ use Rattle.lists.proofs.Select.{all-map, all-each, all-weaken}
 use Rattle.entities.specs.Records.{Road, Junction, Rule, Map}
 use Rattle.rules.specs.Sound.{idsNamed, laneNames, ruleNames, optionalId, repeatFree}
 use Rattle.rules.specs.Lane.{roadLanes, junctionLanes, ruleLanes}
-use Rattle.rules.specs.Ops.{edit}
 use Rattle.laws.proofs.Keeps.{otherNames}
 use Rattle.laws.proofs.SplitTests.{all-both}
 

@@ -7,7 +7,7 @@ use lib.Dec.{eqb, leb, ltb}
 use lib.ListN.{length, take, drop}
 use lib.Ieee.{Float}
 use Rattle.lists.specs.Every.{all}
-use Rattle.lists.specs.Select.{ascending}
+use Rattle.lists.specs.Select.{ascending, distinct}
 use Rattle.geometry.specs.Point.{inReach}
 use Rattle.polyline.specs.Polyline.{points}
 use Rattle.rules.specs.Sound.{lastCounter, hasContent, stopLinesFit}
@@ -26,6 +26,10 @@ lineGood c s = stored c s && leb (s .size) maxLinePoints && all inReach (points 
 
 abbrev pub idsGood : ℕ → List ℕ → Bool
 idsGood most ids = all (λ i. leb i most) ids
+
+-- a list of lanes: ids that may be named and, where that is asked, none twice
+abbrev pub lanesGood : Bool → ℕ → List ℕ → Bool
+lanesGood once most ids = idsGood most ids && (not once || distinct ids)
 
 abbrev pub slotGood : ℕ → ℕ → List ℕ → Bool
 slotGood most k w = eqb (word k w) 0 || leb (word (suc k) w) most
@@ -55,11 +59,11 @@ unfoldable pub boundaryGood : ℕ → List Float → List ℕ → Bool
 boundaryGood most c w = leb (word rowId w) most && leb (word boundaryKind w) lastBoundaryKind && handleGood (word boundaryAttributes w) && lineGood c (spanAt boundaryStart w)
 
 unfoldable pub roadGood : ℕ → List ℕ → Bool
-roadGood most w = leb (word rowId w) most && handleGood (word roadName w) && handleGood (word roadAttributes w) && leb (word roadLanesAt w) maxIds && idsGood most (idsAt roadLanesAt w)
+roadGood most w = leb (word rowId w) most && handleGood (word roadName w) && handleGood (word roadAttributes w) && leb (word roadLanesAt w) maxIds && lanesGood true most (idsAt roadLanesAt w)
 
 unfoldable pub junctionGood : ℕ → List ℕ → Bool
 junctionGood most w =
-    leb (word rowId w) most && handleGood (word junctionName w) && handleGood (word junctionOutline w) && handleGood (word junctionAttributes w) && leb (word junctionLanesAt w) maxIds && idsGood most (idsAt junctionLanesAt w)
+    leb (word rowId w) most && handleGood (word junctionName w) && handleGood (word junctionOutline w) && handleGood (word junctionAttributes w) && leb (word junctionLanesAt w) maxIds && lanesGood true most (idsAt junctionLanesAt w)
 
 -- a rule's numbers; its crosswalk is named by kind 4 alone, its stop lines are counted by its kind
 unfoldable pub ruleNumbers : ℕ → List ℕ → Bool
@@ -71,15 +75,16 @@ ruleNumbers most w =
     && (not (eqb (word ruleKind w) crosswalkRule) || leb (word ruleCrosswalk w) most)
     && (eqb (word ruleKind w) otherRule || stopLinesFit (word ruleKind w) (word ruleStopLinesAt w))
 
-unfoldable pub ruleLists : ℕ → List ℕ → Bool
-ruleLists most w =
-    idsGood most (idsAt ruleLanesAt w)
+-- the lists that its kind has; `once` asks that no lane stands twice in one
+unfoldable pub ruleLists : Bool → ℕ → List ℕ → Bool
+ruleLists once most w =
+    lanesGood once most (idsAt ruleLanesAt w)
     && idsGood most (idsAt ruleControlledAt w)
     && (eqb (word ruleKind w) otherRule || idsGood most (idsAt ruleStopLinesAt w))
-    && (not (eqb (word ruleKind w) rightOfWay) || (idsGood most (idsAt rulePriorityAt w) && idsGood most (idsAt ruleYieldingAt w)))
+    && (not (eqb (word ruleKind w) rightOfWay) || (lanesGood once most (idsAt rulePriorityAt w) && lanesGood once most (idsAt ruleYieldingAt w)))
 
 unfoldable pub ruleGood : ℕ → List ℕ → Bool
-ruleGood most w = ruleFormed w && ruleNumbers most w && ruleLists most w
+ruleGood most w = ruleFormed w && ruleNumbers most w && ruleLists true most w
 
 unfoldable pub stopLineGood : ℕ → List Float → List ℕ → Bool
 stopLineGood most c w = leb (word rowId w) most && handleGood (word stopLineAttributes w) && lineGood c (spanAt stopLineStart w)
