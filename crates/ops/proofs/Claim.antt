@@ -3,13 +3,9 @@ use mathlib.Core.Path.{_≡_, refl, sym, ap, _∙_, subst}
 use mathlib.Core.Bool.{true}
 use mathlib.Core.List.{List, [], _∷_, map}
 use Rattle.rules.specs.Names.{Tolerance}
-use Rattle.rules.specs.Sound.{repeatFree}
 use Rattle.rules.specs.Ops as O
-use Rattle.laws.proofs.RepeatFree.{repeat-free-claim}
-use Rattle.tables.specs.View.{view}
 use Rattle.tables.specs.Formed.{soundTables}
 use Rattle.store.specs.Store.{roomOf}
-use Rattle.sound_facts.proofs.Found.{sound-map}
 use Rattle.step.specs.Step.{Ended, stateOf, step}
 use Rattle.step.specs.Run.{Held, Lending, callOn, heldAfter, heldIn, lend, lengthsOf, mapIn, runTables}
 use Rattle.step.proofs.Claim.{demand-3-tables}
@@ -47,5 +43,4 @@ apply-demand-3 tol h s cs es k =
       stays-sound = ap (λ (x : Held). soundTables (x .counter) (x .tables)) held ∙ d .stays-sound;
       lengths-left = ap (λ (x : Held). lengthsOf (x .tables)) held ∙ d .lengths-left;
       demand-3 = d .demand-3;
-      stays-repeat-free = λ r. ap (λ (x : O.State). repeatFree (x .map)) left ∙ repeat-free-claim tol (roomOf (h .tables)) (mapIn h) (sound-map (h .counter) (h .tables) s) r (map (callOn h) cs);
     }

@@ -6,10 +6,8 @@ use mathlib.Core.Bool.{true}
 use mathlib.Core.List.{List, [], _∷_, map}
 use Prim.Native.Nat.{ℕ}
 use Rattle.rules.specs.Names.{Tolerance}
-use Rattle.rules.specs.Sound.{repeatFree}
 use Rattle.rules.specs.Ops as O
 use Rattle.rules.specs.Demand.{Demand3}
-use Rattle.tables.specs.View.{view}
 use Rattle.tables.specs.Formed.{soundTables}
 use Rattle.store.specs.Store.{roomOf}
 use Rattle.step.specs.Step.{Lent, Ended, stateOf, step}
@@ -47,10 +45,8 @@ pub record ApplyDemand3 (tol : Tolerance) (h : Held) (cs : List Lending) (es : L
   -- lent memory stays sound, and as long as it was
   pub stays-sound : soundTables (heldBy es h .counter) (heldBy es h .tables) ≡ true
   pub lengths-left : lengthsOf (heldBy es h .tables) ≡ lengthsOf (h .tables)
-  -- links and neighbours reciprocal, the links the book's, and the lists of every accepted call exact
+  -- links and neighbours reciprocal, no lane twice in a list, the links the book's, and the lists of every accepted call exact
   pub demand-3 : Demand3 tol (roomOf (h .tables)) (mapIn h) (map (callOn h) cs)
-  -- "promised only to a host that began so"
-  pub stays-repeat-free : repeatFree (view (h .tables)) ≡ true → repeatFree (view (heldBy es h .tables)) ≡ true
 
 -- for every tolerance, every sound lent memory and every list of calls
 abbrev pub ApplyClaim3 : Type 0
