@@ -9,16 +9,16 @@ use lib.ListN.{drop}
 use lib.Ieee.{Float}
 use Rattle.lists.specs.Every.{all}
 use Rattle.lists.specs.Rows.{keys}
-use Rattle.lists.specs.Select.{ascending}
+use Rattle.lists.specs.Select.{ascending, distinct}
 use Rattle.lists.proofs.Booleans.{and-both, and-fst, and-snd}
 use Rattle.lists.proofs.Select.{all-weaken}
 use Rattle.rules.specs.Sound.{lastCounter, hasContent, stopLinesFit}
 use Rattle.tables.specs.View.{Tables, word, rows, idsAt}
 use Rattle.tables.specs.Formed.{spanAt, counted, spans, allClear, laneFormed, ruleFormed, soundTables}
-use Rattle.row_tests.specs.Good.{largestId, allRows, handleGood, idsGood, slotGood, laneNumbers, linksGood, lineGood, ruleNumbers, ruleLists, laneGood, boundaryGood, roadGood, junctionGood, ruleGood, stopLineGood, crosswalkGood}
+use Rattle.row_tests.specs.Good.{largestId, allRows, handleGood, idsGood, lanesGood, slotGood, laneNumbers, linksGood, lineGood, ruleNumbers, ruleLists, laneGood, boundaryGood, roadGood, junctionGood, ruleGood, stopLineGood, crosswalkGood}
 use Rattle.row_tests.specs.Returned.{laneReturned, slotsReturned}
 use Rattle.row_faults.specs.First.{rises}
-use Rattle.row_faults.specs.Passes.{laneKinds, laneNamed, linksRise, lanePasses, boundaryPasses, stopLinePasses, crosswalkPasses, roadPasses, junctionPasses, ruleKinds, rulePasses, rowPasses}
+use Rattle.row_faults.specs.Passes.{laneKinds, laneNamed, linksRise, listNamed, ruleNamed, lanePasses, boundaryPasses, stopLinePasses, crosswalkPasses, roadPasses, junctionPasses, ruleKinds, rulePasses, rowPasses}
 use Rattle.row_faults.proofs.First.{rises-all}
 use Rattle.row_returns.specs.Returns.{namedBack}
 use Rattle.soundness.specs.Parts.{allCounted, allGood, allAscend, ascends}
@@ -78,13 +78,48 @@ crosswalk-passes k most c w g =
     let (a, b, d, _, _) = and5 i o h (lineGood c (spanAt 1 w)) (lineGood c (spanAt 3 w)) g in
     choice (eqb k 2) refl (choice (eqb k 3) (and-both o h b d) (choice (ltb k 7) a g))
 
+-- a list of lanes without repeats is a list of lanes
+once-or-not : (most : ℕ) (ids : List ℕ) → lanesGood true most ids ≡ true → lanesGood false most ids ≡ true
+once-or-not most ids h = and-both (idsGood most ids) true (and-fst (idsGood most ids) (distinct ids) h) refl
+
+list-named : (k most : ℕ) (w : List ℕ) → leb (word k w) 64 ≡ true → leb (word 0 w) most ≡ true → lanesGood true most (idsAt k w) ≡ true → listNamed k most w ≡ true
+unfolding listNamed
+list-named k most w f i l = rw (f, i, and-fst (idsGood most (idsAt k w)) (distinct (idsAt k w)) l)
+
+-- the lists of a rule
+rule-listed : (most : ℕ) (w : List ℕ) → ruleLists true most w ≡ true → ruleLists false most w ≡ true
+unfolding ruleLists
+rule-listed most w h = go (eqb (word 1 w) 5 || idsGood most (idsAt 135 w)) (not (eqb (word 1 w) 3)) h
+  where
+    go : (s n : Bool)
+        → (lanesGood true most (idsAt 5 w) && idsGood most (idsAt 70 w) && s && (n || (lanesGood true most (idsAt 200 w) && lanesGood true most (idsAt 265 w)))) ≡ true
+        → (lanesGood false most (idsAt 5 w) && idsGood most (idsAt 70 w) && s && (n || (lanesGood false most (idsAt 200 w) && lanesGood false most (idsAt 265 w)))) ≡ true
+    go s n t =
+        let a = lanesGood true most (idsAt 5 w) in
+        let b = idsGood most (idsAt 70 w) in
+        let p = lanesGood true most (idsAt 200 w) in
+        let y = lanesGood true most (idsAt 265 w) in
+        let t1 = and-fst (a && b && s) (n || (p && y)) t in
+        let t2 = and-fst (a && b) s t1 in
+        and-both (lanesGood false most (idsAt 5 w) && b && s) (n || (lanesGood false most (idsAt 200 w) && lanesGood false most (idsAt 265 w)))
+        (and-both (lanesGood false most (idsAt 5 w) && b) s (and-both (lanesGood false most (idsAt 5 w)) b (once-or-not most (idsAt 5 w) (and-fst a b t2)) (and-snd a b t2)) (and-snd (a && b) s t1))
+        (ways n (and-snd (a && b && s) (n || (p && y)) t))
+      where
+        ways : (n : Bool) → (n || (lanesGood true most (idsAt 200 w) && lanesGood true most (idsAt 265 w))) ≡ true
+            → (n || (lanesGood false most (idsAt 200 w) && lanesGood false most (idsAt 265 w))) ≡ true
+        ways true t = refl
+        ways false t =
+            and-both (lanesGood false most (idsAt 200 w)) (lanesGood false most (idsAt 265 w))
+            (once-or-not most (idsAt 200 w) (and-fst (lanesGood true most (idsAt 200 w)) (lanesGood true most (idsAt 265 w)) t))
+            (once-or-not most (idsAt 265 w) (and-snd (lanesGood true most (idsAt 200 w)) (lanesGood true most (idsAt 265 w)) t))
+
 road-passes : (k most : ℕ) (w : List ℕ) → roadGood most w ≡ true → roadPasses k most w ≡ true
 unfolding roadPasses roadGood
 road-passes k most w g =
     let n = handleGood (word 1 w) in
     let h = handleGood (word 2 w) in
-    let (_, a, b, f, _) = and5 (leb (word 0 w) most) n h (leb (word 3 w) 64) (idsGood most (idsAt 3 w)) g in
-    choice (eqb k 2) f (choice (eqb k 3) (and-both n h a b) g)
+    let (i, a, b, f, l) = and5 (leb (word 0 w) most) n h (leb (word 3 w) 64) (lanesGood true most (idsAt 3 w)) g in
+    choice (eqb k 2) f (choice (eqb k 3) (and-both n h a b) (choice (eqb k 11) g (list-named 3 most w f i l)))
 
 junction-passes : (k most : ℕ) (w : List ℕ) → junctionGood most w ≡ true → junctionPasses k most w ≡ true
 unfolding junctionPasses junctionGood
@@ -94,12 +129,14 @@ junction-passes k most w g =
     let o = handleGood (word 2 w) in
     let h = handleGood (word 3 w) in
     let few = leb (word 4 w) 64 in
-    let p = and-fst (i && n && o && h && few) (idsGood most (idsAt 4 w)) g in
-    let (_, a, b, d, f) = and5 i n o h few p in
-    choice (eqb k 2) f (choice (eqb k 3) (and-both (n && o) h (and-both n o a b) d) g)
+    let l = lanesGood true most (idsAt 4 w) in
+    let p = and-fst (i && n && o && h && few) l g in
+    let (e, a, b, d, f) = and5 i n o h few p in
+    choice (eqb k 2) f
+    (choice (eqb k 3) (and-both (n && o) h (and-both n o a b) d) (choice (eqb k 11) g (list-named 4 most w f e (and-snd (i && n && o && h && few) l g))))
 
 rule-passes : (k most : ℕ) (w : List ℕ) → ruleGood most w ≡ true → rulePasses k most w ≡ true
-unfolding rulePasses ruleGood ruleKinds ruleNumbers
+unfolding rulePasses ruleGood ruleKinds ruleNumbers ruleNamed
 rule-passes k most w g =
     let i = leb (word 0 w) most in
     let n = leb (word 1 w) 5 in
@@ -107,9 +144,11 @@ rule-passes k most w g =
     let h = handleGood (word 3 w) in
     let x = not (eqb (word 1 w) 4) || leb (word 4 w) most in
     let s = eqb (word 1 w) 5 || stopLinesFit (word 1 w) (word 135 w) in
-    let (f, m, _) = and3 (ruleFormed w) (ruleNumbers most w) (ruleLists most w) g in
+    let (f, m, l) = and3 (ruleFormed w) (ruleNumbers most w) (ruleLists true most w) g in
     let (_, a, b, d, _) = and5 i n o h x (and-fst (i && n && o && h && x) s m) in
-    choice (eqb k 2) f (choice (eqb k 3) (and-both (n && o && h) s (and-both (n && o) h (and-both n o a b) d) (and-snd (i && n && o && h && x) s m)) g)
+    choice (eqb k 2) f
+    (choice (eqb k 3) (and-both (n && o && h) s (and-both (n && o) h (and-both n o a b) d) (and-snd (i && n && o && h && x) s m))
+    (choice (eqb k 11) g (and-both (ruleFormed w && ruleNumbers most w) (ruleLists false most w) (and-both (ruleFormed w) (ruleNumbers most w) f m) (rule-listed most w l))))
 
 -- ---- rows of a table
 
@@ -173,18 +212,18 @@ module _ (t : Tables) where
       })
 
   module _ (most : ℕ) where
-    none-bad : rowsFault 7 most t .clause ≡ 0 → allGood most t ≡ true
+    none-bad : rowsFault 11 most t .clause ≡ 0 → allGood most t ≡ true
     unfolding rowsFault allGood allRows rowPasses lanePasses boundaryPasses stopLinePasses crosswalkPasses roadPasses junctionPasses rulePasses
     none-bad h =
         let c = t .coordinates in
         let s = seven-none _ _ _ _ _ _ _ h in
-        seven-and (fault-none 7 0 (rows 52 (rowPasses 7 0 most c) (t .lanes)) (λ e. omega arith) (s .lanes))
-        (fault-none 7 1 (rows 5 (rowPasses 7 1 most c) (t .boundaries)) (λ e. omega arith) (s .boundaries))
-        (fault-none 7 2 (rows 68 (rowPasses 7 2 most c) (t .roads)) (λ e. omega arith) (s .roads))
-        (fault-none 7 3 (rows 69 (rowPasses 7 3 most c) (t .junctions)) (λ e. omega arith) (s .junctions))
-        (fault-none 7 4 (rows 330 (rowPasses 7 4 most c) (t .rules)) (λ e. omega arith) (s .rules))
-        (fault-none 7 5 (rows 4 (rowPasses 7 5 most c) (t .stop-lines)) (λ e. omega arith) (s .stop-lines))
-        (fault-none 7 6 (rows 7 (rowPasses 7 6 most c) (t .crosswalks)) (λ e. omega arith) (s .crosswalks))
+        seven-and (fault-none 11 0 (rows 52 (rowPasses 11 0 most c) (t .lanes)) (λ e. omega arith) (s .lanes))
+        (fault-none 11 1 (rows 5 (rowPasses 11 1 most c) (t .boundaries)) (λ e. omega arith) (s .boundaries))
+        (fault-none 11 2 (rows 68 (rowPasses 11 2 most c) (t .roads)) (λ e. omega arith) (s .roads))
+        (fault-none 11 3 (rows 69 (rowPasses 11 3 most c) (t .junctions)) (λ e. omega arith) (s .junctions))
+        (fault-none 11 4 (rows 330 (rowPasses 11 4 most c) (t .rules)) (λ e. omega arith) (s .rules))
+        (fault-none 11 5 (rows 4 (rowPasses 11 5 most c) (t .stop-lines)) (λ e. omega arith) (s .stop-lines))
+        (fault-none 11 6 (rows 7 (rowPasses 11 6 most c) (t .crosswalks)) (λ e. omega arith) (s .crosswalks))
 
     good-none : (k : ℕ) → allGood most t ≡ true → rowsFault k most t .clause ≡ 0
     unfolding rowsFault allGood allRows rowPasses
@@ -210,7 +249,8 @@ module _ (t : Tables) where
         let (_, r2) = earlier-none _ _ r1 in
         let (i, r3) = earlier-none _ _ r2 in
         let (_, r4) = earlier-none _ _ r3 in
-        let (_, g) = earlier-none _ _ r4 in
+        let (_, r5) = earlier-none _ _ r4 in
+        let (_, g) = earlier-none _ _ r5 in
         and-both (allGood most t) (allAscend t) (none-bad g) (none-fallen i)
 
     found-rows : (allGood most t && allAscend t) ≡ true → rowFaults most t .clause ≡ 0
@@ -218,7 +258,7 @@ module _ (t : Tables) where
     found-rows h =
         let g = and-fst (allGood most t) (allAscend t) h in
         let i = fallen-none (and-snd (allGood most t) (allAscend t) h) in
-        none-earlier _ _ (good-none 2 g) (none-earlier _ _ (good-none 3 g) (none-earlier _ _ i (none-earlier _ _ (good-none 5 g) (none-earlier _ _ (good-none 6 g) (good-none 7 g)))))
+        none-earlier _ _ (good-none 2 g) (none-earlier _ _ (good-none 3 g) (none-earlier _ _ i (none-earlier _ _ (good-none 5 g) (none-earlier _ _ (good-none 6 g) (none-earlier _ _ (good-none 7 g) (good-none 11 g))))))
 
 -- ---- no fault exactly where the map is sound
 

@@ -1,5 +1,5 @@
--- Which clause of soundness fails first, and at which row: the lowest clause, in it the first table, in that the first row, counted from 0.
--- crates/row_faults/specs/Clauses.antt has the numbers of clauses and tables.
+-- Which clause of soundness fails first, and at which row: the first clause, in it the first table, in that the first row, counted from 0.
+-- crates/row_faults/specs/Clauses.antt has the clauses in their order, and the numbers of clauses and tables.
 use Prim.Native.Nat.{ℕ}
 use mathlib.Core.Bool.{Bool, cond}
 use mathlib.Core.List.{List, [], _∷_}
@@ -12,7 +12,7 @@ use Rattle.tables.specs.View.{Tables, rows, word}
 use Rattle.tables.specs.Formed.{counted, spans, allClear}
 use Rattle.tables.specs.Columns.{boundaryWords, crosswalkWords, junctionWords, laneWords, roadWords, rowCount, ruleWords, stopLineWords}
 use Rattle.row_tests.specs.Good.{largestId}
-use Rattle.row_faults.specs.Clauses.{countsClause, marksClause, kindsClause, idsClause, namesClause, linksClause, linesClause, pointsClause, returnsClause, neighborsClause, laneTable, boundaryTable, roadTable, junctionTable, ruleTable, stopLineTable, crosswalkTable, coordinateTable}
+use Rattle.row_faults.specs.Clauses.{countsClause, marksClause, kindsClause, idsClause, namesClause, linksClause, linesClause, repeatsClause, pointsClause, returnsClause, neighborsClause, laneTable, boundaryTable, roadTable, junctionTable, ruleTable, stopLineTable, crosswalkTable, coordinateTable}
 use Rattle.row_faults.specs.First.{firstFalse, rises}
 use Rattle.row_faults.specs.Passes.{rowPasses}
 use Rattle.row_returns.specs.Returns.{namedBack}
@@ -73,7 +73,7 @@ idsFault t =
 
 -- most is the largest id that the counter allows
 abbrev pub linkFaults : ℕ → Tables → Fault
-linkFaults most t = earlier (rowsFault linksClause most t) (rowsFault linesClause most t)
+linkFaults most t = earlier (rowsFault linksClause most t) (earlier (rowsFault linesClause most t) (rowsFault repeatsClause most t))
 
 abbrev pub idFaults : ℕ → Tables → Fault
 idFaults most t = earlier (idsFault t) (earlier (rowsFault namesClause most t) (linkFaults most t))

@@ -21,6 +21,7 @@ use row_faults::LINES;
 use row_faults::LINKS;
 use row_faults::MARKS;
 use row_faults::NAMES;
+use row_faults::REPEATS;
 use row_faults::ROAD_TABLE;
 use row_faults::RULE_TABLE;
 use row_faults::STOP_LINE_TABLE;
@@ -291,7 +292,7 @@ fn ids_fault(
     )
 }
 
-// Links that ascend, and lines.
+// Links that ascend, lines, and lanes that stand once in a list.
 fn link_faults(
     most: u64,
     lanes: &[u64],
@@ -330,7 +331,19 @@ fn link_faults(
         crosswalks,
         coordinates,
     );
-    earlier(links, lines)
+    let repeats = rows_fault(
+        REPEATS,
+        most,
+        lanes,
+        boundaries,
+        roads,
+        junctions,
+        rules,
+        stop_lines,
+        crosswalks,
+        coordinates,
+    );
+    earlier(links, earlier(lines, repeats))
 }
 
 // The clauses of ids, and those behind them.

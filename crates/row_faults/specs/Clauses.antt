@@ -1,4 +1,5 @@
--- The clauses of soundness, each a sentence of document 01, "The map", numbered in the order in which they are told; and the tables, in the order of the calls.
+-- The clauses of soundness, each a sentence of document 01, "The map", or of document 02, (b), in the order in which they are told; and the tables, in the
+-- order of the calls. The clause of (b) came last and has the last number, so that the others keep theirs.
 use Prim.Native.Nat.{ℕ}
 
 -- "counts keep these limits and the lent lengths"
@@ -28,6 +29,10 @@ linksClause = 6
 -- each line's points lie among those stored, 256 at most, their coordinates finite within ±2^24
 abbrev pub linesClause : ℕ
 linesClause = 7
+
+-- "no lane stands twice in a road, a junction, or one list of a rule"
+abbrev pub repeatsClause : ℕ
+repeatsClause = 11
 
 -- "no stored point belongs to two lines"
 abbrev pub pointsClause : ℕ

@@ -1,7 +1,7 @@
--- What each clause asks of a row by itself. A row is asked in the order of the clauses, so a later clause may ask for an earlier one again: rows of tables
--- with no lines must pass whole (`roadGood` ..) from clause 5 on, rows with lines at clause 7, where only a line is left to fail.
+-- What each clause asks of a row by itself. A row is asked in the order of the clauses, so a later clause may ask for an earlier one again: rows with lines
+-- must pass whole (`laneGood` ..) from clause 7 on, where only a line is left to fail, rows of lists (`roadGood` ..) at clause 11, where only a repeat is.
 use Prim.Native.Nat.{ℕ}
-use mathlib.Core.Bool.{Bool, true, not, _&&_, _||_, cond}
+use mathlib.Core.Bool.{Bool, true, false, not, _&&_, _||_, cond}
 use mathlib.Core.List.{List}
 use lib.Dec.{eqb, leb, ltb}
 use lib.Ieee.{Float}
@@ -11,8 +11,8 @@ use Rattle.rules.specs.Limits.{lastBoundaryKind, lastLaneKind, lastRuleKind, la
 use Rattle.tables.specs.View.{word, idsAt}
 use Rattle.tables.specs.Formed.{laneFormed, ruleFormed}
 use Rattle.tables.specs.Columns.{boundaryAttributes, boundaryKind, boundaryWords, crosswalkAttributes, crosswalkOutline, crosswalkWords, junctionAttributes, junctionLanesAt, junctionName, junctionOutline, junctionWords, laneAttributes, laneKind, laneTurn, laneWords, predecessorsAt, roadAttributes, roadLanesAt, roadName, roadWords, rowId, ruleAttributes, ruleContent, ruleKind, ruleStopLinesAt, ruleWords, stopLineAttributes, stopLineWords, successorsAt}
-use Rattle.row_tests.specs.Good.{handleGood, idsGood, laneNumbers, laneGood, boundaryGood, roadGood, junctionGood, ruleGood, stopLineGood, crosswalkGood}
-use Rattle.row_faults.specs.Clauses.{marksClause, kindsClause, namesClause, linksClause, linesClause, laneTable, boundaryTable, roadTable, junctionTable, ruleTable, stopLineTable}
+use Rattle.row_tests.specs.Good.{handleGood, idsGood, laneNumbers, laneGood, boundaryGood, roadGood, junctionGood, ruleNumbers, ruleLists, ruleGood, stopLineGood, crosswalkGood}
+use Rattle.row_faults.specs.Clauses.{marksClause, kindsClause, namesClause, linksClause, linesClause, repeatsClause, laneTable, boundaryTable, roadTable, junctionTable, ruleTable, stopLineTable}
 
 -- ---- lanes
 
@@ -48,15 +48,21 @@ crosswalkPasses clause most c w = drawnPasses clause (handleGood (word crosswalk
 
 -- ---- rows of lists: a road, a junction, a rule
 
-abbrev pub listedPasses : ℕ → Bool → Bool → Bool → Bool
-listedPasses clause formed kinds good = cond (eqb clause marksClause) formed (cond (eqb clause kindsClause) kinds good)
+-- the kinds, then the ids, then whether a lane stands twice
+abbrev pub listedPasses : ℕ → Bool → Bool → Bool → Bool → Bool
+listedPasses clause formed kinds named good = cond (eqb clause marksClause) formed (cond (eqb clause kindsClause) kinds (cond (eqb clause repeatsClause) good named))
+
+-- the row's id and those in its list, counted at place k, are at most `most`
+unfoldable pub listNamed : ℕ → ℕ → List ℕ → Bool
+listNamed k most w = leb (word k w) maxIds && (leb (word rowId w) most && idsGood most (idsAt k w))
 
 unfoldable pub roadPasses : ℕ → ℕ → List ℕ → Bool
-roadPasses clause most w = listedPasses clause (leb (word roadLanesAt w) maxIds) (handleGood (word roadName w) && handleGood (word roadAttributes w)) (roadGood most w)
+roadPasses clause most w =
+    listedPasses clause (leb (word roadLanesAt w) maxIds) (handleGood (word roadName w) && handleGood (word roadAttributes w)) (listNamed roadLanesAt most w) (roadGood most w)
 
 unfoldable pub junctionPasses : ℕ → ℕ → List ℕ → Bool
 junctionPasses clause most w =
-    listedPasses clause (leb (word junctionLanesAt w) maxIds) (handleGood (word junctionName w) && handleGood (word junctionOutline w) && handleGood (word junctionAttributes w)) (junctionGood most w)
+    listedPasses clause (leb (word junctionLanesAt w) maxIds) (handleGood (word junctionName w) && handleGood (word junctionOutline w) && handleGood (word junctionAttributes w)) (listNamed junctionLanesAt most w) (junctionGood most w)
 
 unfoldable pub ruleKinds : List ℕ → Bool
 ruleKinds w =
@@ -65,8 +71,11 @@ ruleKinds w =
     && handleGood (word ruleAttributes w)
     && (eqb (word ruleKind w) otherRule || stopLinesFit (word ruleKind w) (word ruleStopLinesAt w))
 
+unfoldable pub ruleNamed : ℕ → List ℕ → Bool
+ruleNamed most w = ruleFormed w && ruleNumbers most w && ruleLists false most w
+
 unfoldable pub rulePasses : ℕ → ℕ → List ℕ → Bool
-rulePasses clause most w = listedPasses clause (ruleFormed w) (ruleKinds w) (ruleGood most w)
+rulePasses clause most w = listedPasses clause (ruleFormed w) (ruleKinds w) (ruleNamed most w) (ruleGood most w)
 
 -- ---- by table
 

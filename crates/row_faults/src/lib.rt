@@ -1,7 +1,7 @@
 // Which row of a table fails a clause of soundness first. Clauses and tables are numbered as in specs/Clauses.antt.
 ghost use mathlib.Core.Path.{_≡_};
 ghost use mathlib.Core.Bool.{true};
-ghost use Prim.Native.Nat.{_<_};
+ghost use Prim.Native.Nat.{_+_, _<_, _≤_};
 ghost use lib.ListN.{length, drop, getD};
 ghost use Rattle.lists.specs.Rows.{keys};
 ghost use Rattle.tables.specs.View.{rows, word};
@@ -48,6 +48,8 @@ pub const LINKS: u64 = 6;
 
 pub const LINES: u64 = 7;
 
+pub const REPEATS: u64 = 11;
+
 // The tables.
 pub const LANE_TABLE: u64 = 0;
 
@@ -71,6 +73,9 @@ const TURNS: u64 = 3;
 const BOUNDARY_KINDS: u64 = 13;
 
 const IDS: u64 = 64;
+
+// Every row begins with its id.
+const ROW_ID: usize = 0;
 
 // ---- lanes
 
@@ -198,8 +203,8 @@ fn crosswalk_passes(clause: u64, w: &[u64], most: u64, coordinates: &[f64]) -> b
 
 // ---- rows of lists
 
-fn listed(clause: u64, formed: bool, kinds: bool, good: bool) -> bool
-    ensures { λ r. ⌜ r ≡ P.listedPasses clause formed kinds good ⌝ }
+fn listed(clause: u64, formed: bool, kinds: bool, named: bool, good: bool) -> bool
+    ensures { λ r. ⌜ r ≡ P.listedPasses clause formed kinds named good ⌝ }
 {
     if clause == MARKS {
         return formed;
@@ -207,7 +212,23 @@ fn listed(clause: u64, formed: bool, kinds: bool, good: bool) -> bool
     if clause == KINDS {
         return kinds;
     }
-    good
+    if clause == REPEATS {
+        return good;
+    }
+    named
+}
+
+// A row's id, and the ids behind their count at place k.
+fn list_named(w: &[u64], k: usize, most: u64) -> bool
+    requires { ⌜ k + 65 ≤ length (now w) ⌝ }
+    ensures { λ r. ⌜ r ≡ P.listNamed k most (now (w .entry)) ⌝ }
+{
+    if w[k] <= IDS {
+        let start = k + 1;
+        let end = start + w[k] as usize;
+        return both(w[ROW_ID] <= most, lists::all_at_most(&w[start..end], most));
+    }
+    false
 }
 
 fn road_passes(clause: u64, w: &[u64], most: u64) -> bool
@@ -221,6 +242,7 @@ fn road_passes(clause: u64, w: &[u64], most: u64) -> bool
             entity_tests::handle(w[ROAD_NAME]),
             entity_tests::handle(w[ROAD_ATTRIBUTES]),
         ),
+        list_named(w, ROAD_LANES, most),
         entity_tests::road_good(w, most),
     )
 }
@@ -239,6 +261,7 @@ fn junction_passes(clause: u64, w: &[u64], most: u64) -> bool
             ),
             entity_tests::handle(w[JUNCTION_ATTRIBUTES]),
         ),
+        list_named(w, JUNCTION_LANES, most),
         entity_tests::junction_good(w, most),
     )
 }
@@ -262,6 +285,19 @@ fn rule_kinds(w: &[u64]) -> bool
     )
 }
 
+fn rule_named(w: &[u64], most: u64) -> bool
+    requires { ⌜ length (now w) ≡ 330 ⌝ }
+    ensures { λ r. ⌜ r ≡ P.ruleNamed most (now (w .entry)) ⌝ }
+{
+    if both(
+        entity_tests::rule_formed(w),
+        entity_tests::rule_numbers(w, most),
+    ) {
+        return entity_tests::rule_lists(w, false, most);
+    }
+    false
+}
+
 fn rule_passes(clause: u64, w: &[u64], most: u64) -> bool
     requires { ⌜ length (now w) ≡ 330 ⌝ }
     ensures { λ r. ⌜ r ≡ P.rulePasses clause most (now (w .entry)) ⌝ }
@@ -270,6 +306,7 @@ fn rule_passes(clause: u64, w: &[u64], most: u64) -> bool
         clause,
         entity_tests::rule_formed(w),
         rule_kinds(w),
+        rule_named(w, most),
         entity_tests::rule_good(w, most),
     )
 }

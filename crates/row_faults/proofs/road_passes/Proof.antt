@@ -22,6 +22,9 @@ handle-requires-2 c κs = search needs
 both-requires : tie.Need-both-requires
 both-requires c κs = search needs
 
+list-named-requires : tie.Need-list-named-requires
+list-named-requires c κs = search needs
+
 road-good-requires : tie.Need-road-good-requires
 road-good-requires c κs = search needs
 
@@ -30,7 +33,7 @@ listed-requires c κs = search needs
 
 returns : tie.Need-returns
 unfolding roadPasses
-returns c = rw (c .listed .ensures, c .before .before .both .ensures, c .before .before .before .before .before .handle .ensures, c .before .before .before .handle2 .ensures, c .before .road-good .ensures)
+returns c = rw (c .listed .ensures, c .before .before .before .both .ensures, c .before .before .before .before .before .before .handle .ensures, c .before .before .before .before .handle2 .ensures, c .before .before .list-named .ensures, c .before .road-good .ensures)
 
 pub road-passes-spec : {M : Type 1} → statement M
 road-passes-spec =
@@ -42,6 +45,7 @@ road-passes-spec =
     shared-slice-read-handle-2
     handle-requires-2
     both-requires
+    list-named-requires
     road-good-requires
     listed-requires
     returns)

@@ -10,6 +10,9 @@ rule-formed-requires c κs = search needs
 rule-kinds-requires : tie.Need-rule-kinds-requires
 rule-kinds-requires c κs = search needs
 
+rule-named-requires : tie.Need-rule-named-requires
+rule-named-requires c κs = search needs
+
 rule-good-requires : tie.Need-rule-good-requires
 rule-good-requires c κs = search needs
 
@@ -18,9 +21,9 @@ listed-requires c κs = search needs
 
 returns : tie.Need-returns
 unfolding rulePasses
-returns c = rw (c .listed .ensures, c .before .before .before .rule-formed .ensures, c .before .before .rule-kinds .ensures, c .before .rule-good .ensures)
+returns c = rw (c .listed .ensures, c .before .before .before .before .rule-formed .ensures, c .before .before .before .rule-kinds .ensures, c .before .before .rule-named .ensures, c .before .rule-good .ensures)
 
 pub rule-passes-spec : {M : Type 1} → statement M
 rule-passes-spec =
     tie.close
-    (tie.spec rule-formed-requires rule-kinds-requires rule-good-requires listed-requires returns)
+    (tie.spec rule-formed-requires rule-kinds-requires rule-named-requires rule-good-requires listed-requires returns)
