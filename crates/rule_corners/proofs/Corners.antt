@@ -7,13 +7,13 @@ use Prim.{tt}
 use Prim.Native.Nat.{ℕ, _-_, _^_}
 use lib.Ieee.{Float}
 use Rattle.entities.specs.Types.{same, opposing}
-use Rattle.entities.specs.Records.{Line, Lane, Road, Rule, StopLine, Crosswalk, Map, Issue}
+use Rattle.entities.specs.Records.{Line, Lane, StopLine, Crosswalk, Map, Issue}
 use Rattle.rules.specs.Names.{Fraction, Station, EntityRef, RoadKind, RuleKind, Warning, BoundaryUnshared, OrphanRule, AttributeConflict, PositionOutside, NotMergeable, BoundaryAbsent, NoUsableLine, NotCrossing, Unsound, NoRoom, NoIds}
 use Rattle.rules.specs.Sound.{Room, Lists}
 use Rattle.rules.specs.Ops.{SplitLane, MergeLanes, ConnectLanes, DisconnectLanes, RemoveLane}
 use Rattle.rules.proofs.Opened.{opened}
 use Rattle.rules.proofs.Cases.{Case, Holds, AllHold, theLane, theBoundary, warns, nothing-done, ample, lists, refusing, changing, changes, f, -n2, n0, n0·5, n10, n2, n5, at, from, edge, plain, beside, linked, yard, e101, e102, e103, one, halvedAt, halving}
-use Rattle.rules.proofs.Turned.{n6, n8, n14, n20, counting, turned, centred, ruleOf, rule, stopping, crossing, stop, walk, furnished, ruleEntity}
+use Rattle.rules.proofs.Turned.{n6, n8, n14, n20, counting, turned, centred, road, rule, ranking, stopping, crossing, stop, walk, furnished, ruleEntity}
 
 -- ---- what the corners need beside the helpers of Cases
 
@@ -47,12 +47,6 @@ limited bits l =
       predecessors = l .predecessors;
       successors = l .successors;
     }
-
-abbrev road : ℕ → List ℕ → Road
-road i ls = record { id = i; name = 0; attributes = 0; lanes = ls }
-
-abbrev ranking : List ℕ → List ℕ → Rule → Rule
-ranking priority yielding r = ruleOf (r .id) (r .kind) (r .crosswalk) (r .lanes) (r .stop-lines) priority yielding
 
 abbrev roadEntity : ℕ → EntityRef
 roadEntity i = record { kind = RoadKind; id = i }
@@ -364,44 +358,44 @@ crosswalk-before-holds : Holds crosswalk-before
 unfolding opened
 crosswalk-before-holds = refl
 
--- "with no anchor it is added": after the first occurrence alone.
-abbrev own-twice : Case
-own-twice =
-    changing (counting 302 (furnished [] (rule 301 5 (1 ∷ 1 ∷ []) ∷ []) [] []
+-- "with no anchor it is added": after its first.
+abbrev own-added : Case
+own-added =
+    changing (counting 302 (furnished [] (rule 301 5 (7 ∷ 1 ∷ 8 ∷ []) ∷ []) [] []
     (yard (plain 1 101 102 ∷ []) (e101 ∷ e102 ∷ [])))) (SplitLane 1 (Fraction n0·5) true)
-    (furnished [] (rule 301 5 (1 ∷ 304 ∷ 1 ∷ []) ∷ []) [] []
+    (furnished [] (rule 301 5 (7 ∷ 1 ∷ 304 ∷ 8 ∷ []) ∷ []) [] []
     (yard (linked [] (304 ∷ []) (plain 1 101 102) ∷ linked (1 ∷ []) [] (plain 304 302 303) ∷ [])
     (edge 101 (from n0 n5 n2) ∷ edge 102 (from n0 n5 -n2) ∷ edge 302 (from n5 n10 n2) ∷ edge 303 (from n5 n10 -n2) ∷ [])))
     305 (some 304)
     (changes (theLane 304 ∷ theBoundary 302 ∷ theBoundary 303 ∷ [])
     (theLane 1 ∷ theBoundary 101 ∷ theBoundary 102 ∷ ruleEntity 301 ∷ []) [] [])
 
-own-twice-holds : Holds own-twice
+own-added-holds : Holds own-added
 unfolding opened
-own-twice-holds = refl
+own-added-holds = refl
 
--- "Roads and junctions gain each second half after its first": after each occurrence.
-abbrev road-twice : Case
-road-twice =
-    changing (counting 302 (furnished (road 301 (1 ∷ 1 ∷ []) ∷ []) [] [] []
+-- "Roads and junctions gain each second half after its first".
+abbrev road-grown : Case
+road-grown =
+    changing (counting 302 (furnished (road 301 (8 ∷ 1 ∷ 7 ∷ []) ∷ []) [] [] []
     (yard (plain 1 101 102 ∷ []) (e101 ∷ e102 ∷ [])))) (SplitLane 1 (Fraction n0·5) true)
-    (furnished (road 301 (1 ∷ 304 ∷ 1 ∷ 304 ∷ []) ∷ []) [] [] []
+    (furnished (road 301 (8 ∷ 1 ∷ 304 ∷ 7 ∷ []) ∷ []) [] [] []
     (yard (linked [] (304 ∷ []) (plain 1 101 102) ∷ linked (1 ∷ []) [] (plain 304 302 303) ∷ [])
     (edge 101 (from n0 n5 n2) ∷ edge 102 (from n0 n5 -n2) ∷ edge 302 (from n5 n10 n2) ∷ edge 303 (from n5 n10 -n2) ∷ [])))
     305 (some 304)
     (changes (theLane 304 ∷ theBoundary 302 ∷ theBoundary 303 ∷ [])
     (theLane 1 ∷ theBoundary 101 ∷ theBoundary 102 ∷ roadEntity 301 ∷ []) [] [])
 
-road-twice-holds : Holds road-twice
+road-grown-holds : Holds road-grown
 unfolding opened
-road-twice-holds = refl
+road-grown-holds = refl
 
 -- "So do a rule's priority and yielding lists"; its own lanes are none.
 abbrev rights : Case
 rights =
-    changing (counting 302 (furnished [] (ranking (1 ∷ 7 ∷ []) (1 ∷ 1 ∷ []) (rule 301 3 []) ∷ []) [] []
+    changing (counting 302 (furnished [] (ranking (1 ∷ 7 ∷ []) (7 ∷ 1 ∷ []) (rule 301 3 []) ∷ []) [] []
     (yard (plain 1 101 102 ∷ []) (e101 ∷ e102 ∷ [])))) (SplitLane 1 (Fraction n0·5) true)
-    (furnished [] (ranking (1 ∷ 304 ∷ 7 ∷ []) (1 ∷ 304 ∷ 1 ∷ 304 ∷ []) (rule 301 3 []) ∷ []) [] []
+    (furnished [] (ranking (1 ∷ 304 ∷ 7 ∷ []) (7 ∷ 1 ∷ 304 ∷ []) (rule 301 3 []) ∷ []) [] []
     (yard (linked [] (304 ∷ []) (plain 1 101 102) ∷ linked (1 ∷ []) [] (plain 304 302 303) ∷ [])
     (edge 101 (from n0 n5 n2) ∷ edge 102 (from n0 n5 -n2) ∷ edge 302 (from n5 n10 n2) ∷ edge 303 (from n5 n10 -n2) ∷ [])))
     305 (some 304)
@@ -593,7 +587,7 @@ missing-unlisted-holds = refl
 -- ---- the table
 
 abbrev pub corners : List Case
-corners = one-sided ∷ created-short ∷ created-exact ∷ lanes-short ∷ ids-short ∷ ids-exact ∷ spent ∷ counter-zero ∷ counter-kept ∷ neighbour-empty ∷ neighbour-point ∷ boundary-missing ∷ boundary-empty ∷ boundary-short ∷ line-missing ∷ line-before-fraction ∷ own-empty ∷ reversed ∷ both-sides ∷ self-link ∷ self-beside ∷ anchor-past ∷ anchor-before ∷ crosswalk-past ∷ crosswalk-before ∷ own-twice ∷ road-twice ∷ rights ∷ shared-kept ∷ in-place-reversed ∷ fresh-forward ∷ both-in-place ∷ apart-joined ∷ nan-limits ∷ zero-limits ∷ one-centreline ∷ same-lane ∷ absent-left-first ∷ orphan ∷ orphan-before ∷ missing-unlisted ∷ []
+corners = one-sided ∷ created-short ∷ created-exact ∷ lanes-short ∷ ids-short ∷ ids-exact ∷ spent ∷ counter-zero ∷ counter-kept ∷ neighbour-empty ∷ neighbour-point ∷ boundary-missing ∷ boundary-empty ∷ boundary-short ∷ line-missing ∷ line-before-fraction ∷ own-empty ∷ reversed ∷ both-sides ∷ self-link ∷ self-beside ∷ anchor-past ∷ anchor-before ∷ crosswalk-past ∷ crosswalk-before ∷ own-added ∷ road-grown ∷ rights ∷ shared-kept ∷ in-place-reversed ∷ fresh-forward ∷ both-in-place ∷ apart-joined ∷ nan-limits ∷ zero-limits ∷ one-centreline ∷ same-lane ∷ absent-left-first ∷ orphan ∷ orphan-before ∷ missing-unlisted ∷ []
 
 pub corners-hold : AllHold corners
-corners-hold = (one-sided-holds, (created-short-holds, (created-exact-holds, (lanes-short-holds, (ids-short-holds, (ids-exact-holds, (spent-holds, (counter-zero-holds, (counter-kept-holds, (neighbour-empty-holds, (neighbour-point-holds, (boundary-missing-holds, (boundary-empty-holds, (boundary-short-holds, (line-missing-holds, (line-before-fraction-holds, (own-empty-holds, (reversed-holds, (both-sides-holds, (self-link-holds, (self-beside-holds, (anchor-past-holds, (anchor-before-holds, (crosswalk-past-holds, (crosswalk-before-holds, (own-twice-holds, (road-twice-holds, (rights-holds, (shared-kept-holds, (in-place-reversed-holds, (fresh-forward-holds, (both-in-place-holds, (apart-joined-holds, (nan-limits-holds, (zero-limits-holds, (one-centreline-holds, (same-lane-holds, (absent-left-first-holds, (orphan-holds, (orphan-before-holds, (missing-unlisted-holds, tt)))))))))))))))))))))))))))))))))))))))))
+corners-hold = (one-sided-holds, (created-short-holds, (created-exact-holds, (lanes-short-holds, (ids-short-holds, (ids-exact-holds, (spent-holds, (counter-zero-holds, (counter-kept-holds, (neighbour-empty-holds, (neighbour-point-holds, (boundary-missing-holds, (boundary-empty-holds, (boundary-short-holds, (line-missing-holds, (line-before-fraction-holds, (own-empty-holds, (reversed-holds, (both-sides-holds, (self-link-holds, (self-beside-holds, (anchor-past-holds, (anchor-before-holds, (crosswalk-past-holds, (crosswalk-before-holds, (own-added-holds, (road-grown-holds, (rights-holds, (shared-kept-holds, (in-place-reversed-holds, (fresh-forward-holds, (both-in-place-holds, (apart-joined-holds, (nan-limits-holds, (zero-limits-holds, (one-centreline-holds, (same-lane-holds, (absent-left-first-holds, (orphan-holds, (orphan-before-holds, (missing-unlisted-holds, tt)))))))))))))))))))))))))))))))))))))))))

@@ -8,11 +8,11 @@ use Prim.Native.Nat.{ℕ}
 use lib.Ieee.{Float}
 use Rattle.entities.specs.declared.OptionNeighbor.the-variants.{Some as ANeighbor}
 use Rattle.entities.specs.Types.{same, opposing}
-use Rattle.entities.specs.Records.{Line, Lane, Road, Rule, StopLine, Crosswalk, Map}
-use Rattle.rules.specs.Names.{Fraction, Station, Right, EntityRef, RuleKind, BoundaryUnshared, LaneAbsent}
-use Rattle.rules.specs.Ops.{SplitLane, MergeLanes, ConnectLanes, SetNeighbor, RemoveLane, State}
+use Rattle.entities.specs.Records.{Line, Lane, Road, Junction, Rule, StopLine, Crosswalk, Map}
+use Rattle.rules.specs.Names.{Fraction, Station, Right, EntityRef, RuleKind, BoundaryUnshared, LaneAbsent, Unsound}
+use Rattle.rules.specs.Ops.{SplitLane, MergeLanes, ConnectLanes, DisconnectLanes, SetNeighbor, RemoveLane, State}
 use Rattle.rules.proofs.Opened.{opened}
-use Rattle.rules.proofs.Cases.{Case, Holds, AllHold, theLane, theBoundary, warns, refusing, changing, changes, f, -n2, n0, n0·5, n10, n2, n5, at, from, edge, plain, beside, linked, yard, e101, e102, e103, one, halving}
+use Rattle.rules.proofs.Cases.{Case, Holds, AllHold, theLane, theBoundary, warns, nothing-done, refusing, changing, changes, f, -n2, n0, n0·5, n10, n2, n5, at, from, edge, plain, beside, linked, yard, e101, e102, e103, one, halving}
 
 abbrev pub n6 : Float
 n6 = f 0x4018000000000000
@@ -167,6 +167,12 @@ ruleOf i k cross ls stops priority yielding =
 abbrev pub rule : ℕ → ℕ → List ℕ → Rule
 rule i k ls = ruleOf i k none ls [] [] []
 
+abbrev pub road : ℕ → List ℕ → Road
+road i ls = record { id = i; name = 0; attributes = 0; lanes = ls }
+
+abbrev pub ranking : List ℕ → List ℕ → Rule → Rule
+ranking priority yielding r = ruleOf (r .id) (r .kind) (r .crosswalk) (r .lanes) (r .stop-lines) priority yielding
+
 abbrev pub stopping : List ℕ → Rule → Rule
 stopping stops r = ruleOf (r .id) (r .kind) (r .crosswalk) (r .lanes) stops (r .priority) (r .yielding)
 
@@ -221,10 +227,73 @@ stop-missing-holds : Holds stop-missing
 unfolding opened
 stop-missing-holds = refl
 
+-- ---- a lane once per list
+
+abbrev junction : ℕ → List ℕ → Junction
+junction i ls = record { id = i; name = 0; outline = 0; attributes = 0; lanes = ls }
+
+-- lane 1 with a road, a junction and a rule, and a call that does nothing
+abbrev listing : Road → Junction → Rule → State
+listing r j u =
+    counting 304
+    (record { lanes = plain 1 101 102 ∷ []; boundaries = e101 ∷ e102 ∷ []; roads = r ∷ []; junctions = j ∷ []; rules = u ∷ []; stop-lines = []; crosswalks = [] })
+
+abbrev right : List ℕ → List ℕ → List ℕ → Rule
+right ls priority yielding = ranking priority yielding (rule 303 3 ls)
+
+abbrev sevens : List ℕ
+sevens = 7 ∷ 8 ∷ 7 ∷ []
+
+-- Document 02, (b): "A repeat now makes the map unsound, with refusal 9." Lanes 7 and 8 are absent, and the two 7 apart from each other.
+abbrev road-repeat : Case
+road-repeat = refusing (listing (road 301 sevens) (junction 302 []) (right [] [] [])) (DisconnectLanes 1 1) Unsound
+
+road-repeat-holds : Holds road-repeat
+unfolding opened
+road-repeat-holds = refl
+
+abbrev junction-repeat : Case
+junction-repeat = refusing (listing (road 301 []) (junction 302 sevens) (right [] [] [])) (DisconnectLanes 1 1) Unsound
+
+junction-repeat-holds : Holds junction-repeat
+unfolding opened
+junction-repeat-holds = refl
+
+abbrev own-repeat : Case
+own-repeat = refusing (listing (road 301 []) (junction 302 []) (right sevens [] [])) (DisconnectLanes 1 1) Unsound
+
+own-repeat-holds : Holds own-repeat
+unfolding opened
+own-repeat-holds = refl
+
+abbrev priority-repeat : Case
+priority-repeat = refusing (listing (road 301 []) (junction 302 []) (right [] sevens [])) (DisconnectLanes 1 1) Unsound
+
+priority-repeat-holds : Holds priority-repeat
+unfolding opened
+priority-repeat-holds = refl
+
+abbrev yielding-repeat : Case
+yielding-repeat = refusing (listing (road 301 []) (junction 302 []) (right [] [] sevens)) (DisconnectLanes 1 1) Unsound
+
+yielding-repeat-holds : Holds yielding-repeat
+unfolding opened
+yielding-repeat-holds = refl
+
+-- "one list of a rule": a lane may stand in several lists.
+abbrev lists-share : Case
+lists-share =
+    let s = listing (road 301 (7 ∷ 1 ∷ [])) (junction 302 (1 ∷ 7 ∷ [])) (right (1 ∷ 7 ∷ []) (7 ∷ 1 ∷ []) (1 ∷ [])) in
+    changing s (DisconnectLanes 1 1) (s .map) 304 none (changes [] [] [] (nothing-done 1 ∷ []))
+
+lists-share-holds : Holds lists-share
+unfolding opened
+lists-share-holds = refl
+
 -- ---- the table
 
 abbrev pub turns : List Case
-turns = merge-directions ∷ opposite-halves ∷ freed-reported ∷ removed-unlinked ∷ both-absent ∷ absent-itself ∷ nearest-station ∷ stop-missing ∷ []
+turns = merge-directions ∷ opposite-halves ∷ freed-reported ∷ removed-unlinked ∷ both-absent ∷ absent-itself ∷ nearest-station ∷ stop-missing ∷ road-repeat ∷ junction-repeat ∷ own-repeat ∷ priority-repeat ∷ yielding-repeat ∷ lists-share ∷ []
 
 pub turns-hold : AllHold turns
-turns-hold = (merge-directions-holds, (opposite-halves-holds, (freed-reported-holds, (removed-unlinked-holds, (both-absent-holds, (absent-itself-holds, (nearest-station-holds, (stop-missing-holds, tt))))))))
+turns-hold = (merge-directions-holds, (opposite-halves-holds, (freed-reported-holds, (removed-unlinked-holds, (both-absent-holds, (absent-itself-holds, (nearest-station-holds, (stop-missing-holds, (road-repeat-holds, (junction-repeat-holds, (own-repeat-holds, (priority-repeat-holds, (yielding-repeat-holds, (lists-share-holds, tt))))))))))))))

@@ -31,6 +31,9 @@ handle-requires-3 c κs = search needs
 both-requires-2 : tie.Need-both-requires-2
 both-requires-2 c κs = search needs
 
+list-named-requires : tie.Need-list-named-requires
+list-named-requires c κs = search needs
+
 junction-good-requires : tie.Need-junction-good-requires
 junction-good-requires c κs = search needs
 
@@ -39,7 +42,7 @@ listed-requires c κs = search needs
 
 returns : tie.Need-returns
 unfolding junctionPasses
-returns c = rw (c .listed .ensures, c .before .before .both2 .ensures, c .before .before .before .before .before .both .ensures, c .before .before .before .before .before .before .before .before .handle .ensures, c .before .before .before .before .before .before .handle2 .ensures, c .before .before .before .handle3 .ensures, c .before .junction-good .ensures)
+returns c = rw (c .listed .ensures, c .before .before .before .both2 .ensures, c .before .before .before .before .before .before .both .ensures, c .before .before .before .before .before .before .before .before .before .handle .ensures, c .before .before .before .before .before .before .before .handle2 .ensures, c .before .before .before .before .handle3 .ensures, c .before .before .list-named .ensures, c .before .junction-good .ensures)
 
 pub junction-passes-spec : {M : Type 1} → statement M
 junction-passes-spec =
@@ -54,6 +57,7 @@ junction-passes-spec =
     shared-slice-read-handle-3
     handle-requires-3
     both-requires-2
+    list-named-requires
     junction-good-requires
     listed-requires
     returns)
