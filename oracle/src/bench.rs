@@ -5,7 +5,7 @@ use std::time::{Duration, Instant};
 
 use vectormap_core::*;
 
-use crate::generate::{furnish, grid, grid_by};
+use crate::generate::{furnish, furnish_long, grid, grid_by};
 use crate::sound;
 use crate::step::{edit, Call, Room, State};
 use crate::tables::*;
@@ -72,9 +72,9 @@ fn stages(name: &str, m: &Map, call: Call) {
     );
 }
 
-/// The test of soundness on the Rust's own map.
-fn tested(m: &Map) -> Duration {
-    let (took, sound) = timed(|| sound::map_sound(black_box(m), m.peek_next_id()));
+/// The test of soundness on the Rust's own map, with or without that of lanes that stand twice.
+fn tested(m: &Map, repeats: bool) -> Duration {
+    let (took, sound) = timed(|| sound::map_sound(black_box(m), m.peek_next_id(), repeats));
     assert!(sound);
     took
 }
@@ -93,7 +93,7 @@ fn time(name: &str, m: &Map, call: Call) {
         let mut copy = m.clone();
         let (took, made) = timed(|| {
             if test {
-                assert!(sound::map_sound(black_box(&copy), m.peek_next_id()));
+                assert!(sound::map_sound(black_box(&copy), m.peek_next_id(), true));
             }
             edit(black_box(&mut copy), &call)
         });
@@ -129,7 +129,7 @@ fn time_job(name: &str, m: &Map, calls: &[Call]) {
         let (took, kept) = timed(|| {
             let kept = black_box(&map).clone();
             if tested {
-                assert!(sound::map_sound(black_box(&map), m.peek_next_id()));
+                assert!(sound::map_sound(black_box(&map), m.peek_next_id(), true));
             }
             let made = calls.iter().all(|call| edit(black_box(&mut map), call).is_ok());
             assert!(made, "{name}");
@@ -249,6 +249,15 @@ fn linked(mut m: Map, more: usize, id: impl Fn(usize) -> u64) -> Map {
     m
 }
 
+/// 1,000 lanes with 256 roads, 256 junctions and 512 rules, all their lists of 64 lanes. Every id named is below 1,000,001.
+fn listed(id: impl Fn(usize, usize) -> u64) -> Map {
+    let mut m = grid(100, 10, 8);
+    let last = Boundary::new(BoundaryId(1_000_000), BoundaryKind::Curb, Polyline3::new(Vec::new()));
+    m.insert_boundary(last).expect("a new id");
+    furnish_long(&mut m, id);
+    m
+}
+
 /// As many links more as leave a lane below the limit of 16.
 const DENSE: usize = 13;
 
@@ -265,6 +274,11 @@ fn tested_maps() -> Vec<(&'static str, Map)> {
         ("odd", grid_by(100, 10, 8, odd)),
         ("scattered", grid_by(100, 10, 8, scattered)),
         ("rules", furnished),
+        ("lists", listed(|n, k| 1 + (n + k) as u64)),
+        ("lists-mixed", listed(|n, k| 1 + (n + 37 * k % 64) as u64)),
+        ("lists-apart", listed(|n, k| 1 + ((n + 389 * k) % 1000) as u64)),
+        ("lists-absent", listed(|n, k| 2000 + ((7 * n + 389 * k) % 8000) as u64)),
+        ("lists-alike", listed(|n, k| 1_000_000 - (n + 509 * k) as u64)),
         ("links", linked(plain.clone(), 4, in_order)),
         ("links-scattered", linked(grid_by(100, 10, 8, scattered), 4, scattered)),
         ("dense", linked(plain, DENSE, in_order)),
@@ -284,24 +298,26 @@ fn tested_maps() -> Vec<(&'static str, Map)> {
 pub fn sound() -> bool {
     println!("the test of soundness, microseconds, median of {TURNS}");
     println!(
-        "{:24}{:>7}{:>7}{:>8}{:>10}{:>14}{:>12}{:>8}",
-        "map", "lanes", "links", "points", "the Rust", "lent tables", "the editor", "ratio"
+        "{:24}{:>7}{:>7}{:>8}{:>10}{:>10}{:>14}{:>12}{:>8}{:>8}",
+        "map", "lanes", "links", "points", "the Rust", "(a)", "lent tables", "the editor", "ratio", "to (a)"
     );
     for (name, m) in tested_maps() {
         let tables = crate::cases::plain(&m, 40, 400);
         let counter = m.peek_next_id();
-        let [rust, lent, editor] = medians(|_| {
+        // (a): without the test of lanes that stand twice, as before document 02, (b).
+        let [rust, before, lent, editor] = medians(|_| {
             let (lent, fault) = timed(|| sound::fault(black_box(&tables), counter));
             assert!(fault.is_none());
             let editor = tested_by_editor(&tables, counter).unwrap_or_default();
-            [tested(&m), lent, editor]
+            [tested(&m, true), tested(&m, false), lent, editor]
         });
         println!(
-            "{name:24}{:>7}{:>7}{:>8}{rust:>10.2}{lent:>14.2}{editor:>12.2}{:>8.2}",
+            "{name:24}{:>7}{:>7}{:>8}{rust:>10.2}{before:>10.2}{lent:>14.2}{editor:>12.2}{:>8.2}{:>8.2}",
             m.lane_count(),
             tables.rows(LANES).map(|r| r[lane::SUCCESSORS]).sum::<u64>(),
             lines(&m).iter().map(|l| l.len()).sum::<usize>(),
             editor / rust,
+            editor / before,
         );
     }
     let xyz = crate::cases::plain(&full(128, 0), 40, 400).xyz;

@@ -164,8 +164,8 @@ pub fn hold(t: &Turn) -> Result<(), String> {
     {
         return Err("modified holds what does not survive".into());
     }
-    if repeats(n) && !repeats(m) {
-        return Err("a lane stands twice in a list that was free of repeats".into());
+    if repeats(n) {
+        return Err("a lane stands twice in a list".into());
     }
     if booked(m, t.call, created, links(m)) != links(n) {
         return Err("the links are not those of the book".into());

@@ -104,7 +104,7 @@ macro_rules! table_damages {
 const TABLES: [Damage; 35] =
     table_damages!(LANES BOUNDARIES ROADS JUNCTIONS RULES STOP_LINES CROSSWALKS);
 
-const REST: [Damage; 60] = [
+const REST: [Damage; 66] = [
     ("lane kind", |r, t, _| set(r, t, LANES, lane::KIND, 8)),
     ("left reversed", |r, t, _| {
         set(r, t, LANES, lane::LEFT_REVERSED, 2)
@@ -311,6 +311,27 @@ const REST: [Damage; 60] = [
         t.row_mut(RULES, i)[rule::CROSSWALK] = past(c);
         Some(())
     }),
+    ("a lane twice in a road", |r, t, _| repeated(r, t, ROADS, 3, |_| true)),
+    ("a lane twice in a junction", |r, t, _| {
+        repeated(r, t, JUNCTIONS, 4, |_| true)
+    }),
+    ("a lane twice among a rule's lanes", |r, t, _| {
+        repeated(r, t, RULES, rule::LANES, |_| true)
+    }),
+    ("a lane twice in priority", |r, t, _| {
+        repeated(r, t, RULES, rule::PRIORITY, |row| row[1] == kind::RIGHT_OF_WAY)
+    }),
+    ("a lane twice in yielding", |r, t, _| {
+        repeated(r, t, RULES, rule::YIELDING, |row| row[1] == kind::RIGHT_OF_WAY)
+    }),
+    ("an absent lane twice in a road", |r, t, c| {
+        let id = absent_lane(t, *c)?;
+        let i = which(r, t, ROADS, |row| row[3] > 1)?;
+        let row = t.row_mut(ROADS, i);
+        let (first, last) = (4, 3 + row[3] as usize);
+        (row[first], row[last]) = (id, id);
+        Some(())
+    }),
     ("links that do not ascend", |r, t, _| {
         let place = *r.pick(&[lane::PREDECESSORS, lane::SUCCESSORS]);
         let i = which(r, t, LANES, |row| row[place] > 0)?;
@@ -400,6 +421,21 @@ fn listed(
     let i = which(rng, t, table, |r| test(r) && r[place] > 0)?;
     let row = t.row_mut(table, i);
     row[place + 1 + rng.below(row[place] as usize)] = id;
+    Some(())
+}
+
+/// One lane more in a list that is not empty, which stands there already: beside it or apart from it; in a full list it takes another's place.
+fn repeated(rng: &mut Rng, t: &mut Tables, table: usize, place: usize, test: impl Fn(&[u64]) -> bool) -> Option<()> {
+    let i = which(rng, t, table, |r| test(r) && r[place] > 0)?;
+    let row = t.row_mut(table, i);
+    let n = row[place] as usize;
+    let id = row[place + 1 + rng.below(n)];
+    let at = place + 1 + rng.below(n);
+    if n < IDS {
+        row.copy_within(at..place + 1 + n, at + 1);
+        row[place] += 1;
+    }
+    row[at] = id;
     Some(())
 }
 

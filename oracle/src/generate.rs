@@ -855,7 +855,7 @@ impl<'a> Builder<'a> {
         self.m.lane_mut(lane).expect("present").boundary_mut(side)
     }
 
-    /// A list of lanes, some of them absent, some repeated.
+    /// A list of lanes, some of them absent, none twice.
     fn list(&mut self, most: usize) -> Vec<LaneId> {
         let n = match self.aim {
             Aim::Lists => self.rng.within(60, IDS),
@@ -864,13 +864,15 @@ impl<'a> Builder<'a> {
         let mut ids: Vec<LaneId> = self.m.lanes().map(|l| l.id).collect();
         self.rng.shuffle(&mut ids);
         ids.truncate(n);
-        while ids.len() < n && (self.aim == Aim::Lists || self.rng.chance(40)) {
-            let id = match self.rng.below(3) {
-                0 => self.some_lane(),
-                _ => LaneId(self.absent(LANES)),
-            };
-            let at = self.rng.below(ids.len() + 1);
-            ids.insert(at, id);
+        // A small span of ids has few that are absent.
+        let mut tries = 0;
+        while ids.len() < n && tries < 1000 && (self.aim == Aim::Lists || self.rng.chance(40)) {
+            tries += 1;
+            let id = LaneId(self.absent(LANES));
+            if !ids.contains(&id) {
+                let at = self.rng.below(ids.len() + 1);
+                ids.insert(at, id);
+            }
         }
         ids
     }
@@ -1380,6 +1382,27 @@ pub fn furnish(m: &mut Map, roads: usize, junctions: usize, rules: usize) {
             attributes: Attributes(0),
         };
         m.insert_regulatory_element(r).expect("a new id");
+    }
+}
+
+/// Every list of every road, junction and rule with 64 lanes, `id` giving the lane at a place of a list.
+pub fn furnish_long(m: &mut Map, id: impl Fn(usize, usize) -> u64) {
+    furnish(m, LIMIT[ROADS], LIMIT[JUNCTIONS], LIMIT[RULES]);
+    let list = |n: usize| -> Vec<LaneId> { (0..IDS).map(|k| LaneId(id(n, k))).collect() };
+    for i in 0..LIMIT[ROADS] {
+        m.road_mut(RoadId(i as u64)).expect("present").lanes = list(i);
+    }
+    for i in 0..LIMIT[JUNCTIONS] {
+        m.junction_mut(JunctionId(i as u64)).expect("present").lanes = list(i + 1);
+    }
+    for i in 0..LIMIT[RULES] {
+        let r = m.regulatory_element_mut(RegulatoryElementId(i as u64)).expect("present");
+        r.lanes = list(i);
+        r.rule = Rule::RightOfWay {
+            priority: list(i + 2),
+            yielding: list(i + 3),
+            stop_lines: vec![],
+        };
     }
 }
 

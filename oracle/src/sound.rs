@@ -44,6 +44,7 @@ pub fn number(fault: Fault) -> u64 {
             "a point in two lines" => 8,
             "a link to an absent lane" | "a link one way only" => 9,
             "an absent neighbour" | "a neighbour that does not name the lane back" => 10,
+            "a lane twice in a list" => 11,
             other => unreachable!("{other}"),
         },
     }
@@ -200,6 +201,21 @@ pub fn fault(t: &Tables, counter: u64) -> Fault {
         }
     }
 
+    // No lane stands twice in a list.
+    let once = |words: &[u64]| {
+        let mut ids = words[1..1 + words[0] as usize].to_vec();
+        ids.sort_unstable();
+        ids.windows(2).all(|w| w[0] != w[1])
+    };
+    clause!(
+        t.rows(ROADS).all(|r| once(&r[3..]))
+            && t.rows(JUNCTIONS).all(|r| once(&r[4..]))
+            && t.rows(RULES).all(|r| {
+                once(&r[rule::LANES..]) && (r[1] != kind::RIGHT_OF_WAY || once(&r[rule::PRIORITY..]) && once(&r[rule::YIELDING..]))
+            }),
+        "a lane twice in a list"
+    );
+
     // Links and neighbours.
     let ids: Vec<u64> = t.rows(LANES).map(|r| r[lane::ID]).collect();
     let find = |id: u64| ids.binary_search(&id).ok().map(|i| t.row(LANES, i));
@@ -241,8 +257,19 @@ pub fn fault(t: &Tables, counter: u64) -> Fault {
     None
 }
 
-/// The same test on the Rust's own map, as far as that can be unsound: for timing.
-pub fn map_sound(m: &Map, counter: u64) -> bool {
+/// No lane stands twice in a list: of lanes that ascend none does, others are sorted first.
+fn once(lanes: &[LaneId]) -> bool {
+    if lanes.is_sorted_by(|a, b| a < b) {
+        return true;
+    }
+    let mut ids = lanes.to_vec();
+    ids.sort_unstable();
+    ids.windows(2).all(|w| w[0] != w[1])
+}
+
+/// The same test on the Rust's own map, as far as that can be unsound: for timing. `repeats` says whether it looks for lanes that stand twice.
+pub fn map_sound(m: &Map, counter: u64, repeats: bool) -> bool {
+    let once = |lanes: &[LaneId]| !repeats || once(lanes);
     let next = match counter {
         u64::MAX => u128::MAX,
         c => c.max(1) as u128,
@@ -272,13 +299,14 @@ pub fn map_sound(m: &Map, counter: u64) -> bool {
         && m.stop_lines().all(|s| below(s.id.0))
         && m.crosswalks().all(|c| below(c.id.0))
         && m.roads()
-            .all(|r| below(r.id.0) && r.lanes.len() <= IDS && r.lanes.iter().all(|l| below(l.0)))
+            .all(|r| below(r.id.0) && r.lanes.len() <= IDS && r.lanes.iter().all(|l| below(l.0)) && once(&r.lanes))
         && m.junctions()
-            .all(|j| below(j.id.0) && j.lanes.len() <= IDS && j.lanes.iter().all(|l| below(l.0)))
+            .all(|j| below(j.id.0) && j.lanes.len() <= IDS && j.lanes.iter().all(|l| below(l.0)) && once(&j.lanes))
         && m.regulatory_elements().all(|r| {
             below(r.id.0)
                 && r.lanes.len() <= IDS
                 && r.lanes.iter().all(|l| below(l.0))
+                && once(&r.lanes)
                 && r.rule.stop_lines().iter().all(|s| below(s.0))
                 && r.rule.crosswalk().is_none_or(|c| below(c.0))
                 && match &r.rule {
@@ -287,6 +315,8 @@ pub fn map_sound(m: &Map, counter: u64) -> bool {
                     } => {
                         priority.len().max(yielding.len()) <= IDS
                             && priority.iter().chain(yielding).all(|l| below(l.0))
+                            && once(priority)
+                            && once(yielding)
                     }
                     _ => true,
                 }
