@@ -327,7 +327,8 @@ typedef struct voldrekka_job_answer {
     uint64_t counter;  /* the next id, as the counter has it after the call */
 } voldrekka_job_answer;
 
-/* The clauses of soundness, in the order in which they are told: the lowest that fails, in it the first table, in that the first row. */
+/* The clauses of soundness, in the order in which they are told: the first of them that fails, in it the first table, in that the first row.
+   A lane that stands twice came last among the numbers, so that the others keep theirs. */
 enum voldrekka_clause {
     VOLDREKKA_CLAUSE_SOUND = 0,
     VOLDREKKA_CLAUSE_COUNT = 1,     /* a table has more rows than its limit or than its memory holds */
@@ -337,6 +338,7 @@ enum voldrekka_clause {
     VOLDREKKA_CLAUSE_COUNTER = 5,   /* an id is not below the next id to be given */
     VOLDREKKA_CLAUSE_LINKS = 6,     /* a list of links does not ascend */
     VOLDREKKA_CLAUSE_LINE = 7,      /* a line is not stored, has more than 256 points, or leaves the range of coordinates */
+    VOLDREKKA_CLAUSE_REPEAT = 11,   /* a lane stands twice in a road, a junction, or one list of a rule */
     VOLDREKKA_CLAUSE_POINT = 8,     /* two lines share a stored point; told of the coordinates as a whole */
     VOLDREKKA_CLAUSE_LINK = 9,      /* a link names a lane that is absent or does not name it back */
     VOLDREKKA_CLAUSE_NEIGHBOR = 10  /* a neighbour is absent or does not name the lane back */

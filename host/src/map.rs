@@ -45,7 +45,7 @@ pub struct Fault {
 }
 
 /// The clauses of soundness in words, each at the place of its number; 0 is none.
-const CLAUSES: [&str; 11] = [
+const CLAUSES: [&str; 12] = [
     "sound",
     "a table has more rows than its limit or than its memory holds",
     "a mark is out of range, or a list of the row is longer than its limit",
@@ -57,6 +57,7 @@ const CLAUSES: [&str; 11] = [
     "two lines share a stored point",
     "a link names a lane that is absent or does not name it back",
     "a neighbour is absent or does not name the lane back",
+    "a lane stands twice in a road, a junction, or one list of a rule",
 ];
 
 /// A lane map that owns its tables.

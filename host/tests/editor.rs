@@ -131,6 +131,10 @@ fn the_clause_that_fails_is_told_with_its_line() {
         damaged("next 204", "next 105"),
         "damaged.yard: not sound: an id is not below the next id to be given, at lane:3 on line 8\n"
     );
+    assert_eq!(
+        damaged("signals=1 stop-line=201 lanes=1,2", "signals=1 stop-line=201 lanes=2,1,2"),
+        "damaged.yard: not sound: a lane stands twice in a road, a junction, or one list of a rule, at regulatory_element:202 on line 26\n"
+    );
 }
 
 #[test]
