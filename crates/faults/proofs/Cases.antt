@@ -1,15 +1,15 @@
 -- Small maps and their faults, computed. Assumes nothing.
 use mathlib.Core.Path.{_≡_, refl}
-use mathlib.Core.List.{List, [], _∷_}
-use Prim.Native.Nat.{ℕ}
+use mathlib.Core.List.{List, [], _∷_, _++_}
+use Prim.Native.Nat.{ℕ, zero, suc}
 use Rattle.lists.specs.Every.{all}
 use Rattle.lists.specs.Rows.{reads, keys}
 use Rattle.tables.specs.View.{Tables, rows, tablesOf}
 use Rattle.tables.specs.Formed.{spans, allClear}
-use Rattle.lists.specs.Select.{each}
-use Rattle.row_tests.specs.Good.{boundaryGood, lineGood}
+use Rattle.lists.specs.Select.{each, has, distinct}
+use Rattle.row_tests.specs.Good.{boundaryGood, roadGood, lineGood}
 use Rattle.row_faults.specs.First.{firstFalse, rises, risesFrom}
-use Rattle.row_faults.specs.Passes.{boundaryPasses, stopLinePasses, rowPasses}
+use Rattle.row_faults.specs.Passes.{boundaryPasses, stopLinePasses, listNamed, roadPasses, rowPasses}
 use Rattle.faults.specs.Faults.{noFault, faultIn, earlier, countsFault, rowsFault, idsFault, rowFaults, tieFaults, faultOf}
 
 none : List ℕ
@@ -48,3 +48,21 @@ ahead = refl
 unstored : faultOf 3 (map (1 ∷ 1 ∷ 0 ∷ 0 ∷ 1 ∷ 0 ∷ []) none) ≡ record { clause = 7; table = 1; row = 0 }
 unfolding faultOf countsFault rowsFault idsFault rowFaults tieFaults earlier faultIn firstFalse rises risesFrom rowPasses boundaryPasses stopLinePasses boundaryGood lineGood all reads keys rows spans allClear each none map
 unstored = refl
+
+-- a row's words that are not used
+zeros : ℕ → List ℕ
+zeros zero = []
+zeros (suc n) = 0 ∷ zeros n
+
+roads : List ℕ → Tables
+roads rows = tablesOf none none rows none none none none []
+
+-- the second of two roads has a lane twice, not side by side; the lanes are absent
+repeated : faultOf 9 (roads (2 ∷ 1 ∷ 0 ∷ 0 ∷ 2 ∷ 8 ∷ 7 ∷ zeros 62 ++ (2 ∷ 0 ∷ 0 ∷ 3 ∷ 7 ∷ 8 ∷ 7 ∷ zeros 61))) ≡ record { clause = 11; table = 2; row = 1 }
+unfolding faultOf countsFault rowsFault idsFault rowFaults tieFaults earlier faultIn firstFalse rises risesFrom rowPasses roadPasses listNamed roadGood has distinct all reads keys rows spans allClear each none zeros roads
+repeated = refl
+
+-- one that the counter has yet to allocate is told first
+repeated-ahead : faultOf 8 (roads (1 ∷ 1 ∷ 0 ∷ 0 ∷ 3 ∷ 7 ∷ 8 ∷ 7 ∷ zeros 61)) ≡ record { clause = 5; table = 2; row = 0 }
+unfolding faultOf countsFault rowsFault idsFault rowFaults tieFaults earlier faultIn firstFalse rises risesFrom rowPasses roadPasses listNamed roadGood has distinct all reads keys rows spans allClear each none zeros roads
+repeated-ahead = refl
