@@ -12,6 +12,7 @@ pub mod Part
 pub mod Leaving
 pub mod RemoveLinks
 pub mod Once
+pub mod Turns
 pub mod OnceRows
 pub mod Remove
 pub mod Order
