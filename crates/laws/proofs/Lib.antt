@@ -14,6 +14,7 @@ pub mod RemoveLinks
 pub mod Once
 pub mod Turns
 pub mod OnceRows
+pub mod TurnsRows
 pub mod Remove
 pub mod Order
 pub mod Entities
