@@ -15,7 +15,8 @@ use Rattle.lists.proofs.Booleans.{neither}
 use Rattle.lists.proofs.Every.{all-tail}
 use Rattle.entities.specs.Records.{Map}
 use Rattle.rules.specs.Names.{Point2}
-use Rattle.rules.specs.Split.{LanePlan, Piece, halves, cameFrom, swapFirst, onSecond, follow-all, secondHalves, pieceIds, piecesIds, newPiece, newPieces, cutMap}
+use Rattle.rules.specs.Split.{LanePlan, Piece, halves, cameFrom, onSecond, secondHalves, pieceIds, piecesIds, newPiece, newPieces, cutMap}
+use Rattle.rules.specs.Turns.{swapFirst, follow-all}
 use Rattle.laws.proofs.KeptRows.{keep-on}
 use Rattle.laws.proofs.Links.{eqb-swap}
 use Rattle.follows.proofs.Places.{has-place, swap-length}
