@@ -1,9 +1,9 @@
 -- The lists of ids of roads, junctions and rules after a split fit where the tests of numbers say so. Assumes nothing.
-use mathlib.Core.Path.{_≡_, refl, sym, ap, _∙_}
+use mathlib.Core.Path.{_≡_, refl, ap, _∙_}
 use Prim.Native.Nat.{ℕ, zero, suc, _+_, _*_, _≤_, _<_}
 use native.Mathlib.Omega.{arith}
 use mathlib.Core.Bool.{Bool, true, false, not, _&&_, cond}
-use mathlib.Core.List.{List, [], _∷_, map}
+use mathlib.Core.List.{List, [], map}
 use mathlib.Core.Option.{Option, none, some}
 use lib.Dec.{eqb, leb}
 use lib.Ieee.{Float}
@@ -33,7 +33,7 @@ use Rattle.store.proofs.Rows.{passing}
 use Rattle.lookup.specs.Lookup.{rowAt}
 use Rattle.split_named.proofs.Grown.{rows-room}
 use Rattle.split_named.proofs.Words.{isSome, cutIds, below}
-use Rattle.split_room.specs.Fitting.{listFits, namedOf, ownFits, ruleFits, rulesFit}
+use Rattle.split_room.specs.Fitting.{listFits, ownFits, ruleFits, rulesFit}
 use Rattle.split_limits.proofs.Lengths.{grown-many, own-added, own-same}
 
 -- two tests that agree on rows that pass a third
