@@ -8,11 +8,11 @@ use lib.ListN.{length, take, drop}
 use lib.Ieee.{Float}
 use Rattle.lists.specs.Every.{all}
 use Rattle.lists.specs.Rows.{keys}
-use Rattle.lists.specs.Select.{ascending}
+use Rattle.lists.specs.Select.{ascending, distinct}
 use Rattle.lists.proofs.Booleans.{and-fst, and-snd}
 use Rattle.geometry.specs.Point.{inReach}
 use Rattle.entities.specs.Records.{Line, Map}
-use Rattle.rules.specs.Sound.{lastCounter, handleWidth, speedLegal, sound, withinLimits, counterAbove, linesInReach, kindsLegal, handlesLegal, linksAscend, idsAscend, pointCount, idLists, lines, optionalLine, laneNames, ruleNames, ruleLegal}
+use Rattle.rules.specs.Sound.{lastCounter, handleWidth, speedLegal, sound, withinLimits, counterAbove, linesInReach, kindsLegal, handlesLegal, linksAscend, repeatFree, idsAscend, pointCount, idLists, lines, optionalLine, laneNames, ruleNames, ruleLegal}
 use Rattle.rules.proofs.Facts.{Sound, sound-facts}
 use Rattle.tables.specs.View.{Tables, word, lineAt, rows, view, laneOf, boundaryOf, roadOf, junctionOf, ruleOf, stopLineOf, crosswalkOf}
 use Rattle.tables.specs.Formed.{spanAt, centerSpan, stored, counted, spans, allClear, formed, soundTables, laneFormed, ruleFormed}
@@ -180,6 +180,18 @@ ascend-of : (t : Tables) → linksAscend (view t) ≡ true → all (λ l. ascend
 unfolding linksAscend view
 ascend-of t h = h
 
+record Once (t : Tables) : Type 0 where
+  roads : all (λ r. distinct (r .lanes)) (rows 68 roadOf (t .roads)) ≡ true
+  junctions : all (λ j. distinct (j .lanes)) (rows 69 junctionOf (t .junctions)) ≡ true
+  rules : all (λ r. distinct (r .lanes) && distinct (r .priority) && distinct (r .yielding)) (rows 330 ruleOf (t .rules)) ≡ true
+
+once-of : (t : Tables) → repeatFree (view t) ≡ true → Once t
+unfolding repeatFree view
+once-of t h =
+    let (a, b, c) = and3 (all (λ r. distinct (r .lanes)) (rows 68 roadOf (t .roads))) (all (λ j. distinct (j .lanes)) (rows 69 junctionOf (t .junctions)))
+    (all (λ r. distinct (r .lanes) && distinct (r .priority) && distinct (r .yielding)) (rows 330 ruleOf (t .rules))) h in
+    record { roads = a; junctions = b; rules = c }
+
 near-of : (t : Tables) → linesInReach (view t) ≡ true → Columns t (all inReach)
 unfolding linesInReach
 near-of t h = columns t (all inReach) h
@@ -198,6 +210,7 @@ sound-tested counter t small held h =
     let ks = kinds-of t (sf .kinds) in
     let hs = handles-of t (sf .handles) in
     let ns = names-of counter t small held (sf .counter-above) in
+    let on = once-of t (sf .once) in
     let st = stored-columns t (fp .store) in
     let sh = columns t (λ x. leb (length x) 256) (lim .short) in
     let nr = near-of t (sf .reach) in
@@ -209,9 +222,9 @@ sound-tested counter t small held h =
           (record { formed = fp .lanes; kinds = ks .lanes; handles = hs .lanes; named = ns .lanes; ascend = ascend-of t (sf .links-ascend); store = st .lanes; short = sh .lanes; near = nr .lanes });
       boundaries = parts-boundary most c (t .boundaries) (held .boundaries)
           (record { kinds = ks .boundaries; handles = hs .boundaries; named = ns .boundaries; lines = parts-line c 5 2 (t .boundaries) (record { store = st .boundaries; short = sh .boundaries; near = nr .boundaries }) });
-      roads = parts-road most (t .roads) (held .roads) (record { formed = fp .roads; handles = hs .roads; named = ns .roads });
-      junctions = parts-junction most (t .junctions) (held .junctions) (record { formed = fp .junctions; handles = hs .junctions; named = ns .junctions });
-      rules = parts-rule most (t .rules) (held .rules) (record { formed = fp .rules; kinds = ks .rules; handles = hs .rules; named = ns .rules });
+      roads = parts-road most (t .roads) (held .roads) (record { formed = fp .roads; handles = hs .roads; named = ns .roads; once = on .roads });
+      junctions = parts-junction most (t .junctions) (held .junctions) (record { formed = fp .junctions; handles = hs .junctions; named = ns .junctions; once = on .junctions });
+      rules = parts-rule most (t .rules) (held .rules) (record { formed = fp .rules; kinds = ks .rules; handles = hs .rules; named = ns .rules; once = on .rules });
       stop-lines = parts-stop-line most c (t .stop-lines) (held .stop-lines)
           (record { handles = hs .stop-lines; named = ns .stop-lines; lines = parts-line c 4 1 (t .stop-lines) (record { store = st .stop-lines; short = sh .stop-lines; near = nr .stop-lines }) });
       crosswalks = parts-crosswalk most c (t .crosswalks) (held .crosswalks)

@@ -10,6 +10,7 @@ use lib.ListN.{length, take, drop}
 use lib.Ieee.{Float}
 use borrow.Author.Tests.{leb-true, le-leb, eqb-true, eq-eqb}
 use Rattle.lists.specs.Every.{all}
+use Rattle.lists.specs.Select.{distinct}
 use Rattle.lists.proofs.Every.{all-split}
 use Rattle.lists.proofs.Booleans.{and-both, and-fst, and-snd, same-test}
 use Rattle.geometry.specs.Point.{inReach}
@@ -18,7 +19,7 @@ use Rattle.rules.specs.Sound.{handleWidth, optionalId, ruleNames, ruleLegal, ha
 use Rattle.tables.specs.View.{word, idsAt, idsWhere, lineAt, ruleOf}
 use Rattle.tables.specs.Formed.{Span, spanAt, stored, ruleFormed}
 use Rattle.row_tests.specs.Good.{lineGood, idsGood, handleGood, boundaryGood, roadGood, junctionGood, ruleNumbers, ruleLists, ruleGood, stopLineGood, crosswalkGood}
-use Rattle.soundness.proofs.Pointwise.{and3, and5, line-same}
+use Rattle.soundness.proofs.Pointwise.{and3, and4, and5, line-same}
 
 -- what the definition asks of a line: in the store, not too long, within reach
 abbrev pub lineAsked : List Float → ℕ → List ℕ → Bool
@@ -81,42 +82,47 @@ crosswalk-same most c w =
 -- ---- roads and junctions
 
 abbrev pub roadAsked : ℕ → List ℕ → Bool
-roadAsked most w = leb (word 3 w) 64 && (ltb (word 1 w) handleWidth && ltb (word 2 w) handleWidth) && all (λ i. leb i most) (word 0 w ∷ idsAt 3 w)
+roadAsked most w =
+    leb (word 3 w) 64
+    && (ltb (word 1 w) handleWidth && ltb (word 2 w) handleWidth)
+    && all (λ i. leb i most) (word 0 w ∷ idsAt 3 w)
+    && distinct (idsAt 3 w)
 
 pub road-same : (most : ℕ) (w : List ℕ) → roadGood most w ≡ roadAsked most w
 unfolding roadGood all
-road-same most w = turn (leb (word 0 w) most) (handleGood (word 1 w)) (handleGood (word 2 w)) (leb (word 3 w) 64) (idsGood most (idsAt 3 w))
+road-same most w =
+    turn (leb (word 0 w) most) (handleGood (word 1 w)) (handleGood (word 2 w)) (leb (word 3 w) 64) (idsGood most (idsAt 3 w)) (distinct (idsAt 3 w))
   where
-    turn : (a b d e f : Bool) → (a && b && d && e && f) ≡ (e && (b && d) && (a && f))
-    turn true true true true f = refl
-    turn true true true false f = refl
-    turn true true false true f = refl
-    turn true true false false f = refl
-    turn true false d true f = refl
-    turn true false d false f = refl
-    turn false true true true f = refl
-    turn false true true false f = refl
-    turn false true false true f = refl
-    turn false true false false f = refl
-    turn false false d true f = refl
-    turn false false d false f = refl
+    turn : (a b d e f o : Bool) → (a && b && d && e && (f && o)) ≡ (e && (b && d) && (a && f) && o)
+    turn a b d e f o =
+        same-test (a && b && d && e && (f && o)) (e && (b && d) && (a && f) && o)
+        (λ h.
+        let (p, q, r, s, t) = and5 a b d e (f && o) h in
+        rw (p, q, r, s, and-fst f o t, and-snd f o t))
+        (λ h.
+        let (p, q, r, s) = and4 e (b && d) (a && f) o h in
+        rw (p, and-fst b d q, and-snd b d q, and-fst a f r, and-snd a f r, s))
 
 abbrev pub junctionAsked : ℕ → List ℕ → Bool
 junctionAsked most w =
-    leb (word 4 w) 64 && (ltb (word 1 w) handleWidth && ltb (word 2 w) handleWidth && ltb (word 3 w) handleWidth) && all (λ i. leb i most) (word 0 w ∷ idsAt 4 w)
+    leb (word 4 w) 64
+    && (ltb (word 1 w) handleWidth && ltb (word 2 w) handleWidth && ltb (word 3 w) handleWidth)
+    && all (λ i. leb i most) (word 0 w ∷ idsAt 4 w)
+    && distinct (idsAt 4 w)
 
 pub junction-same : (most : ℕ) (w : List ℕ) → junctionGood most w ≡ junctionAsked most w
 unfolding junctionGood all
 junction-same most w =
-    turn (leb (word 0 w) most) (handleGood (word 1 w)) (handleGood (word 2 w)) (handleGood (word 3 w)) (leb (word 4 w) 64) (idsGood most (idsAt 4 w))
+    turn (leb (word 0 w) most) (handleGood (word 1 w)) (handleGood (word 2 w)) (handleGood (word 3 w)) (leb (word 4 w) 64) (idsGood most (idsAt 4 w)) (distinct (idsAt 4 w))
   where
-    turn : (a b d g e f : Bool) → (a && b && d && g && e && f) ≡ (e && (b && d && g) && (a && f))
-    turn a b d g e f =
-        same-test (a && b && d && g && e && f) (e && (b && d && g) && (a && f))
+    turn : (a b d g e f o : Bool) → (a && b && d && g && e && (f && o)) ≡ (e && (b && d && g) && (a && f) && o)
+    turn a b d g e f o =
+        same-test (a && b && d && g && e && (f && o)) (e && (b && d && g) && (a && f) && o)
         (λ h.
-        let (p, q, r, s, t) = and5 a b d g e (and-fst (a && b && d && g && e) f h) in
-        rw (p, q, r, s, t, and-snd (a && b && d && g && e) f h))
+        let (p, q, r, s, t) = and5 a b d g e (and-fst (a && b && d && g && e) (f && o) h) in
+        let u = and-snd (a && b && d && g && e) (f && o) h in
+        rw (p, q, r, s, t, and-fst f o u, and-snd f o u))
         (λ h.
-        let (p, q, r) = and3 e (b && d && g) (a && f) h in
+        let (p, q, r, s) = and4 e (b && d && g) (a && f) o h in
         let (x, y, z) = and3 b d g q in
-        rw (p, x, y, z, and-fst a f r, and-snd a f r))
+        rw (p, x, y, z, and-fst a f r, and-snd a f r, s))

@@ -8,15 +8,15 @@ use lib.ListN.{length, take, drop}
 use lib.Ieee.{Float}
 use borrow.Author.Tests.{leb-true}
 use Rattle.lists.specs.Every.{all}
-use Rattle.lists.specs.Select.{ascending}
+use Rattle.lists.specs.Select.{ascending, distinct}
 use Rattle.lists.proofs.Booleans.{and-both, and-fst, and-snd, same-test}
 use Rattle.geometry.specs.Point.{inReach}
 use Rattle.rules.specs.Sound.{handleWidth, optionalLine, speedLegal, laneNames, ruleNames, ruleLegal}
 use Rattle.tables.specs.View.{word, idsAt, optionAt, optionLineAt, lineAt, rows, laneOf, boundaryOf, roadOf, junctionOf, ruleOf, stopLineOf, crosswalkOf}
 use Rattle.tables.specs.Formed.{Span, spanAt, centerSpan, stored, counted, laneFormed, ruleFormed}
 use Rattle.row_tests.specs.Good.{allRows, laneGood, boundaryGood, roadGood, junctionGood, ruleGood, stopLineGood, crosswalkGood}
-use Rattle.soundness.proofs.Rows.{all-rows, rows-and, rows-three, rows-four, rows-six, rows-weaken}
-use Rattle.soundness.proofs.Pointwise.{ok, and3, and5, laneAsked, lane-same}
+use Rattle.soundness.proofs.Rows.{all-rows, rows-and, rows-three, rows-four, rows-five, rows-six, rows-weaken}
+use Rattle.soundness.proofs.Pointwise.{ok, and3, and4, and5, laneAsked, lane-same}
 use Rattle.soundness.proofs.Others.{lineAsked, boundaryAsked, boundary-same, stopLineAsked, stop-line-same, crosswalkAsked, crosswalk-same, roadAsked, road-same, junctionAsked, junction-same}
 use Rattle.soundness.proofs.Rules.{ruleAsked, rule-same}
 
@@ -209,28 +209,33 @@ module _ (most : ℕ) (t : List ℕ) where
     pub formed : allRows 68 (λ w. leb (word 3 w) 64) t ≡ true
     pub handles : all (λ r. ltb (r .name) handleWidth && ltb (r .attributes) handleWidth) (rows 68 roadOf t) ≡ true
     pub named : all (λ r. all (λ i. leb i most) (r .id ∷ r .lanes)) (rows 68 roadOf t) ≡ true
+    pub once : all (λ r. distinct (r .lanes)) (rows 68 roadOf t) ≡ true
 
   pub road-parts : Held 256 68 t → allRows 68 (roadGood most) t ≡ true → RoadParts
   unfolding roadOf
   road-parts held g =
       let a = sym (rows-same 256 68 (roadGood most) (roadAsked most) t held (λ w n o. road-same most w)) ∙ g in
-      let b = sym (rows-three 68 (λ w. leb (word 3 w) 64) (λ w. ltb (word 1 w) handleWidth && ltb (word 2 w) handleWidth) (λ w. all (λ i. leb i most) (word 0 w ∷ idsAt 3 w)) t) ∙ a in
-      let h3 = and-snd (allRows 68 (λ w. leb (word 3 w) 64) t && allRows 68 (λ w. ltb (word 1 w) handleWidth && ltb (word 2 w) handleWidth) t) (allRows 68 (λ w. all (λ i. leb i most) (word 0 w ∷ idsAt 3 w)) t) b in
-      let l3 = and-fst (allRows 68 (λ w. leb (word 3 w) 64) t && allRows 68 (λ w. ltb (word 1 w) handleWidth && ltb (word 2 w) handleWidth) t) (allRows 68 (λ w. all (λ i. leb i most) (word 0 w ∷ idsAt 3 w)) t) b in
-      let h2 = and-snd (allRows 68 (λ w. leb (word 3 w) 64) t) (allRows 68 (λ w. ltb (word 1 w) handleWidth && ltb (word 2 w) handleWidth) t) l3 in
-      let l2 = and-fst (allRows 68 (λ w. leb (word 3 w) 64) t) (allRows 68 (λ w. ltb (word 1 w) handleWidth && ltb (word 2 w) handleWidth) t) l3 in
+      let (f, h, n, o) = and4 _ _ _ _ (sym (rows-four 68 (λ w. leb (word 3 w) 64) (λ w. ltb (word 1 w) handleWidth && ltb (word 2 w) handleWidth)
+      (λ w. all (λ i. leb i most) (word 0 w ∷ idsAt 3 w)) (λ w. distinct (idsAt 3 w)) t) ∙ a) in
       record {
-        formed = l2;
-        handles = all-rows 68 roadOf (λ r. ltb (r .name) handleWidth && ltb (r .attributes) handleWidth) t ∙ h2;
-        named = all-rows 68 roadOf (λ r. all (λ i. leb i most) (r .id ∷ r .lanes)) t ∙ h3;
+        formed = f;
+        handles = all-rows 68 roadOf (λ r. ltb (r .name) handleWidth && ltb (r .attributes) handleWidth) t ∙ h;
+        named = all-rows 68 roadOf (λ r. all (λ i. leb i most) (r .id ∷ r .lanes)) t ∙ n;
+        once = all-rows 68 roadOf (λ r. distinct (r .lanes)) t ∙ o;
       }
 
   pub parts-road : Held 256 68 t → RoadParts → allRows 68 (roadGood most) t ≡ true
   unfolding roadOf
   parts-road held p =
       rows-same 256 68 (roadGood most) (roadAsked most) t held (λ w n o. road-same most w)
-      ∙ (rows-three 68 (λ w. leb (word 3 w) 64) (λ w. ltb (word 1 w) handleWidth && ltb (word 2 w) handleWidth) (λ w. all (λ i. leb i most) (word 0 w ∷ idsAt 3 w)) t
-      ∙ (and-both (allRows 68 (λ w. leb (word 3 w) 64) t && allRows 68 (λ w. ltb (word 1 w) handleWidth && ltb (word 2 w) handleWidth) t) (allRows 68 (λ w. all (λ i. leb i most) (word 0 w ∷ idsAt 3 w)) t) (and-both (allRows 68 (λ w. leb (word 3 w) 64) t) (allRows 68 (λ w. ltb (word 1 w) handleWidth && ltb (word 2 w) handleWidth) t) (p .formed) (sym (all-rows 68 roadOf (λ r. ltb (r .name) handleWidth && ltb (r .attributes) handleWidth) t) ∙ p .handles)) (sym (all-rows 68 roadOf (λ r. all (λ i. leb i most) (r .id ∷ r .lanes)) t) ∙ p .named)))
+      ∙ (rows-four 68 (λ w. leb (word 3 w) 64) (λ w. ltb (word 1 w) handleWidth && ltb (word 2 w) handleWidth)
+      (λ w. all (λ i. leb i most) (word 0 w ∷ idsAt 3 w)) (λ w. distinct (idsAt 3 w)) t
+      ∙ rw (
+        p .formed,
+        sym (all-rows 68 roadOf (λ r. ltb (r .name) handleWidth && ltb (r .attributes) handleWidth) t) ∙ p .handles,
+        sym (all-rows 68 roadOf (λ r. all (λ i. leb i most) (r .id ∷ r .lanes)) t) ∙ p .named,
+        sym (all-rows 68 roadOf (λ r. distinct (r .lanes)) t) ∙ p .once,
+      ))
 
 -- ---- junctions
 
@@ -239,28 +244,33 @@ module _ (most : ℕ) (t : List ℕ) where
     pub formed : allRows 69 (λ w. leb (word 4 w) 64) t ≡ true
     pub handles : all (λ j. ltb (j .name) handleWidth && ltb (j .outline) handleWidth && ltb (j .attributes) handleWidth) (rows 69 junctionOf t) ≡ true
     pub named : all (λ j. all (λ i. leb i most) (j .id ∷ j .lanes)) (rows 69 junctionOf t) ≡ true
+    pub once : all (λ j. distinct (j .lanes)) (rows 69 junctionOf t) ≡ true
 
   pub junction-parts : Held 256 69 t → allRows 69 (junctionGood most) t ≡ true → JunctionParts
   unfolding junctionOf
   junction-parts held g =
       let a = sym (rows-same 256 69 (junctionGood most) (junctionAsked most) t held (λ w n o. junction-same most w)) ∙ g in
-      let b = sym (rows-three 69 (λ w. leb (word 4 w) 64) (λ w. ltb (word 1 w) handleWidth && ltb (word 2 w) handleWidth && ltb (word 3 w) handleWidth) (λ w. all (λ i. leb i most) (word 0 w ∷ idsAt 4 w)) t) ∙ a in
-      let h3 = and-snd (allRows 69 (λ w. leb (word 4 w) 64) t && allRows 69 (λ w. ltb (word 1 w) handleWidth && ltb (word 2 w) handleWidth && ltb (word 3 w) handleWidth) t) (allRows 69 (λ w. all (λ i. leb i most) (word 0 w ∷ idsAt 4 w)) t) b in
-      let l3 = and-fst (allRows 69 (λ w. leb (word 4 w) 64) t && allRows 69 (λ w. ltb (word 1 w) handleWidth && ltb (word 2 w) handleWidth && ltb (word 3 w) handleWidth) t) (allRows 69 (λ w. all (λ i. leb i most) (word 0 w ∷ idsAt 4 w)) t) b in
-      let h2 = and-snd (allRows 69 (λ w. leb (word 4 w) 64) t) (allRows 69 (λ w. ltb (word 1 w) handleWidth && ltb (word 2 w) handleWidth && ltb (word 3 w) handleWidth) t) l3 in
-      let l2 = and-fst (allRows 69 (λ w. leb (word 4 w) 64) t) (allRows 69 (λ w. ltb (word 1 w) handleWidth && ltb (word 2 w) handleWidth && ltb (word 3 w) handleWidth) t) l3 in
+      let (f, h, n, o) = and4 _ _ _ _ (sym (rows-four 69 (λ w. leb (word 4 w) 64) (λ w. ltb (word 1 w) handleWidth && ltb (word 2 w) handleWidth && ltb (word 3 w) handleWidth)
+      (λ w. all (λ i. leb i most) (word 0 w ∷ idsAt 4 w)) (λ w. distinct (idsAt 4 w)) t) ∙ a) in
       record {
-        formed = l2;
-        handles = all-rows 69 junctionOf (λ j. ltb (j .name) handleWidth && ltb (j .outline) handleWidth && ltb (j .attributes) handleWidth) t ∙ h2;
-        named = all-rows 69 junctionOf (λ j. all (λ i. leb i most) (j .id ∷ j .lanes)) t ∙ h3;
+        formed = f;
+        handles = all-rows 69 junctionOf (λ j. ltb (j .name) handleWidth && ltb (j .outline) handleWidth && ltb (j .attributes) handleWidth) t ∙ h;
+        named = all-rows 69 junctionOf (λ j. all (λ i. leb i most) (j .id ∷ j .lanes)) t ∙ n;
+        once = all-rows 69 junctionOf (λ j. distinct (j .lanes)) t ∙ o;
       }
 
   pub parts-junction : Held 256 69 t → JunctionParts → allRows 69 (junctionGood most) t ≡ true
   unfolding junctionOf
   parts-junction held p =
       rows-same 256 69 (junctionGood most) (junctionAsked most) t held (λ w n o. junction-same most w)
-      ∙ (rows-three 69 (λ w. leb (word 4 w) 64) (λ w. ltb (word 1 w) handleWidth && ltb (word 2 w) handleWidth && ltb (word 3 w) handleWidth) (λ w. all (λ i. leb i most) (word 0 w ∷ idsAt 4 w)) t
-      ∙ (and-both (allRows 69 (λ w. leb (word 4 w) 64) t && allRows 69 (λ w. ltb (word 1 w) handleWidth && ltb (word 2 w) handleWidth && ltb (word 3 w) handleWidth) t) (allRows 69 (λ w. all (λ i. leb i most) (word 0 w ∷ idsAt 4 w)) t) (and-both (allRows 69 (λ w. leb (word 4 w) 64) t) (allRows 69 (λ w. ltb (word 1 w) handleWidth && ltb (word 2 w) handleWidth && ltb (word 3 w) handleWidth) t) (p .formed) (sym (all-rows 69 junctionOf (λ j. ltb (j .name) handleWidth && ltb (j .outline) handleWidth && ltb (j .attributes) handleWidth) t) ∙ p .handles)) (sym (all-rows 69 junctionOf (λ j. all (λ i. leb i most) (j .id ∷ j .lanes)) t) ∙ p .named)))
+      ∙ (rows-four 69 (λ w. leb (word 4 w) 64) (λ w. ltb (word 1 w) handleWidth && ltb (word 2 w) handleWidth && ltb (word 3 w) handleWidth)
+      (λ w. all (λ i. leb i most) (word 0 w ∷ idsAt 4 w)) (λ w. distinct (idsAt 4 w)) t
+      ∙ rw (
+        p .formed,
+        sym (all-rows 69 junctionOf (λ j. ltb (j .name) handleWidth && ltb (j .outline) handleWidth && ltb (j .attributes) handleWidth) t) ∙ p .handles,
+        sym (all-rows 69 junctionOf (λ j. all (λ i. leb i most) (j .id ∷ j .lanes)) t) ∙ p .named,
+        sym (all-rows 69 junctionOf (λ j. distinct (j .lanes)) t) ∙ p .once,
+      ))
 
 -- ---- rules
 
@@ -270,28 +280,32 @@ module _ (most : ℕ) (t : List ℕ) where
     pub kinds : all ruleLegal (rows 330 ruleOf t) ≡ true
     pub handles : all (λ r. ltb (r .content) handleWidth && ltb (r .attributes) handleWidth) (rows 330 ruleOf t) ≡ true
     pub named : all (λ r. all (λ i. leb i most) (ruleNames r)) (rows 330 ruleOf t) ≡ true
+    pub once : all (λ r. distinct (r .lanes) && distinct (r .priority) && distinct (r .yielding)) (rows 330 ruleOf t) ≡ true
 
   pub rule-parts : Held 512 330 t → allRows 330 (ruleGood most) t ≡ true → RuleParts
   unfolding ruleOf
   rule-parts held g =
       let a = sym (rows-same 512 330 (ruleGood most) (ruleAsked most) t held (λ w n o. rule-same most w n)) ∙ g in
-      let b = sym (rows-four 330 ruleFormed (λ w. ruleLegal (ruleOf w)) (λ w. ltb (ruleOf w .content) handleWidth && ltb (ruleOf w .attributes) handleWidth) (λ w. all (λ i. leb i most) (ruleNames (ruleOf w))) t) ∙ a in
-      let h4 = and-snd (allRows 330 ruleFormed t && allRows 330 (λ w. ruleLegal (ruleOf w)) t && allRows 330 (λ w. ltb (ruleOf w .content) handleWidth && ltb (ruleOf w .attributes) handleWidth) t) (allRows 330 (λ w. all (λ i. leb i most) (ruleNames (ruleOf w))) t) b in
-      let l4 = and-fst (allRows 330 ruleFormed t && allRows 330 (λ w. ruleLegal (ruleOf w)) t && allRows 330 (λ w. ltb (ruleOf w .content) handleWidth && ltb (ruleOf w .attributes) handleWidth) t) (allRows 330 (λ w. all (λ i. leb i most) (ruleNames (ruleOf w))) t) b in
-      let h3 = and-snd (allRows 330 ruleFormed t && allRows 330 (λ w. ruleLegal (ruleOf w)) t) (allRows 330 (λ w. ltb (ruleOf w .content) handleWidth && ltb (ruleOf w .attributes) handleWidth) t) l4 in
-      let l3 = and-fst (allRows 330 ruleFormed t && allRows 330 (λ w. ruleLegal (ruleOf w)) t) (allRows 330 (λ w. ltb (ruleOf w .content) handleWidth && ltb (ruleOf w .attributes) handleWidth) t) l4 in
-      let h2 = and-snd (allRows 330 ruleFormed t) (allRows 330 (λ w. ruleLegal (ruleOf w)) t) l3 in
-      let l2 = and-fst (allRows 330 ruleFormed t) (allRows 330 (λ w. ruleLegal (ruleOf w)) t) l3 in
+      let (f, k, h, n, o) = and5 _ _ _ _ _ (sym (rows-five 330 ruleFormed (λ w. ruleLegal (ruleOf w)) (λ w. ltb (ruleOf w .content) handleWidth && ltb (ruleOf w .attributes) handleWidth)
+      (λ w. all (λ i. leb i most) (ruleNames (ruleOf w))) (λ w. distinct (ruleOf w .lanes) && distinct (ruleOf w .priority) && distinct (ruleOf w .yielding)) t) ∙ a) in
       record {
-        formed = l2;
-        kinds = all-rows 330 ruleOf ruleLegal t ∙ h2;
-        handles = all-rows 330 ruleOf (λ r. ltb (r .content) handleWidth && ltb (r .attributes) handleWidth) t ∙ h3;
-        named = all-rows 330 ruleOf (λ r. all (λ i. leb i most) (ruleNames r)) t ∙ h4;
+        formed = f;
+        kinds = all-rows 330 ruleOf ruleLegal t ∙ k;
+        handles = all-rows 330 ruleOf (λ r. ltb (r .content) handleWidth && ltb (r .attributes) handleWidth) t ∙ h;
+        named = all-rows 330 ruleOf (λ r. all (λ i. leb i most) (ruleNames r)) t ∙ n;
+        once = all-rows 330 ruleOf (λ r. distinct (r .lanes) && distinct (r .priority) && distinct (r .yielding)) t ∙ o;
       }
 
   pub parts-rule : Held 512 330 t → RuleParts → allRows 330 (ruleGood most) t ≡ true
   unfolding ruleOf
   parts-rule held p =
       rows-same 512 330 (ruleGood most) (ruleAsked most) t held (λ w n o. rule-same most w n)
-      ∙ (rows-four 330 ruleFormed (λ w. ruleLegal (ruleOf w)) (λ w. ltb (ruleOf w .content) handleWidth && ltb (ruleOf w .attributes) handleWidth) (λ w. all (λ i. leb i most) (ruleNames (ruleOf w))) t
-      ∙ (and-both (allRows 330 ruleFormed t && allRows 330 (λ w. ruleLegal (ruleOf w)) t && allRows 330 (λ w. ltb (ruleOf w .content) handleWidth && ltb (ruleOf w .attributes) handleWidth) t) (allRows 330 (λ w. all (λ i. leb i most) (ruleNames (ruleOf w))) t) (and-both (allRows 330 ruleFormed t && allRows 330 (λ w. ruleLegal (ruleOf w)) t) (allRows 330 (λ w. ltb (ruleOf w .content) handleWidth && ltb (ruleOf w .attributes) handleWidth) t) (and-both (allRows 330 ruleFormed t) (allRows 330 (λ w. ruleLegal (ruleOf w)) t) (p .formed) (sym (all-rows 330 ruleOf ruleLegal t) ∙ p .kinds)) (sym (all-rows 330 ruleOf (λ r. ltb (r .content) handleWidth && ltb (r .attributes) handleWidth) t) ∙ p .handles)) (sym (all-rows 330 ruleOf (λ r. all (λ i. leb i most) (ruleNames r)) t) ∙ p .named)))
+      ∙ (rows-five 330 ruleFormed (λ w. ruleLegal (ruleOf w)) (λ w. ltb (ruleOf w .content) handleWidth && ltb (ruleOf w .attributes) handleWidth)
+      (λ w. all (λ i. leb i most) (ruleNames (ruleOf w))) (λ w. distinct (ruleOf w .lanes) && distinct (ruleOf w .priority) && distinct (ruleOf w .yielding)) t
+      ∙ rw (
+        p .formed,
+        sym (all-rows 330 ruleOf ruleLegal t) ∙ p .kinds,
+        sym (all-rows 330 ruleOf (λ r. ltb (r .content) handleWidth && ltb (r .attributes) handleWidth) t) ∙ p .handles,
+        sym (all-rows 330 ruleOf (λ r. all (λ i. leb i most) (ruleNames r)) t) ∙ p .named,
+        sym (all-rows 330 ruleOf (λ r. distinct (r .lanes) && distinct (r .priority) && distinct (r .yielding)) t) ∙ p .once,
+      ))

@@ -31,6 +31,9 @@ use Rattle.row_tests.specs.Good.{lineGood, idsGood, slotGood, handleGood, laneN
 pub and3 : (a b c : Bool) → (a && b && c) ≡ true → (a ≡ true) × (b ≡ true) × (c ≡ true)
 and3 a b c h = let i = and-fst (a && b) c h in (and-fst a b i, and-snd a b i, and-snd (a && b) c h)
 
+pub and4 : (a b c d : Bool) → (a && b && c && d) ≡ true → (a ≡ true) × (b ≡ true) × (c ≡ true) × (d ≡ true)
+and4 a b c d h = let (x, y, z) = and3 a b c (and-fst (a && b && c) d h) in (x, y, z, and-snd (a && b && c) d h)
+
 pub and5 : (a b c d e : Bool) → (a && b && c && d && e) ≡ true → (a ≡ true) × (b ≡ true) × (c ≡ true) × (d ≡ true) × (e ≡ true)
 and5 a b c d e h =
     let i = and-fst (a && b && c && d) e h in

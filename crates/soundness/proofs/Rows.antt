@@ -57,9 +57,11 @@ pub rows-four : (s : ℕ) (p q r u : List ℕ → Bool) (t : List ℕ)
     → allRows s (λ w. p w && q w && r w && u w) t ≡ (allRows s p t && allRows s q t && allRows s r t && allRows s u t)
 rows-four s p q r u t = rows-and s (λ w. p w && q w && r w) u t ∙ ap (λ b. b && allRows s u t) (rows-three s p q r t)
 
+pub rows-five : (s : ℕ) (p q r u v : List ℕ → Bool) (t : List ℕ)
+    → allRows s (λ w. p w && q w && r w && u w && v w) t ≡ (allRows s p t && allRows s q t && allRows s r t && allRows s u t && allRows s v t)
+rows-five s p q r u v t = rows-and s (λ w. p w && q w && r w && u w) v t ∙ ap (λ b. b && allRows s v t) (rows-four s p q r u t)
+
 pub rows-six : (s : ℕ) (p q r u v x : List ℕ → Bool) (t : List ℕ)
     → allRows s (λ w. p w && q w && r w && u w && v w && x w) t
     ≡ (allRows s p t && allRows s q t && allRows s r t && allRows s u t && allRows s v t && allRows s x t)
-rows-six s p q r u v x t =
-    rows-and s (λ w. p w && q w && r w && u w && v w) x t
-    ∙ ap (λ b. b && allRows s x t) (rows-and s (λ w. p w && q w && r w && u w) v t ∙ ap (λ b. b && allRows s v t) (rows-four s p q r u t))
+rows-six s p q r u v x t = rows-and s (λ w. p w && q w && r w && u w && v w) x t ∙ ap (λ b. b && allRows s x t) (rows-five s p q r u v t)

@@ -10,13 +10,14 @@ use lib.ListN.{length, take, drop, length-drop}
 use lib.Seq.{length-take-le}
 use borrow.Author.Tests.{leb-true, le-leb, eqb-true, eq-eqb}
 use Rattle.lists.specs.Every.{all}
+use Rattle.lists.specs.Select.{distinct}
 use Rattle.lists.proofs.Every.{all-split}
 use Rattle.lists.proofs.Booleans.{and-both, and-fst, and-snd, same-test, not-not}
 use Rattle.entities.specs.Records.{Rule}
 use Rattle.rules.specs.Sound.{handleWidth, optionalId, ruleNames, ruleLegal, hasContent, stopLinesFit, given}
 use Rattle.tables.specs.View.{word, idsAt, idsWhere, ruleOf}
 use Rattle.tables.specs.Formed.{ruleFormed}
-use Rattle.row_tests.specs.Good.{idsGood, handleGood, ruleNumbers, ruleLists, ruleGood}
+use Rattle.row_tests.specs.Good.{idsGood, lanesGood, handleGood, ruleNumbers, ruleLists, ruleGood}
 use Rattle.soundness.proofs.Pointwise.{and3, and5}
 
 abbrev pub ruleAsked : ℕ → List ℕ → Bool
@@ -25,6 +26,7 @@ ruleAsked most w =
     && ruleLegal (ruleOf w)
     && (ltb (ruleOf w .content) handleWidth && ltb (ruleOf w .attributes) handleWidth)
     && all (λ i. leb i most) (ruleNames (ruleOf w))
+    && (distinct (ruleOf w .lanes) && distinct (ruleOf w .priority) && distinct (ruleOf w .yielding))
 
 -- ---- a rule's kind
 
@@ -166,13 +168,64 @@ both-ways : (b x y : Bool) → (not b || (x && y)) ≡ ((not b || x) && (not b |
 both-ways true x y = refl
 both-ways false x y = refl
 
+-- ---- no lane twice in a list
+
+-- the names of the lists that the kind has
+abbrev listsNamed : ℕ → List ℕ → Bool
+listsNamed most w =
+    idsGood most (idsAt 5 w)
+    && idsGood most (idsAt 70 w)
+    && (eqb (word 1 w) 5 || idsGood most (idsAt 135 w))
+    && (not (eqb (word 1 w) 3) || (idsGood most (idsAt 200 w) && idsGood most (idsAt 265 w)))
+
+abbrev listsOnce : List ℕ → Bool
+listsOnce w = distinct (idsAt 5 w) && distinct (idsWhere (eqb (word 1 w) 3) 200 w) && distinct (idsWhere (eqb (word 1 w) 3) 265 w)
+
+names-first : (a b c d e p q r : Bool) → (a && p && b && c && (d && q && (e && r))) ≡ (a && b && c && (d && e) && (p && q && r))
+names-first a b c d e p q r =
+    same-test (a && p && b && c && (d && q && (e && r))) (a && b && c && (d && e) && (p && q && r))
+    (λ h.
+    let (t, u, v, x, y) = and5 a p b c (d && q && (e && r)) h in
+    let (i, j, k) = and3 d q (e && r) y in
+    rw (t, u, v, x, i, j, and-fst e r k, and-snd e r k))
+    (λ h.
+    let (t, u, v, x, y) = and5 a b c (d && e) (p && q && r) h in
+    let (i, j, k) = and3 p q r y in
+    rw (t, u, v, and-fst d e x, and-snd d e x, i, j, k))
+
+-- a list that the kind does not have names no lane twice
+lists-once : (most : ℕ) (w : List ℕ) → ruleLists true most w ≡ (listsNamed most w && listsOnce w)
+unfolding ruleLists distinct
+lists-once most w = go (eqb (word 1 w) 3)
+  where
+    a : Bool
+    a = idsGood most (idsAt 5 w)
+
+    b : Bool
+    b = idsGood most (idsAt 70 w)
+
+    c : Bool
+    c = eqb (word 1 w) 5 || idsGood most (idsAt 135 w)
+
+    go : (k : Bool)
+        → (lanesGood true most (idsAt 5 w) && b && c && (not k || (lanesGood true most (idsAt 200 w) && lanesGood true most (idsAt 265 w))))
+        ≡ (a && b && c && (not k || (idsGood most (idsAt 200 w) && idsGood most (idsAt 265 w)))
+        && (distinct (idsAt 5 w) && distinct (idsWhere k 200 w) && distinct (idsWhere k 265 w)))
+    go true =
+        names-first a b c (idsGood most (idsAt 200 w)) (idsGood most (idsAt 265 w)) (distinct (idsAt 5 w)) (distinct (idsAt 200 w)) (distinct (idsAt 265 w))
+    go false = names-first a b c true true (distinct (idsAt 5 w)) true true
+
+-- ---- the rule's row
+
 pub rule-same : (most : ℕ) (w : List ℕ) → length w ≡ 330 → ruleGood most w ≡ ruleAsked most w
-unfolding ruleGood ruleNumbers ruleLists ruleOf
+unfolding ruleGood ruleNumbers ruleOf
 rule-same most w n = go (ruleFormed w) refl
   where
-    inner : ruleFormed w ≡ true
-        → (ruleNumbers most w && ruleLists most w)
-        ≡ (ruleLegal (ruleOf w) && (ltb (ruleOf w .content) handleWidth && ltb (ruleOf w .attributes) handleWidth) && all (λ i. leb i most) (ruleNames (ruleOf w)))
+    named : Bool
+    named =
+        ruleLegal (ruleOf w) && (ltb (ruleOf w .content) handleWidth && ltb (ruleOf w .attributes) handleWidth) && all (λ i. leb i most) (ruleNames (ruleOf w))
+
+    inner : ruleFormed w ≡ true → (ruleNumbers most w && listsNamed most w) ≡ named
     inner f =
         let k = word 1 w in
         let I = leb (word 0 w) most in
@@ -190,7 +243,13 @@ rule-same most w n = go (ruleFormed w) refl
         ∙ (ap (λ t. K && S && (t && H) && all (λ i. leb i most) (ruleNames (ruleOf w))) (sym (handle-same (hasContent k) (word 2 w)))
         ∙ ap (λ t. t && (ltb (ruleOf w .content) handleWidth && ltb (ruleOf w .attributes) handleWidth) && all (λ i. leb i most) (ruleNames (ruleOf w))) (sym (legal-same w n f)))))
 
-    go : (b : Bool) → ruleFormed w ≡ b → (b && ruleNumbers most w && ruleLists most w)
-        ≡ (b && ruleLegal (ruleOf w) && (ltb (ruleOf w .content) handleWidth && ltb (ruleOf w .attributes) handleWidth) && all (λ i. leb i most) (ruleNames (ruleOf w)))
-    go true e = inner e
+    assoc : (x y z : Bool) → (x && (y && z)) ≡ (x && y && z)
+    assoc true y z = refl
+    assoc false y z = refl
+
+    go : (b : Bool) → ruleFormed w ≡ b → (b && ruleNumbers most w && ruleLists true most w)
+        ≡ (b && ruleLegal (ruleOf w) && (ltb (ruleOf w .content) handleWidth && ltb (ruleOf w .attributes) handleWidth) && all (λ i. leb i most) (ruleNames (ruleOf w)) && listsOnce w)
+    go true e =
+        ap (λ t. ruleNumbers most w && t) (lists-once most w)
+        ∙ (assoc (ruleNumbers most w) (listsNamed most w) (listsOnce w) ∙ ap (λ t. t && listsOnce w) (inner e))
     go false e = refl

@@ -14,7 +14,7 @@ use Rattle.lists.specs.Select.{ascending}
 use Rattle.lists.proofs.Booleans.{and-both, and-fst, and-snd}
 use Rattle.geometry.specs.Point.{inReach}
 use Rattle.entities.specs.Records.{Line, Lane, Map}
-use Rattle.rules.specs.Sound.{lastCounter, sound, withinLimits, idsAscend, counterAbove, linesInReach, kindsLegal, handlesLegal, linksAscend, linksReciprocal, neighborsReciprocal, pointCount, idLists, lines, optionalLine}
+use Rattle.rules.specs.Sound.{lastCounter, sound, withinLimits, idsAscend, counterAbove, linesInReach, kindsLegal, handlesLegal, linksAscend, linksReciprocal, neighborsReciprocal, repeatFree, pointCount, idLists, lines, optionalLine}
 use Rattle.rules.proofs.Facts.{Sound, sound-facts, facts-sound}
 use Rattle.tables.specs.View.{Tables, word, idsAt, idsWhere, lineAt, rows, view, laneOf, boundaryOf, roadOf, junctionOf, ruleOf, stopLineOf, crosswalkOf}
 use Rattle.tables.specs.Formed.{Span, spanAt, centerSpan, stored, counted, spans, allClear, formed, soundTables, laneFormed, ruleFormed}
@@ -261,6 +261,10 @@ module _ (counter : ℕ) (t : Tables) (small : counter ≤ lastCounter) (held : 
   unfolding linksAscend view
   ascend-holds p = p .l .ascend
 
+  once-holds : Parts → repeatFree (view t) ≡ true
+  unfolding repeatFree view
+  once-holds p = rw (p .r .once, p .j .once, p .u .once)
+
   pub ids-same : idsAscend (view t)
       ≡ (ascending (keys 52 (word 0 (t .lanes)) (drop 1 (t .lanes))) && ascending (keys 5 (word 0 (t .boundaries)) (drop 1 (t .boundaries)))
       && ascending (keys 68 (word 0 (t .roads)) (drop 1 (t .roads))) && ascending (keys 69 (word 0 (t .junctions)) (drop 1 (t .junctions)))
@@ -295,4 +299,5 @@ module _ (counter : ℕ) (t : Tables) (small : counter ≤ lastCounter) (held : 
         links-ascend = ascend-holds p;
         links = h .links;
         neighbors = h .neighbors;
+        once = once-holds p;
       }))

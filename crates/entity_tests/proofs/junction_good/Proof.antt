@@ -59,24 +59,24 @@ shared-slice-read-end c = search needs
 add-end : tie.Need-add-end
 add-end c = omega (arith, few (c .before))
 
-sub-all-at-most : tie.Need-sub-all-at-most
-sub-all-at-most c = search needs
+sub-lanes-good : tie.Need-sub-lanes-good
+sub-lanes-good c = search needs
 
-part-all-at-most-start : tie.Need-part-all-at-most-start
-part-all-at-most-start c = search needs
+part-lanes-good-start : tie.Need-part-lanes-good-start
+part-lanes-good-start c = search needs
 
-part-all-at-most-end : tie.Need-part-all-at-most-end
-part-all-at-most-end c = omega (arith, few (c .before))
+part-lanes-good-end : tie.Need-part-lanes-good-end
+part-lanes-good-end c = omega (arith, few (c .before))
 
-all-at-most-requires : tie.Need-all-at-most-requires
-all-at-most-requires c κs = search needs
+lanes-good-requires : tie.Need-lanes-good-requires
+lanes-good-requires c κs = search needs
 
 returns : tie.Need-returns
 unfolding junctionGood
 returns c =
     let w = c .before .before .before .before .before .before .before .before .before .before .before .before .before .before .before .before .before .args .w .now in
     let e : 5 + getD w 4 0 - 5 ≡ getD w 4 0 = omega arith in
-    rw (← c .before .before .before .before .before .before .before .before .before .before .before .before .before .handle .ensures, ← c .before .before .before .before .before .before .before .before .before .before .handle2 .ensures, ← c .before .before .before .before .before .before .before .handle3 .ensures, ← c .before .before .before .before .before .before .before .before .before .before .before .before .both .ensures, ← c .before .before .before .before .before .before .before .before .before .both2 .ensures, ← c .before .before .before .before .before .before .both3 .ensures, ← c .before .before .before .before .both4 .ensures, c .before .before .before .if1 .taken, c .all-at-most .ensures, e)
+    rw (← c .before .before .before .before .before .before .before .before .before .before .before .before .before .handle .ensures, ← c .before .before .before .before .before .before .before .before .before .before .handle2 .ensures, ← c .before .before .before .before .before .before .before .handle3 .ensures, ← c .before .before .before .before .before .before .before .before .before .before .before .before .both .ensures, ← c .before .before .before .before .before .before .before .before .before .both2 .ensures, ← c .before .before .before .before .before .before .both3 .ensures, ← c .before .before .before .before .both4 .ensures, c .before .before .before .if1 .taken, c .lanes-good .ensures, e)
 
 returns-2 : tie.Need-returns-2
 unfolding junctionGood
@@ -100,9 +100,9 @@ junction-good-spec =
     both-requires-4
     shared-slice-read-end
     add-end
-    sub-all-at-most
-    part-all-at-most-start
-    part-all-at-most-end
-    all-at-most-requires
+    sub-lanes-good
+    part-lanes-good-start
+    part-lanes-good-end
+    lanes-good-requires
     returns
     returns-2)
