@@ -20,7 +20,7 @@ use Rattle.rules.specs.Split.{LanePlan, Piece, piecesIds, halves, cutStation, c
 use Rattle.rules.specs.Ops as O
 use Rattle.laws.proofs.Lawful.{yields}
 use Rattle.laws.proofs.MergeLawful.{merge-lawful}
-use Rattle.laws.proofs.SplitYield.{cutOf, piecesOf, followed}
+use Rattle.laws.proofs.SplitYield.{cutOf, piecesOf, following}
 use Rattle.laws.proofs.SplitLawful.{split-lawful}
 use Rattle.tables.specs.View.{Tables, view}
 use Rattle.tables.specs.Formed.{soundTables}
@@ -96,7 +96,7 @@ unfolding cut
 cut-beside tol next t i group ps xs =
     let start = next + piecesIds xs in
     let gains = insert-after (halves start ps) in
-    same-beside t _ _ gains gains (followed tol (view t) ps xs start)
+    same-beside t _ _ gains gains (following tol (view t) ps xs start)
 
 module _ (tol : Tolerance) (i : ℕ) (at : SplitAt) (neighbors : Bool) where
   -- the last steps of the definition: each lane of the group, then their boundaries
