@@ -14,7 +14,7 @@ use Rattle.lists.specs.Rows.{over}
 use Rattle.lists.specs.Select.{has}
 use Rattle.lists.proofs.Booleans.{or-left, or-right, and-false}
 use Rattle.lists.proofs.Rows.{store-before, over-front}
-use Rattle.rules.specs.Split.{swapFirst}
+use Rattle.rules.specs.Turns.{swapFirst}
 use Rattle.follows.specs.Following.{firstPlace, pair, followed, followedAll}
 
 module _ (x : ℕ) where

@@ -9,7 +9,7 @@ use lib.Seq.{getD-drop, drop-drop, take-at}
 use borrow.Rule.Slice.PartMut.{midOf, putMid, set-mid-at, mid-len}
 use Rattle.lists.specs.Rows.{over}
 use Rattle.lists.proofs.Rows.{length-over, drop-from-over, take-before-over}
-use Rattle.rules.specs.Split.{swapFirst}
+use Rattle.rules.specs.Turns.{swapFirst}
 use Rattle.tables.specs.View.{word, idsAt}
 use Rattle.store.specs.Rows.{setList}
 use Rattle.store.proofs.Turns.{drop-behind}

@@ -8,7 +8,7 @@ use lib.Dec.{eqb, leb}
 use lib.ListN.{length, getD, take, drop}
 use Rattle.lists.specs.Select.{any, ascending, has, insert-after, numbered}
 use Rattle.rules.specs.Limits.{maxIds, maxRules, rightOfWay}
-use Rattle.rules.specs.Split.{swapFirst}
+use Rattle.rules.specs.Turns.{swapFirst}
 use Rattle.tables.specs.View.{word, idsAt, rows}
 use Rattle.tables.specs.Formed.{counted, ruleFormed}
 use Rattle.tables.specs.Columns.{rowCount, ruleKind, ruleLanesAt, rulePriorityAt, ruleWords, ruleYieldingAt}

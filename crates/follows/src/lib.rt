@@ -7,7 +7,7 @@ ghost use lib.Dec.{leb};
 ghost use lib.ListN.{length, take};
 ghost use Rattle.lists.specs.Rows.{over};
 ghost use Rattle.lists.specs.Select.{any, ascending, has};
-ghost use Rattle.rules.specs.Split.{swapFirst};
+ghost use Rattle.rules.specs.Turns.{swapFirst};
 ghost use Rattle.tables.specs.View.{word, idsAt};
 ghost use Rattle.tables.specs.Formed.{ruleFormed};
 ghost use Rattle.mentions.specs.Naming.{changeAt};

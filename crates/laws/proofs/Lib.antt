@@ -12,7 +12,9 @@ pub mod Part
 pub mod Leaving
 pub mod RemoveLinks
 pub mod Once
+pub mod Turns
 pub mod OnceRows
+pub mod TurnsRows
 pub mod Remove
 pub mod Order
 pub mod Entities

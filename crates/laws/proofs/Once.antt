@@ -16,7 +16,8 @@ use Rattle.lists.proofs.Select.{has-append, has-keep, all-has, all-map, all-wea
 use Rattle.geometry.specs.declared.Point2.{Point2}
 use Rattle.entities.specs.Records.{Map}
 use Rattle.rules.specs.Merge.{read, replace-lane}
-use Rattle.rules.specs.Split.{LanePlan, halves, swapFirst, onSecond, follow, follow-all}
+use Rattle.rules.specs.Split.{LanePlan, halves, onSecond}
+use Rattle.rules.specs.Turns.{swapFirst, followOne, follow-all}
 use Rattle.laws.proofs.Links.{eqb-swap}
 use Rattle.laws.proofs.KeptRows.{below-none}
 
@@ -44,11 +45,11 @@ distinct-keep p (x ∷ xs) d = go (p x) (distinct-keep p xs (distinct-tail x xs 
     go false r = r
 
 -- of a number that a list lacks
-lacks-head : (k x : ℕ) (xs : List ℕ) → has k (x ∷ xs) ≡ false → eqb k x ≡ false
+pub lacks-head : (k x : ℕ) (xs : List ℕ) → has k (x ∷ xs) ≡ false → eqb k x ≡ false
 unfolding has
 lacks-head k x xs h = neither (eqb k x) (has k xs) h .0
 
-lacks-tail : (k x : ℕ) (xs : List ℕ) → has k (x ∷ xs) ≡ false → has k xs ≡ false
+pub lacks-tail : (k x : ℕ) (xs : List ℕ) → has k (x ∷ xs) ≡ false → has k xs ≡ false
 unfolding has
 lacks-tail k x xs h = neither (eqb k x) (has k xs) h .1
 
@@ -166,10 +167,10 @@ later n ids f = record { once = f .once; clear = λ k h. f .clear k (omega arith
 abbrev pub under : ℕ → List LanePlan → Bool
 under n ps = all (λ x. ltb (x .of .id) n) ps
 
-under-more : (n : ℕ) (ps : List LanePlan) → under n ps ≡ true → under (suc n) ps ≡ true
+pub under-more : (n : ℕ) (ps : List LanePlan) → under n ps ≡ true → under (suc n) ps ≡ true
 under-more n ps a = all-weaken (λ x. ltb (x .of .id) n) (λ x. ltb (x .of .id) (suc n)) ps (λ x t. let u = ltb-true (x .of .id) n t in lt-ltb (x .of .id) (suc n) (omega arith)) a
 
-follow-fine : (join : Float) (m : Map) (anchor : Option Point2) (x : LanePlan) (n : ℕ) (ids : List ℕ) → x .of .id < n → Fine n ids → Fine (suc n) (follow join m anchor x n ids)
+pub follow-fine : (join : Float) (m : Map) (anchor : Option Point2) (x : LanePlan) (n : ℕ) (ids : List ℕ) → x .of .id < n → Fine n ids → Fine (suc n) (followOne join m anchor x n ids)
 follow-fine join m none x n ids l f = swap-fine (x .of .id) n (x .of .id ∷ n ∷ []) ids l (stands-both (x .of .id) n (ne-eqb (x .of .id) n (λ e. omega arith))) f
 follow-fine join m (some p) x n ids l f = go (has (x .of .id) ids && onSecond join m x n p)
   where
@@ -177,13 +178,13 @@ follow-fine join m (some p) x n ids l f = go (has (x .of .id) ids && onSecond jo
     go true = swap-fine (x .of .id) n (n ∷ []) ids l (stands-new (x .of .id) n) f
     go false = later n ids f
 
--- A rule's own lanes.
-pub distinct-follow : (join : Float) (m : Map) (anchor : Option Point2) (n : ℕ) (ps : List LanePlan) (ids : List ℕ) → under n ps ≡ true → Fine n ids
+-- A rule's own lanes, one cut lane after the other.
+pub distinct-turns : (join : Float) (m : Map) (anchor : Option Point2) (n : ℕ) (ps : List LanePlan) (ids : List ℕ) → under n ps ≡ true → Fine n ids
     → distinct (follow-all join m anchor n ps ids) ≡ true
 unfolding follow-all
-distinct-follow join m anchor n [] ids a f = f .once
-distinct-follow join m anchor n (x ∷ ps) ids a f =
-    distinct-follow join m anchor (suc n) ps (follow join m anchor x n ids) (under-more n ps (all-tail (λ y. ltb (y .of .id) n) x ps a))
+distinct-turns join m anchor n [] ids a f = f .once
+distinct-turns join m anchor n (x ∷ ps) ids a f =
+    distinct-turns join m anchor (suc n) ps (followOne join m anchor x n ids) (under-more n ps (all-tail (λ y. ltb (y .of .id) n) x ps a))
     (follow-fine join m anchor x n ids (ltb-true (x .of .id) n (all-head (λ y. ltb (y .of .id) n) x ps a)) f)
 
 -- ---- the second half after each first: on a list without repeats it is what becomes of a rule's own lanes without an anchor
@@ -216,28 +217,40 @@ after-swap x y (z ∷ zs) d = go (eqb z x) refl (after-swap x y zs (distinct-tai
 abbrev pub cutIds : List LanePlan → List ℕ
 cutIds ps = map (λ x. x .of .id) ps
 
+-- no later lane is the first, and none is new
+pub later-lacks : (i : ℕ) (ps : List LanePlan) → above i (cutIds ps) ≡ true → has i (cutIds ps) ≡ false
+later-lacks i ps up = below-none i (cutIds ps) (above-all i (cutIds ps) up)
+
+pub under-lacks : (n : ℕ) (ps : List LanePlan) → under n ps ≡ true → has n (cutIds ps) ≡ false
+under-lacks n ps a = below-clear n (cutIds ps) (all-map (λ j. ltb j n) (λ x. x .of .id) ps ∙ a) n (omega arith)
+
 halves-first : (n : ℕ) (ps : List LanePlan) → map (λ (h : ℕ × ℕ). h .0) (halves n ps) ≡ cutIds ps
 unfolding halves
 halves-first n [] = refl
 halves-first n (x ∷ ps) = ap (λ is. x .of .id ∷ is) (halves-first (suc n) ps)
 
+pub none-after : (ids : List ℕ) → insert-after [] ids ≡ ids
+none-after [] = unfold insert-after each in refl
+none-after (z ∷ zs) =
+    after-cons [] z zs ∙ (ap (λ (u : List ℕ). u ++ insert-after [] zs) (second-lacks z [] (unfold has in refl)) ∙ ap (λ (u : List ℕ). z ∷ u) (none-after zs))
+
+-- the first pair, then the others
+pub after-turn : (n : ℕ) (x : LanePlan) (ps : List LanePlan) (ids : List ℕ) → above (x .of .id) (cutIds ps) ≡ true → under n ps ≡ true → distinct ids ≡ true
+    → insert-after (halves n (x ∷ ps)) ids ≡ insert-after (halves (suc n) ps) (swapFirst (x .of .id) (x .of .id ∷ n ∷ []) ids)
+unfolding halves
+after-turn n x ps ids up a d =
+    let i = x .of .id in
+    after-pairs i n (halves (suc n) ps) ids (ap (has i) (halves-first (suc n) ps) ∙ later-lacks i ps up) (ap (has n) (halves-first (suc n) ps) ∙ under-lacks n ps a)
+    ∙ ap (insert-after (halves (suc n) ps)) (after-swap i n ids d)
+
 -- Lists of roads and junctions, and of a rule's priority.
 pub distinct-after : (n : ℕ) (ps : List LanePlan) (ids : List ℕ) → ascending (cutIds ps) ≡ true → under n ps ≡ true → Fine n ids → distinct (insert-after (halves n ps) ids) ≡ true
-unfolding halves
-distinct-after n [] ids up a f = ap distinct (none-after ids) ∙ f .once
-  where
-    none-after : (ys : List ℕ) → insert-after [] ys ≡ ys
-    none-after [] = unfold insert-after each in refl
-    none-after (z ∷ zs) =
-        after-cons [] z zs ∙ (ap (λ (u : List ℕ). u ++ insert-after [] zs) (second-lacks z [] (unfold has in refl)) ∙ ap (λ (u : List ℕ). z ∷ u) (none-after zs))
+distinct-after n [] ids up a f = unfold halves in ap distinct (none-after ids) ∙ f .once
 distinct-after n (x ∷ ps) ids up a f =
     let i = x .of .id in
     let rest = all-tail (λ y. ltb (y .of .id) n) x ps a in
     let l = ltb-true i n (all-head (λ y. ltb (y .of .id) n) x ps a) in
     let g = swap-fine i n (i ∷ n ∷ []) ids l (stands-both i n (ne-eqb i n (λ e. omega arith))) f in
     let above-i : above i (cutIds ps) ≡ true = unfold ascending in up in
-    ap distinct
-    (after-pairs i n (halves (suc n) ps) ids (ap (has i) (halves-first (suc n) ps) ∙ below-none i (cutIds ps) (above-all i (cutIds ps) above-i))
-    (ap (has n) (halves-first (suc n) ps) ∙ below-clear n (cutIds ps) (all-map (λ j. ltb j n) (λ x. x .of .id) ps ∙ rest) n (omega arith))
-    ∙ ap (insert-after (halves (suc n) ps)) (after-swap i n ids (f .once)))
+    ap distinct (after-turn n x ps ids above-i rest (f .once))
     ∙ distinct-after (suc n) ps (swapFirst i (i ∷ n ∷ []) ids) (ascending-tail i (cutIds ps) above-i) (under-more n ps rest) g

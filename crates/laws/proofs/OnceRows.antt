@@ -31,7 +31,7 @@ all-behind p xs ys h = and-snd (all p xs) (all p ys) (sym (all-split p xs ys) �
 
 module _ (p : ℕ → Bool) where
   -- a rule's own lanes, its priority and its yielding lanes
-  abbrev namedIn : Rule → Bool
+  abbrev pub namedIn : Rule → Bool
   namedIn r = all p (r .lanes) && all p (r .priority) && all p (r .yielding)
 
   rule-names : (r : Rule) → all p (ruleNames r) ≡ true → namedIn r ≡ true
@@ -75,7 +75,7 @@ module _ (p : ℕ → Bool) where
         all-weaken (λ j. all p (j .id ∷ j .lanes)) (λ j. all p (j .lanes)) (m .junctions) (λ j t. all-tail p (j .id) (j .lanes) t)
         (sym (all-each p (λ j. j .id ∷ j .lanes) (m .junctions)) ∙ all-front p (each (λ j. j .id ∷ j .lanes) (m .junctions)) ruleIds from-junctions)
 
-    names-rules : all namedIn (m .rules) ≡ true
+    pub names-rules : all namedIn (m .rules) ≡ true
     names-rules =
         all-weaken (λ r. all p (ruleNames r)) namedIn (m .rules) rule-names
         (sym (all-each p ruleNames (m .rules))
@@ -83,8 +83,12 @@ module _ (p : ℕ → Bool) where
 
 -- ---- an edit that changes these lists one by one
 
-abbrev ruleOnce : Rule → Bool
+abbrev pub ruleOnce : Rule → Bool
 ruleOnce r = distinct (r .lanes) && distinct (r .priority) && distinct (r .yielding)
+
+pub rules-once : (m : Map) → repeatFree m ≡ true → all ruleOnce (m .rules) ≡ true
+unfolding repeatFree
+rules-once m t = and-snd (all (λ r. distinct (r .lanes)) (m .roads) && all (λ j. distinct (j .lanes)) (m .junctions)) (all ruleOnce (m .rules)) t
 
 -- a list of ids that pass a test keeps free of repeats
 abbrev Keeps : (ℕ → Bool) → (List ℕ → List ℕ) → Type 0
@@ -126,7 +130,7 @@ module _ (p : ℕ → Bool) (g h : List ℕ → List ℕ) (f : Rule → List ℕ
       (ap (all ruleOnce) eu
       ∙ (all-map ruleOnce (λ r. ruleLanes (f r) h r) (m .rules)
       ∙ all-weaken (λ r. ruleOnce r && namedIn p r) (λ r. ruleOnce (ruleLanes (f r) h r)) (m .rules) rule-once
-      (all-both ruleOnce (namedIn p) (m .rules) (and-snd (all roadOnce (m .roads) && all junctionOnce (m .junctions)) (all ruleOnce (m .rules)) t) (names-rules p m a))))
+      (all-both ruleOnce (namedIn p) (m .rules) (rules-once m t) (names-rules p m a))))
 
 -- where the ids do not matter
 pub plain-free : (g h : List ℕ → List ℕ) → ((ids : List ℕ) → distinct ids ≡ true → distinct (g ids) ≡ true) → ((ids : List ℕ) → distinct ids ≡ true → distinct (h ids) ≡ true)

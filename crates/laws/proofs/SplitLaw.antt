@@ -28,19 +28,18 @@ use Rattle.rules.proofs.Facts.{Sound, sound-facts, facts-sound}
 use Rattle.laws.proofs.Entities.{Keys, keys-of}
 use Rattle.laws.proofs.Find.{numbered, numbered-below}
 use Rattle.laws.proofs.GrowRows.{changedRows}
-use Rattle.laws.proofs.SoundParts.{names-ids, names-own, names-before, names-boundaries, reach-boundaries, reach-centers, kinds-boundaries, handles-boundaries}
-use Rattle.laws.proofs.SplitLanes.{Numbered, firstId, secondId, halfPair, halves-numbered, Cutting}
+use Rattle.laws.proofs.SoundParts.{names-ids, names-before, names-boundaries, reach-boundaries, reach-centers, kinds-boundaries, handles-boundaries}
+use Rattle.laws.proofs.SplitLanes.{halfPair, halves-numbered, Cutting}
 use Rattle.laws.proofs.SplitLinks.{split-links}
 use Rattle.laws.proofs.SplitNeighbors.{split-neighbors}
 use Rattle.laws.proofs.SplitPieces.{piece-ids, pieces-below, pieces-reach, pieces-copy}
 use Rattle.laws.proofs.SplitNames.{follow-pass}
-use Rattle.laws.proofs.SplitTests.{all-both, plans-all}
 use Rattle.laws.proofs.SplitSound.{divided, Drawing, split-ids, split-names}
 use Rattle.laws.proofs.SplitClauses.{split-reach, split-kinds, split-handles, split-ascend}
 use Rattle.laws.proofs.SplitExact.{cutTests, split-exact}
 use Rattle.laws.proofs.SplitPlans.{plans-reach}
 use Rattle.laws.proofs.SplitOnce.{split-once}
-use Rattle.laws.proofs.SplitYield.{cutOf, drawnOf, piecesOf, followed, yielded, choice, firsts-group, counter-is}
+use Rattle.laws.proofs.SplitYield.{cutOf, drawnOf, piecesOf, following, yielded, choice, firsts-group, counter-is}
 
 -- ---- an accepted call
 
@@ -60,7 +59,7 @@ module _ (tol : Tolerance) (counter : ℕ) (m : Map) (sane : sound counter m ≡
   next = start + piecesIds xs
 
   abbrev f : Rule → List ℕ → List ℕ
-  f = followed tol m ps xs next
+  f = following tol m ps xs next
 
   abbrev ids : ℕ
   ids = piecesIds xs + length ps
@@ -132,9 +131,8 @@ module _ (tol : Tolerance) (counter : ℕ) (m : Map) (sane : sound counter m ≡
 
   follow-below : (r : Rule) (is : List ℕ) → all (λ j. ltb j top) is ≡ true → all (λ j. ltb j top) (f r is) ≡ true
   follow-below r =
-      follow-pass (λ j. ltb j top) (tol .join) (cutMap m ps xs (halves next ps) next) (rule-anchor (cutMap m ps xs (halves next ps) next) r) next ps
-      (all-both (λ (z : Numbered). ltb (firstId z) top) (λ (z : Numbered). ltb (secondId z) top) (numbered next ps)
-      (plans-all m ps next cutting (λ k. ltb (k .id) top) (names-own (λ j. ltb j top) m names-low)) (numbered-below next ps top (omega arith)))
+      follow-pass (λ j. ltb j top) xs (halves next ps) new-below drawn-below (tol .join) (cutMap m ps xs (halves next ps) next) ps
+      (rule-anchor (cutMap m ps xs (halves next ps) next) r)
 
   names-after : all (λ j. ltb j top) (idsNamed after) ≡ true
   names-after = split-names f m ps xs next cutting (λ j. ltb j top) new-below drawn-below follow-below .over names-low

@@ -3,7 +3,7 @@ use mathlib.Core.Path.{_≡_, refl, sym, ap, _∙_}
 use mathlib.Core.Bool.{Bool, true, false, not, _&&_, cond}
 use mathlib.Core.List.{List, [], _∷_, _++_, map}
 use mathlib.Core.Option.{Option, none, some}
-use Prim.Native.Nat.{ℕ, suc}
+use Prim.Native.Nat.{ℕ}
 use lib.Dec.{eqb}
 use lib.Ieee.{Float}
 use Rattle.lists.specs.Every.{all}
@@ -19,10 +19,9 @@ use Rattle.entities.specs.declared.NeighborDirection.{NeighborDirection}
 use Rattle.entities.specs.declared.NeighborDirection.the-variants as D
 use Rattle.entities.specs.Records.{Lane, Map}
 use Rattle.rules.specs.Sound.{laneNames, slotId}
-use Rattle.rules.specs.Split.{LanePlan, Piece, pieceFor, firstRef, secondRef, firstSlot, secondSlot, cameFrom, uncut, firstHalf, secondHalf, swapFirst, follow, follow-all, onSecond}
+use Rattle.rules.specs.Split.{LanePlan, Piece, pieceFor, firstRef, secondRef, firstSlot, secondSlot, cameFrom, uncut, firstHalf, secondHalf, planFor, onSecond, followed, follow}
 use Rattle.laws.proofs.Connect.{found-all}
-use Rattle.laws.proofs.Find.{numbered, no-some, some-is}
-use Rattle.laws.proofs.SplitLanes.{Numbered, firstId, secondId}
+use Rattle.laws.proofs.Find.{no-some, some-is}
 
 -- ---- general
 
@@ -202,32 +201,19 @@ module _ (p : ℕ → Bool) (xs : List Piece) (hs : List (ℕ × ℕ)) (new : al
         after = t .after;
       })
 
--- ---- the lanes of a rule
+  -- ---- a rule's own lanes
 
-swap-pass : (p : ℕ → Bool) (i : ℕ) (by ids : List ℕ) → all p by ≡ true → all p ids ≡ true → all p (swapFirst i by ids) ≡ true
-unfolding swapFirst all
-swap-pass p i by [] b h = refl
-swap-pass p i by (x ∷ ids) b h = go (eqb x i) (swap-pass p i by ids b (and-snd (p x) (all p ids) h))
-  where
-    go : (e : Bool) → all p (swapFirst i by ids) ≡ true → all p (cond e (by ++ ids) (x ∷ swapFirst i by ids)) ≡ true
-    go true r = all-append p by ids b (and-snd (p x) (all p ids) h)
-    go false r = and-both (p x) (all p (swapFirst i by ids)) (and-fst (p x) (all p ids) h) r
+  followed-passes : (join : Float) (m : Map) (ps : List LanePlan) (a : Point2) (i : ℕ) → p i ≡ true → p (followed join m ps hs a i) ≡ true
+  followed-passes join m ps a i h = go (planFor ps i) (secondOf hs i) refl
+    where
+      go : (o : Option LanePlan) (q : Option ℕ) → secondOf hs i ≡ q
+          → p (elim o [ none ↦ i | some x ↦ elim q [ none ↦ i | some j ↦ cond (onSecond join m x j a) j i ] ]) ≡ true
+      go none q e = h
+      go (some x) none e = h
+      go (some x) (some j) e = pick (onSecond join m x j a) j i (second-passes i j e) h
 
-pub follow-pass : (p : ℕ → Bool) (join : Float) (m : Map) (anchor : Option Point2) (next : ℕ) (ps : List LanePlan)
-    → all (λ (z : Numbered). p (firstId z) && p (secondId z)) (numbered next ps) ≡ true → (ids : List ℕ) → all p ids ≡ true → all p (follow-all join m anchor next ps ids) ≡ true
-unfolding follow-all numbered all
-follow-pass p join m anchor next [] a ids h = h
-follow-pass p join m anchor next (x ∷ ps) a ids h =
-    let here = and-fst (p (x .of .id) && p next) (all (λ (z : Numbered). p (firstId z) && p (secondId z)) (numbered (suc next) ps)) a in
-    follow-pass p join m anchor (suc next) ps (and-snd (p (x .of .id) && p next) (all (λ (z : Numbered). p (firstId z) && p (secondId z)) (numbered (suc next) ps)) a)
-    (follow join m anchor x next ids) (go anchor (and-fst (p (x .of .id)) (p next) here) (and-snd (p (x .of .id)) (p next) here))
-  where
-    either : (b : Bool) (is js : List ℕ) → all p is ≡ true → all p js ≡ true → all p (cond b is js) ≡ true
-    either true is js s t = s
-    either false is js s t = t
-
-    go : (o : Option Point2) → p (x .of .id) ≡ true → p next ≡ true → all p (follow join m o x next ids) ≡ true
-    go none k l = swap-pass p (x .of .id) (x .of .id ∷ next ∷ []) ids (and-both (p (x .of .id)) (p next && true) k (and-both (p next) true l refl)) h
-    go (some q) k l =
-        either (has (x .of .id) ids && onSecond join m x next q) (swapFirst (x .of .id) (next ∷ []) ids) ids
-        (swap-pass p (x .of .id) (next ∷ []) ids (and-both (p next) true l refl) h) h
+  pub follow-pass : (join : Float) (m : Map) (ps : List LanePlan) (anchor : Option Point2) (ids : List ℕ) → all p ids ≡ true → all p (follow join m ps hs anchor ids) ≡ true
+  unfolding follow
+  follow-pass join m ps none ids h = inserted-pass ids h
+  follow-pass join m ps (some a) ids h =
+      all-map p (followed join m ps hs a) ids ∙ all-weaken p (λ i. p (followed join m ps hs a i)) ids (followed-passes join m ps a) h

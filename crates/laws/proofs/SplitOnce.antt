@@ -22,8 +22,9 @@ use Rattle.laws.proofs.Still.{ids-up}
 use Rattle.laws.proofs.SoundParts.{names-own}
 use Rattle.laws.proofs.SplitLanes.{map-map}
 use Rattle.laws.proofs.SplitPlans.{plans-of}
-use Rattle.laws.proofs.SplitYield.{cutOf, piecesOf, followed, yielded}
-use Rattle.laws.proofs.Once.{Fine, below-clear, under, cutIds, distinct-follow, distinct-after}
+use Rattle.laws.proofs.SplitYield.{cutOf, piecesOf, following, yielded}
+use Rattle.laws.proofs.Once.{Fine, below-clear, under, cutIds, distinct-after}
+use Rattle.laws.proofs.Turns.{distinct-follow}
 use Rattle.laws.proofs.OnceRows.{lists-free}
 
 module _ (tol : Tolerance) (counter : ℕ) (m : Map) (sane : sound counter m ≡ true) (below : all (λ j. ltb j (nextId counter)) (idsNamed m) ≡ true) (i : ℕ) (l : Lane) (found : lane m i ≡ some l) (neighbors : Bool) (at : Float) (p : Point2)
@@ -42,9 +43,9 @@ module _ (tol : Tolerance) (counter : ℕ) (m : Map) (sane : sound counter m ≡
 
   pub split-once : repeatFree m ≡ true → repeatFree (yielded tol (nextId counter) m i (groupOf m i neighbors) ps xs .result) ≡ true
   split-once =
-      lists-free (λ j. ltb j start) (insert-after (halves next ps)) (insert-after (halves next ps)) (followed tol m ps xs next)
+      lists-free (λ j. ltb j start) (insert-after (halves next ps)) (insert-after (halves next ps)) (following tol m ps xs next)
       (λ ids a d. distinct-after next ps ids up low (fine ids a d)) (λ ids a d. distinct-after next ps ids up low (fine ids a d))
-      (λ r ids a d. distinct-follow (tol .join) (cutMap m ps xs (halves next ps) next) (rule-anchor (cutMap m ps xs (halves next ps) next) r) next ps ids low (fine ids a d))
+      (λ r ids a d. distinct-follow (tol .join) (cutMap m ps xs (halves next ps) next) (rule-anchor (cutMap m ps xs (halves next ps) next) r) next ps ids up low (fine ids a d))
       m (yielded tol start m i (groupOf m i neighbors) ps xs .result) refl refl refl below
     where
       start : ℕ

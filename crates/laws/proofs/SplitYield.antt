@@ -17,7 +17,7 @@ use Rattle.entities.specs.Records.{Lane, Boundary, Rule, Map}
 use Rattle.rules.specs.Map.{lane, laneIds, leads-to, uses, rule-anchor}
 use Rattle.rules.specs.Sound.{nextId, lastCounter}
 use Rattle.rules.specs.Edit.{yield, Edited, refs}
-use Rattle.rules.specs.Split.{LanePlan, Piece, lane-plans, pieces, piecesIds, halves, newPieces, unsharedPiece, droppedAll, follow-all, cutMap, cut, groupOf}
+use Rattle.rules.specs.Split.{LanePlan, Piece, lane-plans, pieces, piecesIds, halves, newPieces, unsharedPiece, droppedAll, follow, cutMap, cut, groupOf}
 use Rattle.rules.specs.Ops.{counterAfter}
 use Rattle.rules.specs.Book.{pairs, createdLanes, bookSplit}
 use Rattle.laws.proofs.Find.{numbered}
@@ -41,8 +41,11 @@ abbrev pub piecesOf : Map → List ℕ → Point2 → ℕ → List Piece
 piecesOf m group p start = pieces group (m .lanes) p start (drawnOf m group)
 
 -- what becomes of a rule's own lanes
-abbrev pub followed : Tolerance → Map → List LanePlan → List Piece → ℕ → Rule → List ℕ → List ℕ
-followed tol m ps xs next r = follow-all (tol .join) (cutMap m ps xs (halves next ps) next) (rule-anchor (cutMap m ps xs (halves next ps) next) r) next ps
+abbrev pub following : Tolerance → Map → List LanePlan → List Piece → ℕ → Rule → List ℕ → List ℕ
+following tol m ps xs next r =
+    let hs = halves next ps in
+    let after = cutMap m ps xs hs next in
+    follow (tol .join) after ps hs (rule-anchor after r)
 
 -- ---- what is yielded
 
@@ -50,13 +53,13 @@ abbrev pub yielded : Tolerance → ℕ → Map → ℕ → List ℕ → List Lan
 yielded tol start m i group ps xs =
     let next = start + piecesIds xs in
     record {
-      result = divided (followed tol m ps xs next) m ps xs next;
+      result = divided (following tol m ps xs next) m ps xs next;
       ids = piecesIds xs + length ps;
       second = secondOf (halves next ps) i;
       changes =
           record {
             created = refs K.Lane (seconds ps next) ++ refs K.Boundary (map (λ b. b .id) (each newPieces xs));
-            modified = changedRows (cutTests (followed tol m ps xs next) m ps xs next group) m;
+            modified = changedRows (cutTests (following tol m ps xs next) m ps xs next group) m;
             deleted = [];
             warnings = each unsharedPiece xs ++ droppedAll (halves next ps) next ps;
           };
@@ -119,7 +122,7 @@ module _ (tol : Tolerance) (counter : ℕ) (m : Map) (up : ascending (laneIds m)
       → leads-to (yielded tol start m i group ps xs .result) x y ≡ bookSplit (pairs group (createdLanes (yielded tol start m i group ps xs .changes .created))) (leads-to m) x y
   split-books start xs x y =
       let next = start + piecesIds xs in
-      split-leads m ps next choice xs (divided (followed tol m ps xs next) m ps xs next) refl x y
+      split-leads m ps next choice xs (divided (following tol m ps xs next) m ps xs next) refl x y
       ∙ ap (λ hs. bookSplit hs (leads-to m) x y)
       (sym
       (ap (pairs group) (created-lanes (seconds ps next) (map (λ b. b .id) (each newPieces xs)))

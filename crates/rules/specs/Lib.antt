@@ -6,6 +6,7 @@ pub mod Edit
 pub mod Lane
 pub mod Merge
 pub mod Split
+pub mod Turns
 pub mod Ops
 pub mod Book
 pub mod Demand

@@ -194,11 +194,6 @@ secondHalves xs hs next (x ∷ ps) = secondHalf xs hs next x ∷ secondHalves xs
 
 -- "Roads and junctions gain each second half after its first. So do a rule's priority and yielding lists": `insert-after` of the crate lists.
 
--- the first i of a list becomes `by`
-unfoldable pub swapFirst : ℕ → List ℕ → List ℕ → List ℕ
-swapFirst i by [] = []
-swapFirst i by (x ∷ xs) = let rest = swapFirst i by xs in cond (eqb x i) (by ++ xs) (x ∷ rest)
-
 -- whether a point lies at or past the cut, on the line of the two halves joined, in the map after the cut
 abbrev pub pastCut : Float → Option Line → Option Line → Float → Point2 → Bool
 pastCut join none c2 s p = false
@@ -213,17 +208,21 @@ unfoldable pub onSecond : Float → Map → LanePlan → ℕ → Point2 → Bool
 onSecond join m x j p = pastCut join (centerOf m (lane m (x .of .id))) (centerOf m (lane m j)) (x .station) p
 
 -- "A rule's own lanes follow its anchor: the second half replaces the first if the anchor's nearest station on the two halves' joined line is at
--- or past the split; with no anchor it is added." The first occurrence of each cut lane alone is handled.
-abbrev pub follow : Float → Map → Option Point2 → LanePlan → ℕ → List ℕ → List ℕ
-follow join m none x j ids = swapFirst (x .of .id) (x .of .id ∷ j ∷ []) ids
-follow join m (some p) x j ids = cond (has (x .of .id) ids && onSecond join m x j p) (swapFirst (x .of .id) (j ∷ []) ids) ids
+-- or past the split": what stands in the place of lane i
+abbrev pub followed : Float → Map → List LanePlan → List (ℕ × ℕ) → Point2 → ℕ → ℕ
+followed join m ps hs p i =
+    elim (planFor ps i) [
+      | none ↦ i
+      | some x ↦ elim (secondOf hs i) [ none ↦ i | some j ↦ cond (onSecond join m x j p) j i ]
+    ]
 
-unfoldable pub follow-all : Float → Map → Option Point2 → ℕ → List LanePlan → List ℕ → List ℕ
-follow-all join m anchor next [] ids = ids
-follow-all join m anchor next (x ∷ ps) ids = follow-all join m anchor (suc next) ps (follow join m anchor x next ids)
+-- "with no anchor it is added"
+unfoldable pub follow : Float → Map → List LanePlan → List (ℕ × ℕ) → Option Point2 → List ℕ → List ℕ
+follow join m ps hs none ids = insert-after hs ids
+follow join m ps hs (some p) ids = map (followed join m ps hs p) ids
 
-abbrev pub cutRule : Float → Map → ℕ → List LanePlan → List (ℕ × ℕ) → Rule → Rule
-cutRule join m next ps hs r = ruleLanes (follow-all join m (rule-anchor m r) next ps) (insert-after hs) r
+abbrev pub cutRule : Float → Map → List LanePlan → List (ℕ × ℕ) → Rule → Rule
+cutRule join m ps hs r = ruleLanes (follow join m ps hs (rule-anchor m r)) (insert-after hs) r
 
 abbrev pub ruleDiffers : Rule → Rule → Bool
 ruleDiffers r s = not (sameNumbers (r .lanes) (s .lanes) && sameNumbers (r .priority) (s .priority) && sameNumbers (r .yielding) (s .yielding))
@@ -265,7 +264,7 @@ cut tol next m own group ps xs =
     let nextLane = next + piecesIds xs in
     let hs = halves nextLane ps in
     let after = cutMap m ps xs hs nextLane in
-    let rules = cutRule (tol .join) after nextLane ps hs in
+    let rules = cutRule (tol .join) after ps hs in
     record {
       result =
           record {

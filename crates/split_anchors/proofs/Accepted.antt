@@ -18,13 +18,14 @@ use Rattle.rules.specs.Names.{Point2}
 use Rattle.rules.specs.Map.{lane, laneIds}
 use Rattle.rules.specs.Sound.{sound, idsNamed, nextId}
 use Rattle.rules.specs.Edit.{yield, Passed}
-use Rattle.rules.specs.Split.{LanePlan, lane-plans, all-cross, halves, groupOf, cutRule}
+use Rattle.rules.specs.Split.{LanePlan, lane-plans, all-cross, halves, groupOf}
 use Rattle.rules.proofs.Facts.{sound-facts}
 use Rattle.laws.proofs.Entities.{keys-of}
 use Rattle.laws.proofs.SoundParts.{names-ids, names-boundaries}
 use Rattle.laws.proofs.SplitLanes.{map-map}
 use Rattle.laws.proofs.SplitPlans.{plans-of}
 use Rattle.laws.proofs.SplitYield.{cutOf, choice}
+use Rattle.laws.proofs.TurnsRows.{cutInTurns}
 use Rattle.tables.specs.View.{rows, laneOf, boundaryOf, ruleOf, stopLineOf, crosswalkOf}
 use Rattle.store.specs.Store.{ruleOnto, storeRows}
 use Rattle.follows.specs.Following.{rulesFollow, Follows}
@@ -72,15 +73,15 @@ module _ (m : Map) (ps : List LanePlan) (group : List ℕ) (ls : List Lane) (p :
       ap (all (λ i. ltb i fresh)) (sym (map-map (λ l. l .id) (λ x. x .of) ps) ∙ ap (map (λ l. l .id)) (c .planned))
       ∙ (all-map (λ i. ltb i fresh) (λ l. l .id) _ ∙ all-keep (λ l. ltb (l .id) fresh) (c .chosen) (m .lanes) (sym (all-map (λ i. ltb i fresh) (λ l. l .id) (m .lanes)) ∙ h .lanes .fresh))
 
-  -- the rules that document 01 leaves, stored, are the rows that follow the marks found before the cut
+  -- the rules whose lanes follow in turns, stored, are the rows that follow the marks found before the cut
   pub rules-after : (c : List Float) (lanes boundaries : List ℕ) → m .lanes ≡ rows 52 (laneOf c) lanes → m .boundaries ≡ rows 5 (boundaryOf c) boundaries
       → (stations : List Float) → take (length ps) stations ≡ map (λ x. x .station) ps
       → (join : Float) (stops crosswalks : List ℕ) → m .stop-lines ≡ rows 4 (stopLineOf c) stops → m .crosswalks ≡ rows 7 (crosswalkOf c) crosswalks
       → (t : List ℕ) (anchored past : List Bool) → Marking c lanes boundaries (cutIds ps) stations t stops crosswalks anchored past
       → Follows (over anchored 0 (anchoredBy c stops crosswalks (cutIds ps) t)) (pastBy join c lanes boundaries p (cutIds ps) stations stops crosswalks t past) fresh (cutIds ps) t
-      → storeRows 330 ruleOnto (λ r. r .id) t (map (cutRule join then fresh ps (halves fresh ps)) (rows 330 ruleOf t))
+      → storeRows 330 ruleOnto (λ r. r .id) t (map (cutInTurns join then fresh ps (halves fresh ps)) (rows 330 ruleOf t))
       ≡ rulesFollow (over anchored 0 (anchoredBy c stops crosswalks (cutIds ps) t)) (pastBy join c lanes boundaries p (cutIds ps) stations stops crosswalks t past) fresh (cutIds ps) t
   rules-after c lanes boundaries e1 e2 stations e3 join stops crosswalks e4 e5 t anchored past g f =
-      ap (λ hs. storeRows 330 ruleOnto (λ r. r .id) t (map (cutRule join then fresh ps hs) (rows 330 ruleOf t))) (halves-numbered fresh ps)
+      ap (λ hs. storeRows 330 ruleOnto (λ r. r .id) t (map (cutInTurns join then fresh ps hs) (rows 330 ruleOf t))) (halves-numbered fresh ps)
       ∙ rules-told join then fresh ps cuts-below (over anchored 0 (anchoredBy c stops crosswalks (cutIds ps) t)) (pastBy join c lanes boundaries p (cutIds ps) stations stops crosswalks t past) t f
       (λ i d. rule-told m ps group ls p start h c lanes boundaries e1 e2 stations e3 join stops crosswalks e4 e5 t anchored past g i d)

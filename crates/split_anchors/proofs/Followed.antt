@@ -1,4 +1,4 @@
--- Rules whose marks are right, or that name no cut lane and are told to have no anchor, are stored as document 01 leaves them. Assumes nothing.
+-- Rules whose marks are right, or that name no cut lane and are told to have no anchor, are stored as their lanes follow in turns. Assumes nothing.
 use mathlib.Core.Path.{_≡_, refl, sym, ap, _∙_}
 use mathlib.Core.Logic.{_⊎_, inl, inr}
 use Prim.Native.Nat.{ℕ, _<_}
@@ -13,9 +13,10 @@ use Rattle.lists.proofs.Booleans.{and-fst, and-snd, and-both, neither}
 use Rattle.lists.proofs.Select.{has-any, any-same, any-or, lacks-places}
 use Rattle.entities.specs.Records.{Map}
 use Rattle.rules.specs.Map.{rule-anchor}
-use Rattle.rules.specs.Split.{LanePlan, onSecond, cutRule, ruleDiffers}
+use Rattle.rules.specs.Split.{LanePlan, onSecond, ruleDiffers}
 use Rattle.laws.proofs.Links.{eqb-swap}
 use Rattle.laws.proofs.SplitRows.{same-numbers}
+use Rattle.laws.proofs.TurnsRows.{cutInTurns}
 use Rattle.tables.specs.View.{word, idsAt, rows, ruleOf}
 use Rattle.tables.specs.Formed.{ruleFormed}
 use Rattle.row_tests.proofs.Tables.{row-length}
@@ -97,26 +98,26 @@ module _ (join : Float) (m : Map) (next : ℕ) (ps : List LanePlan) (b : below n
     same : (a : Bool) → followedAll a past next cut (idsAt 5 w) ≡ followedAll false past next cut (idsAt 5 w)
     same a = still (idsAt 5 w) past next cut b q a ∙ sym (still (idsAt 5 w) past next cut b q false)
 
-    unnamed-followed : length w ≡ 330 → ruleRoom false past next cut w ≡ true → ruleOnto w (cutRule join m next ps (numbered next cut) (ruleOf w)) ≡ ruleFollows false past next cut w
+    unnamed-followed : length w ≡ 330 → ruleRoom false past next cut w ≡ true → ruleOnto w (cutInTurns join m next ps (numbered next cut) (ruleOf w)) ≡ ruleFollows false past next cut w
     unnamed-followed l r =
         let g = insert-after (numbered next cut) in
         rule-followed join m next ps b real past w unnamed l
         (ap (λ ids. ruleFormed w && (leb (length ids) 64 && cond (eqb (word 1 w) 3) (listGrows next cut 200 w && listGrows next cut 265 w) true)) (same real) ∙ r)
         ∙ ap (λ ids. cond (eqb (word 1 w) 3) (changeAt g 265 (changeAt g 200 (setList 5 ids w))) (setList 5 ids w)) (same real)
 
-    unnamed-differs : ruleDiffers (ruleOf w) (cutRule join m next ps (numbered next cut) (ruleOf w)) ≡ rowDiffers false past cut w
+    unnamed-differs : ruleDiffers (ruleOf w) (cutInTurns join m next ps (numbered next cut) (ruleOf w)) ≡ rowDiffers false past cut w
     unnamed-differs =
         rule-differs join m next ps b real past w unnamed
         ∙ ap (λ z. z || (eqb (word 1 w) 3 && (any (λ i. has i cut) (idsAt 200 w) || any (λ i. has i cut) (idsAt 265 w))))
         (own-none (idsAt 5 w) past next cut b q real ∙ sym (own-none (idsAt 5 w) past next cut b q false))
 
   pub told-followed : (anchored : Bool) (past : List Bool) (w : List ℕ) → Told anchored past w → length w ≡ 330 → ruleRoom anchored past next cut w ≡ true
-      → ruleOnto w (cutRule join m next ps (numbered next cut) (ruleOf w)) ≡ ruleFollows anchored past next cut w
+      → ruleOnto w (cutInTurns join m next ps (numbered next cut) (ruleOf w)) ≡ ruleFollows anchored past next cut w
   told-followed anchored past w (inl k) l r = rule-followed join m next ps b anchored past w k l r
   told-followed anchored past w (inr (q, e)) l r = rw e (unnamed-followed past w q l (rw e at r))
 
   pub told-differs : (anchored : Bool) (past : List Bool) (w : List ℕ) → Told anchored past w
-      → ruleDiffers (ruleOf w) (cutRule join m next ps (numbered next cut) (ruleOf w)) ≡ rowDiffers anchored past cut w
+      → ruleDiffers (ruleOf w) (cutInTurns join m next ps (numbered next cut) (ruleOf w)) ≡ rowDiffers anchored past cut w
   told-differs anchored past w (inl k) = rule-differs join m next ps b anchored past w k
   told-differs anchored past w (inr (q, e)) = rw e (unnamed-differs past w q)
 
@@ -124,10 +125,10 @@ module _ (join : Float) (m : Map) (next : ℕ) (ps : List LanePlan) (b : below n
 
 pub rules-told : (join : Float) (m : Map) (next : ℕ) (ps : List LanePlan) (b : below next (cutIds ps)) (anchored past : List Bool) (t : List ℕ) → Follows anchored past next (cutIds ps) t
     → ((i : ℕ) → i < word 0 t → Told join m next ps b (getD anchored i false) (marksOf past i) (rowAt 330 t i))
-    → storeRows 330 ruleOnto (λ r. r .id) t (map (cutRule join m next ps (numbered next (cutIds ps))) (rows 330 ruleOf t)) ≡ rulesFollow anchored past next (cutIds ps) t
+    → storeRows 330 ruleOnto (λ r. r .id) t (map (cutInTurns join m next ps (numbered next (cutIds ps))) (rows 330 ruleOf t)) ≡ rulesFollow anchored past next (cutIds ps) t
 unfolding onRows
 rules-told join m next ps b anchored past t f k =
-    let c = cutRule join m next ps (numbered next (cutIds ps)) in
+    let c = cutInTurns join m next ps (numbered next (cutIds ps)) in
     let g : ℕ → List ℕ → List ℕ = λ i w. ruleFollows (getD anchored i false) (marksOf past i) next (cutIds ps) w in
     store-changed 330 ruleOnto (λ r. r .id) ruleOf t (rows-room 512 330 t (f .counts)) c (λ w. unfold ruleOf in refl)
     ∙ sym (numbered-rows 330 g (λ w. ruleOnto w (c (ruleOf w))) t (λ i l.

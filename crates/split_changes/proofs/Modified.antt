@@ -23,7 +23,7 @@ use Rattle.split_changes.proofs.Led.{lanes-touched}
 
 -- a rule after the cut
 abbrev pub ruleAfter : Tolerance → ℕ → Tables → List LanePlan → List Piece → Rule → Rule
-ruleAfter tol next t ps xs = let first = next + piecesIds xs in cutRule (tol .join) (cutMap (view t) ps xs (halves first ps) first) first ps (halves first ps)
+ruleAfter tol next t ps xs = let first = next + piecesIds xs in cutRule (tol .join) (cutMap (view t) ps xs (halves first ps) first) ps (halves first ps)
 
 -- what the marks are found from: a map with ids that ascend and links that are reciprocal, boundaries that are cut and their pieces' rows, rules that differ where their rows do
 pub record Marked (tol : Tolerance) (next : ℕ) (t : Tables) (group : List ℕ) (ps : List LanePlan) (xs : List Piece) (pieces : List ℕ) (bs anchored past : List Bool) : Type 0 where

@@ -1,6 +1,6 @@
 -- What is known of a split whose lanes are planned: of the lent tables, the group, its plans and their ids. Assumes nothing.
 use mathlib.Core.Path.{_≡_, refl, sym, ap, _∙_, subst}
-use Prim.Native.Nat.{ℕ, _+_, _^_, _≤_, _<_}
+use Prim.Native.Nat.{ℕ, _+_, _^_, _<_}
 use native.Mathlib.Omega.{arith}
 use mathlib.Core.Bool.{Bool, true, false}
 use mathlib.Core.List.{List, map}
@@ -8,14 +8,14 @@ use mathlib.Core.Option.{some}
 use lib.Dec.{leb, ltb}
 use lib.Ieee.{Float}
 use lib.ListN.{length, length-map, replicate}
-use borrow.Author.Tests.{leb-true}
+use borrow.Author.Tests.{leb-true, ltb-true, lt-ltb}
 use Rattle.lists.specs.Every.{all}
 use Rattle.lists.specs.Rows.{over}
 use Rattle.lists.specs.Select.{keep, any, has, ascending}
 use Rattle.lists.proofs.Booleans.{and-fst}
-use Rattle.lists.proofs.Select.{map-twice, keys-keep}
+use Rattle.lists.proofs.Select.{all-weaken, map-twice, keys-keep}
 use Rattle.entities.specs.declared.Tolerance.{Tolerance}
-use Rattle.entities.specs.Records.{Lane, Boundary}
+use Rattle.entities.specs.Records.{Lane}
 use Rattle.rules.specs.Names.{Point2}
 use Rattle.rules.specs.Map.{lane, laneIds, uses}
 use Rattle.rules.specs.Sound.{sound, idsNamed, lastCounter, nextId}
@@ -27,17 +27,16 @@ use Rattle.laws.proofs.SoundParts.{names-below}
 use Rattle.laws.proofs.Still.{ids-up}
 use Rattle.laws.proofs.SplitPlans.{plans-of}
 use Rattle.laws.proofs.SplitYield.{ids-left, counter-is}
-use Rattle.tables.specs.View.{Tables, word, rows, laneOf, view}
+use Rattle.laws.proofs.TurnsRows.{calm, all-calm}
+use Rattle.tables.specs.View.{Tables, word, laneOf, view}
 use Rattle.tables.specs.Formed.{formed, soundTables}
-use Rattle.row_tests.proofs.Lanes.{lanes-ascend}
 use Rattle.soundness.proofs.Counts.{Counts}
-use Rattle.lookup.specs.Lookup.{placeOf, rowAt}
-use Rattle.lookup.proofs.Laws.{find-at, place-within, sorted-ascends}
+use Rattle.lookup.specs.Lookup.{rowAt}
 use Rattle.group.specs.Walk.{idsOf}
-use Rattle.sound_facts.proofs.Found.{sound-map, sound-formed, lane-there}
+use Rattle.sound_facts.proofs.Found.{sound-map, lane-there}
 use Rattle.sound_facts.proofs.Stored.{formed-counts}
 use Rattle.sound_facts.proofs.Facts.{Facts, facts}
-use Rattle.split_plan.specs.Placing.{groupMarks, markedRows}
+use Rattle.split_plan.specs.Placing.{markedRows}
 use Rattle.split_pieces.specs.Pieces as Q
 use Rattle.split_laws.proofs.Chosen.{lanes-chosen, ids-chosen}
 use Rattle.split_laws.proofs.Pieces.{pieces-ids}
@@ -99,6 +98,9 @@ module _ {tol : Tolerance} {counter : ℕ} {t : Tables} {own : ℕ} {p : Point2}
       ap ascending (sym (k .ids) ∙ (sym (map-twice (λ (x : LanePlan). x .of) (λ (l : Lane). l .id) ps) ∙ ap (map (λ (l : Lane). l .id)) (of-lanes ∙ chosen-lanes)))
       ∙ keys-keep (λ (l : Lane). l .id) (λ x. has (x .id) (groupOf (view t) own (k .neighbors))) (view t .lanes) lane-ids-up
 
+  pub cuts-up : ascending (cutIds (plansIn t p seen stations)) ≡ true
+  cuts-up = ap ascending (k .ids) ∙ cut-up
+
   pub cut-rows : map (word 0) (markedRows seen (t .lanes)) ≡ cut
   cut-rows = ids-chosen t own (k .row) (k .there) (k .neighbors) (replicate 1024 false) seen (k .marked) (known .lanes) ∙ group-is
 
@@ -155,6 +157,13 @@ module _ {tol : Tolerance} {counter : ℕ} {t : Tables} {own : ℕ} {p : Point2}
       names-below counter (view t) lastCounter refl
       (ids-left tol counter (view t) (lane-ids-up plan) own theLane (found plan) (plan .neighbors) (plan .at) p (plansIn t p seen stations) (plan .planned) (piecesIds (piecesIn counter t p seen cut)) lastCounter refl within)
       (sound-facts counter (view t) (sound-view plan) .counter-above)
+
+  -- no rule's own lanes have a repeat, and all are below the second halves
+  pub rules-calm : all (calm (nextId counter + piecesIds (piecesIn counter t p seen cut))) (view t .rules) ≡ true
+  rules-calm =
+      let first = nextId counter + piecesIds (piecesIn counter t p seen cut) in
+      all-calm first (view t) (sound-facts counter (view t) (sound-view plan) .once)
+      (all-weaken (λ j. ltb j (nextId counter)) (λ j. ltb j first) (idsNamed (view t)) (λ j u. let l = ltb-true j (nextId counter) u in lt-ltb j first (omega arith)) low)
 
   -- what the laws of anchors ask
   pub accepted : Cut (view t) (plansIn t p seen stations) cut (lanesIn t seen) p (nextId counter)

@@ -156,13 +156,10 @@ module _ {tol : Tolerance} {counter : ℕ} {t : Tables} {own : ℕ} {stations : 
 
   -- ---- every row of the lanes
 
-  cuts-up : ascending (map (λ x. x .of .id) ps) ≡ true
-  cuts-up = ap ascending (plan .ids) ∙ F.cut-up plan
-
   came-few : (w : List ℕ) → laneFormed w ≡ true → ascending (idsAt 18 w) ≡ true → length (cameFrom (numbered (k .next) (map (λ x. x .of .id) ps)) (idsAt 18 w)) ≤ 16
   came-few w f u =
       let e : length (cameFrom (numbered (k .next) (map (λ x. x .of .id) ps)) (idsAt 18 w)) ≡ length (idsAt 18 w) =
-      ap (λ hs. length (cameFrom hs (idsAt 18 w))) (sym (halves-numbered (k .next) ps)) ∙ came-same (k .next) ps (idsAt 18 w) u cuts-up in
+      ap (λ hs. length (cameFrom hs (idsAt 18 w))) (sym (halves-numbered (k .next) ps)) ∙ came-same (k .next) ps (idsAt 18 w) u (F.cuts-up plan) in
       omega (arith, e, ids-few 18 w (lane-marks w f .before))
 
   row-formed : (j : ℕ) → j < word 0 (t .lanes) → laneFormed (rowAt 52 (t .lanes) j) ≡ true
@@ -243,7 +240,7 @@ module _ {tol : Tolerance} {counter : ℕ} {t : Tables} {own : ℕ} {stations : 
       let b = found-all (λ l. eqb (l .id) i) v (view t .lanes) (x .of) f (F.known plan .clauses .links-ascend) in
       let n = leb-true (length (x .of .predecessors)) 16 (and-fst (leb (length (x .of .predecessors)) 16) (leb (length (x .of .successors)) 16) a) in
       let z : length (cameFrom hs (x .of .predecessors)) ≡ length (x .of .predecessors) =
-      ap (λ hs. length (cameFrom hs (x .of .predecessors))) (sym (halves-numbered (k .next) ps)) ∙ came-same (k .next) ps (x .of .predecessors) (and-fst (ascending (x .of .predecessors)) (ascending (x .of .successors)) b) cuts-up in
+      ap (λ hs. length (cameFrom hs (x .of .predecessors))) (sym (halves-numbered (k .next) ps)) ∙ came-same (k .next) ps (x .of .predecessors) (and-fst (ascending (x .of .predecessors)) (ascending (x .of .successors)) b) (F.cuts-up plan) in
       omega (arith, z, n)
 
   -- ---- tables

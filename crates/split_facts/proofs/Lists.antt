@@ -26,6 +26,7 @@ use Rattle.rules.specs.Sound.{nextId}
 use Rattle.rules.specs.Split.{LanePlan, Piece, piecesIds, halves, droppedAll, unsharedPiece, ruleDiffers, groupOf}
 use Rattle.rules.specs.Split as R
 use Rattle.laws.proofs.SplitGroup.{group-has}
+use Rattle.laws.proofs.TurnsRows.{cutInTurns, calm, rule-in-turns, rules-in-turns}
 use Rattle.tables.specs.View.{Tables, word, idsAt, rows, laneOf, boundaryOf, ruleOf, view}
 use Rattle.tables.specs.Formed.{laneFormed, ruleFormed}
 use Rattle.row_tests.specs.Good.{allRows}
@@ -34,7 +35,7 @@ use Rattle.apart.proofs.Marks.{counted-facts, counted-more}
 use Rattle.soundness.proofs.Rows.{all-rows}
 use Rattle.soundness.proofs.Whole.{rows-count}
 use Rattle.lookup.specs.Lookup.{rowAt}
-use Rattle.lookup.proofs.Laws.{sorted-ascends}
+use Rattle.lookup.proofs.Laws.{row-passes, sorted-ascends}
 use Rattle.lookup.proofs.Good.{rows-weaker}
 use Rattle.group.specs.Walk.{idsOf, laneMap}
 use Rattle.grow.proofs.Growing.{numberAt, second-numbered}
@@ -145,6 +146,22 @@ module _ {tol : Tolerance} {counter : ℕ} {t : Tables} {own : ℕ} {stations : 
   -- the cut lanes are below them
   pub lanes-below : below (cutFrom counter t k) (cutIds (plansIn t (k .point) (k .seen) stations))
   lanes-below = cuts-below (view t) ps (k .cut) (lanesIn t (k .seen)) (k .point) (nextId counter) (F.accepted (h .number))
+
+  -- ---- rules follow in turns
+
+  pub all-in-turns : map (R.cutRule (tol .join) (cutAfter counter t k stations) (plansIn t (k .point) (k .seen) stations) (halves (cutFrom counter t k) (plansIn t (k .point) (k .seen) stations))) (rows 330 ruleOf (t .rules))
+      ≡ map (cutInTurns (tol .join) (cutAfter counter t k stations) (cutFrom counter t k) (plansIn t (k .point) (k .seen) stations) (halves (cutFrom counter t k) (plansIn t (k .point) (k .seen) stations))) (rows 330 ruleOf (t .rules))
+  unfolding view
+  all-in-turns = rules-in-turns (tol .join) (cutAfter counter t k stations) (cutFrom counter t k) ps (F.cuts-up p) lanes-below (rows 330 ruleOf (t .rules)) (F.rules-calm (h .number))
+
+  pub each-in-turns : (i : ℕ) → i < word 0 (t .rules)
+      → R.cutRule (tol .join) (cutAfter counter t k stations) (plansIn t (k .point) (k .seen) stations) (halves (cutFrom counter t k) (plansIn t (k .point) (k .seen) stations)) (ruleOf (rowAt 330 (t .rules) i))
+      ≡ cutInTurns (tol .join) (cutAfter counter t k stations) (cutFrom counter t k) (plansIn t (k .point) (k .seen) stations) (halves (cutFrom counter t k) (plansIn t (k .point) (k .seen) stations)) (ruleOf (rowAt 330 (t .rules) i))
+  unfolding view allRows
+  each-in-turns i l =
+      let good = calm (cutFrom counter t k) in
+      rule-in-turns (tol .join) (cutAfter counter t k stations) (cutFrom counter t k) ps (F.cuts-up p) lanes-below (ruleOf (rowAt 330 (t .rules) i))
+      (row-passes 330 (λ w. good (ruleOf w)) (t .rules) (sym (all-rows 330 ruleOf good (t .rules)) ∙ F.rules-calm (h .number)) i l)
 
   -- ---- created, deleted
 
@@ -364,7 +381,7 @@ module _ {tol : Tolerance} {counter : ℕ} {t : Tables} {own : ℕ} {stations : 
       record {
         drawable = F.known plan .drawable;
         crossable = F.known plan .crossable;
-        ascend = ap ascending (plan .ids) ∙ F.cut-up plan;
+        ascend = F.cuts-up plan;
         stationed = omega (arith, n);
         counts = F.counts plan .rules;
         formed = F.known plan .parts .rules;
@@ -399,10 +416,11 @@ module _ {tol : Tolerance} {counter : ℕ} {t : Tables} {own : ℕ} {stations : 
       let first = cutFrom counter t k in
       let m = cutAfter counter t k stations in
       let w = rowAt 330 (t .rules) i in
-      ap (λ hs. ruleDiffers (ruleOf w) (R.cutRule (tol .join) m first plans hs (ruleOf w))) (halves-numbered first plans)
+      ap (ruleDiffers (ruleOf w)) (each-in-turns h i l)
+      ∙ (ap (λ hs. ruleDiffers (ruleOf w) (cutInTurns (tol .join) m first plans hs (ruleOf w))) (halves-numbered first plans)
       ∙ (told-differs (tol .join) m first plans (lanes-below h) (getD (anchoredOf (cutIds plans)) i false) (marksOf (pastOf (cutIds plans)) i) w (rules-told i l)
       ∙ (ap (λ cut. rowDiffers (getD (anchoredOf cut) i false) (marksOf (pastOf cut) i) cut w) (plan .ids)
-      ∙ (ap (λ z. rowDiffers (getD z i false) (marksOf (pastOf (k .cut)) i) (k .cut) w) (sym (a .anchors)) ∙ ap (λ z. rowDiffers (getD anchored i false) (marksOf z i) (k .cut) w) (sym (a .sides)))))
+      ∙ (ap (λ z. rowDiffers (getD z i false) (marksOf (pastOf (k .cut)) i) (k .cut) w) (sym (a .anchors)) ∙ ap (λ z. rowDiffers (getD anchored i false) (marksOf z i) (k .cut) w) (sym (a .sides))))))
 
   marked-all : AllWords (k .pieces) (k .lines) 0 (k .reach) (piecesIn counter t (k .point) (k .seen) (k .cut))
       → map (boundaryOf (t .coordinates)) (picked (k .marks) (rows 5 (λ w. w) (t .boundaries))) ≡ map (λ x. x .of) (piecesIn counter t (k .point) (k .seen) (k .cut))

@@ -20,7 +20,9 @@ use Rattle.rules.specs.Map.{rule-anchor}
 use Rattle.rules.specs.Sound.{nextId, fitsRoom, withinLimits, pointCount, idLists}
 use Rattle.rules.specs.Lane.{roadLanes, junctionLanes}
 use Rattle.rules.specs.Split as R
-use Rattle.rules.specs.Split.{LanePlan, halves, swapFirst, follow-all, cutRule}
+use Rattle.rules.specs.Split.{LanePlan, halves}
+use Rattle.rules.specs.Turns.{swapFirst, follow-all}
+use Rattle.laws.proofs.TurnsRows.{cutInTurns}
 use Rattle.tables.specs.View.{Tables, word, rows, idsAt, idsWhere, roadOf, junctionOf, ruleOf, view}
 use Rattle.tables.specs.Formed.{ruleFormed}
 use Rattle.row_tests.specs.Good.{allRows}
@@ -43,7 +45,7 @@ use Rattle.split_anchors.proofs.Accepted.{rules-after}
 use Rattle.split_anchors.proofs.Followed.{Told}
 use Rattle.split_facts.specs.Splitting.{lanesIn, plansIn, splitOf, Planned, Measured, Anchored}
 use Rattle.split_facts.proofs.Facts as F
-use Rattle.split_facts.proofs.Lists.{cutFrom, cutAfter, next-is, halves-are, lanes-below, rules-asks, marked-from, all-stations, rules-told}
+use Rattle.split_facts.proofs.Lists.{cutFrom, cutAfter, next-is, halves-are, lanes-below, all-in-turns, rules-asks, marked-from, all-stations, rules-told}
 
 -- the limits of a map that has room
 pub room-limits : (t : Tables) (m : Map) → fitsRoom (roomOf t) m ≡ true → Limits m
@@ -94,7 +96,7 @@ module _ (anchored : Bool) (past : List Bool) (next : ℕ) (cut w : List ℕ) (f
 module _ (join : Float) (m : Map) (next : ℕ) (ps : List LanePlan) (b : below next (cutIds ps)) where
   -- a rule that is marked, or names no cut lane, has room where its lists after the cut are short
   told-room : (anchored : Bool) (past : List Bool) (w : List ℕ) → ruleFormed w ≡ true → Told join m next ps b anchored past w
-      → all (λ is. leb (length is) 64) (idLists (cutRule join m next ps (numbered next (cutIds ps)) (ruleOf w))) ≡ true → ruleRoom anchored past next (cutIds ps) w ≡ true
+      → all (λ is. leb (length is) 64) (idLists (cutInTurns join m next ps (numbered next (cutIds ps)) (ruleOf w))) ≡ true → ruleRoom anchored past next (cutIds ps) w ≡ true
   unfolding all ruleOf
   told-room anchored past w f k e =
       let g = insert-after (numbered next (cutIds ps)) in
@@ -202,17 +204,17 @@ module _ {tol : Tolerance} {counter : ℕ} {t : Tables} {own : ℕ} {stations : 
   abbrev pastOf : List ℕ → List Bool
   pastOf cut = pastBy (tol .join) (t .coordinates) (t .lanes) (t .boundaries) (k .point) cut stations (t .stop-lines) (t .crosswalks) (t .rules) (replicate 32768 false)
 
-  done-rules : splitOf tol counter t own (k .point) (k .seen) (k .cut) stations .result .rules ≡ map (cutRule (tol .join) after first ps (halves first ps)) (rows 330 ruleOf (t .rules))
+  done-rules : splitOf tol counter t own (k .point) (k .seen) (k .cut) stations .result .rules ≡ map (cutInTurns (tol .join) after first ps (halves first ps)) (rows 330 ruleOf (t .rules))
   unfolding splitOf R.cut view
-  done-rules = refl
+  done-rules = all-in-turns h
 
-  short : (i : ℕ) → i < word 0 (t .rules) → all (λ is. leb (length is) 64) (idLists (cutRule (tol .join) after first ps (numbered first (cutIds ps)) (ruleOf (rowAt 330 (t .rules) i)))) ≡ true
+  short : (i : ℕ) → i < word 0 (t .rules) → all (λ is. leb (length is) 64) (idLists (cutInTurns (tol .join) after first ps (numbered first (cutIds ps)) (ruleOf (rowAt 330 (t .rules) i)))) ≡ true
   unfolding allRows
   short i l =
       let few : Rule → Bool = λ r. all (λ is. leb (length is) 64) (idLists r) in
-      let c = cutRule (tol .join) after first ps (halves first ps) in
+      let c = cutInTurns (tol .join) after first ps (halves first ps) in
       let q : all (λ r. few (c r)) (rows 330 ruleOf (t .rules)) ≡ true = sym (all-map few c (rows 330 ruleOf (t .rules))) ∙ (ap (all few) (sym done-rules) ∙ lim h room .rule-lists) in
-      ap (λ hs. few (cutRule (tol .join) after first ps hs (ruleOf (rowAt 330 (t .rules) i)))) (sym (halves-numbered first ps))
+      ap (λ hs. few (cutInTurns (tol .join) after first ps hs (ruleOf (rowAt 330 (t .rules) i)))) (sym (halves-numbered first ps))
       ∙ row-passes 330 (λ w. few (c (ruleOf w))) (t .rules) (sym (all-rows 330 ruleOf (λ r. few (c r)) (t .rules)) ∙ q) i l
 
   pub rules-follow : Follows anchored past (k .next) (k .cut) (t .rules)

@@ -12,7 +12,7 @@ use lib.Seq.{getD-drop, drop-drop}
 use borrow.Author.Tests.{le-leb}
 use Rattle.lists.specs.Every.{all}
 use Rattle.lists.specs.Rows.{over}
-use Rattle.lists.specs.Select.{any, has, ascending}
+use Rattle.lists.specs.Select.{any, has}
 use Rattle.lists.proofs.Booleans.{and-both, and-snd, neither}
 use Rattle.lists.proofs.Every.{all-and, all-head, all-tail}
 use Rattle.lists.proofs.Rows.{length-over, length-reads, getD-reads, mapped-reads}
@@ -44,7 +44,7 @@ use Rattle.split_plan.specs.Placing.{picked}
 use Rattle.split_relay.specs.Relaying.{Cutting}
 use Rattle.split_rules.specs.Past.{isThere, anchorOf, anchoredBy}
 use Rattle.split_room.specs.Fitting.{piecesFit, centerPoints, pointsAfter, listFits, namedOf, ownFits, ruleFits, rulesFit, Counting, ListsOf, RulesOf}
-use Rattle.split_named.proofs.Words.{isSome, cutIds}
+use Rattle.split_named.proofs.Words.{isSome}
 use Rattle.split_anchors.proofs.Accepted.{cuts-below}
 use Rattle.split_anchors.proofs.Told.{anchor-after}
 use Rattle.split_limits.proofs.Links.{few, up}
@@ -52,7 +52,7 @@ use Rattle.split_limits.proofs.Numbers.{Told, cutOf, room-split}
 use Rattle.split_limits.proofs.Whole.{fits-split}
 use Rattle.split_limits.proofs.Words.{words-told}
 use Rattle.split_facts.specs.Splitting.{lanesIn, plansIn, piecesIn, splitOf, Planned, Measured, Anchored}
-use Rattle.split_facts.proofs.Facts.{known, counts, chosen-lanes, of-lanes, cut-up, many-plans, pieces-many, accepted}
+use Rattle.split_facts.proofs.Facts.{known, counts, chosen-lanes, of-lanes, cut-up, cuts-up, many-plans, pieces-many, rules-calm, accepted}
 use Rattle.split_facts.proofs.Asks as A
 use Rattle.split_facts.proofs.Words as W
 
@@ -89,9 +89,6 @@ module _ {tol : Tolerance} {counter : ℕ} {t : Tables} {own : ℕ} {p : Point2}
       ∙ (ap (all (λ (l : Lane). few l && up l)) (of-lanes k ∙ chosen-lanes k)
       ∙ all-keep (λ (l : Lane). few l && up l) (λ x. has (x .id) (groupOf (view t) own (k .neighbors))) (view t .lanes) linked)
 
-  pub cuts-up : ascending (cutIds (plansIn t p seen stations)) ≡ true
-  cuts-up = ap ascending (k .ids) ∙ cut-up k
-
   pub rows-full : (ids : ℕ) → piecesIds (piecesIn counter t p seen cut) ≡ ids
       → (rowsFit 1024 52 (word 0 (t .lanes) + length cut) (t .lanes) && rowsFit 4096 5 (word 0 (t .boundaries) + ids) (t .boundaries)) ≡ false
       → fitsRoom (roomOf t) (splitOf tol counter t own p seen cut stations .result) ≡ false
@@ -99,7 +96,7 @@ module _ {tol : Tolerance} {counter : ℕ} {t : Tables} {own : ℕ} {p : Point2}
   rows-full ids e f =
       let l : length (view t .lanes) + length (plansIn t p seen stations) ≡ word 0 (t .lanes) + length cut = omega (arith, view-lanes-many t, many-plans k) in
       let b : length (view t .boundaries) + piecesIds (piecesIn counter t p seen cut) ≡ word 0 (t .boundaries) + ids = omega (arith, view-boundaries-many t) in
-      fits-split tol (nextId counter) (view t) own cut (plansIn t p seen stations) (piecesIn counter t p seen cut) (roomOf t) limits-kept cuts-up linked planned
+      fits-split tol (nextId counter) (view t) own cut (plansIn t p seen stations) (piecesIn counter t p seen cut) (roomOf t) limits-kept (cuts-up k) linked planned
       ∙ both l b _
     where
       both : {l b : ℕ} → l ≡ word 0 (t .lanes) + length cut → b ≡ word 0 (t .boundaries) + ids → (r : Bool) → (rowsFit 1024 52 l (t .lanes) && (rowsFit 4096 5 b (t .boundaries) && r)) ≡ false
@@ -313,6 +310,7 @@ module _ {tol : Tolerance} {counter : ℕ} {t : Tables} {own : ℕ} {stations : 
         junction-lists = known plan .parts .junctions;
         rules-counted = counts plan .rules;
         rules-formed = known plan .parts .rules;
+        rules-calm = rules-calm (h .number);
         anchors = real-at;
       }
 

@@ -1,21 +1,21 @@
 -- How long the lists of ids, of lanes and of boundaries are after a split. Assumes nothing.
-use mathlib.Core.Path.{_≡_, refl, sym, ap, _∙_}
-use Prim.Native.Nat.{ℕ, suc, _+_, _≤_, _<_}
+use mathlib.Core.Path.{_≡_, refl, ap, _∙_}
+use Prim.Native.Nat.{ℕ, suc, _+_, _≤_}
 use native.Mathlib.Omega.{arith}
 use mathlib.Core.Bool.{Bool, true, false, _&&_, _||_, cond}
-use mathlib.Core.List.{List, [], _∷_, _++_, map}
+use mathlib.Core.List.{List, [], _∷_, _++_}
 use mathlib.Core.Option.{none, some}
 use lib.Dec.{eqb, ltb}
 use lib.Ieee.{Float}
 use lib.ListN.{length, length-append, length-map}
 use borrow.Author.Tests.{eqb-true, ltb-true, ne-eqb}
-use Rattle.lists.specs.Every.{all}
 use Rattle.lists.specs.Select.{keep, each, has, ascending, insert-after}
 use Rattle.lists.proofs.Booleans.{neither}
 use Rattle.lists.proofs.Every.{all-tail}
 use Rattle.entities.specs.Records.{Map}
 use Rattle.rules.specs.Names.{Point2}
-use Rattle.rules.specs.Split.{LanePlan, Piece, halves, cameFrom, swapFirst, onSecond, follow-all, secondHalves, pieceIds, piecesIds, newPiece, newPieces, cutMap}
+use Rattle.rules.specs.Split.{LanePlan, Piece, halves, cameFrom, onSecond, secondHalves, piecesIds, newPiece, newPieces, cutMap}
+use Rattle.rules.specs.Turns.{swapFirst, follow-all}
 use Rattle.laws.proofs.KeptRows.{keep-on}
 use Rattle.laws.proofs.Links.{eqb-swap}
 use Rattle.follows.proofs.Places.{has-place, swap-length}

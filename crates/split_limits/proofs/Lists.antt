@@ -1,9 +1,9 @@
 -- The lists of ids of roads, junctions and rules after a split fit where the tests of numbers say so. Assumes nothing.
-use mathlib.Core.Path.{_≡_, refl, sym, ap, _∙_}
+use mathlib.Core.Path.{_≡_, refl, ap, _∙_}
 use Prim.Native.Nat.{ℕ, zero, suc, _+_, _*_, _≤_, _<_}
 use native.Mathlib.Omega.{arith}
 use mathlib.Core.Bool.{Bool, true, false, not, _&&_, cond}
-use mathlib.Core.List.{List, [], _∷_, map}
+use mathlib.Core.List.{List, [], map}
 use mathlib.Core.Option.{Option, none, some}
 use lib.Dec.{eqb, leb}
 use lib.Ieee.{Float}
@@ -20,7 +20,9 @@ use Rattle.rules.specs.Names.{Point2}
 use Rattle.rules.specs.Map.{rule-anchor}
 use Rattle.rules.specs.Sound.{idLists}
 use Rattle.rules.specs.Lane.{roadLanes, junctionLanes, ruleLanes}
-use Rattle.rules.specs.Split.{LanePlan, halves, follow-all, cutRule}
+use Rattle.rules.specs.Split.{LanePlan, halves}
+use Rattle.rules.specs.Turns.{follow-all}
+use Rattle.laws.proofs.TurnsRows.{cutInTurns}
 use Rattle.tables.specs.View.{word, rows, idsAt, idsWhere, roadOf, junctionOf, ruleOf}
 use Rattle.tables.specs.Formed.{counted, ruleFormed}
 use Rattle.row_tests.specs.Good.{allRows}
@@ -31,7 +33,7 @@ use Rattle.store.proofs.Rows.{passing}
 use Rattle.lookup.specs.Lookup.{rowAt}
 use Rattle.split_named.proofs.Grown.{rows-room}
 use Rattle.split_named.proofs.Words.{isSome, cutIds, below}
-use Rattle.split_room.specs.Fitting.{listFits, namedOf, ownFits, ruleFits, rulesFit}
+use Rattle.split_room.specs.Fitting.{listFits, ownFits, ruleFits, rulesFit}
 use Rattle.split_limits.proofs.Lengths.{grown-many, own-added, own-same}
 
 -- two tests that agree on rows that pass a third
@@ -105,7 +107,7 @@ module _ (join : Float) (m : Map) (next : ℕ) (ps : List LanePlan) (new : below
       go true false x y = refl
 
   abbrev after : List ℕ → Rule
-  after w = cutRule join m next ps (halves next ps) (ruleOf w)
+  after w = cutInTurns join m next ps (halves next ps) (ruleOf w)
 
   abbrev few : Rule → Bool
   few r = all (λ ids. leb (length ids) 64) (idLists r)
@@ -148,9 +150,9 @@ module _ (join : Float) (m : Map) (next : ℕ) (ps : List LanePlan) (new : below
   -- where a mark says of each rule whether it has an anchor after the cut
   pub rules-fit : (limit : ℕ) (anchored : List Bool) (t : List ℕ) → counted limit 330 t ≡ true → allRows 330 ruleFormed t ≡ true
       → ((j : ℕ) → j < word 0 t → getD anchored j false ≡ isSome (rule-anchor m (ruleOf (rowAt 330 t j))))
-      → all (λ r. all (λ ids. leb (length ids) 64) (idLists r)) (map (cutRule join m next ps (halves next ps)) (rows 330 ruleOf t)) ≡ rulesFit anchored (cutIds ps) 0 (rows 330 (λ w. w) t)
+      → all (λ r. all (λ ids. leb (length ids) 64) (idLists r)) (map (cutInTurns join m next ps (halves next ps)) (rows 330 ruleOf t)) ≡ rulesFit anchored (cutIds ps) 0 (rows 330 (λ w. w) t)
   unfolding rows allRows
   rules-fit limit anchored t c h k =
-      all-map few (cutRule join m next ps (halves next ps)) (reads 330 ruleOf (word 0 t) (drop 1 t))
-      ∙ (all-reads 330 ruleOf (λ r. few (cutRule join m next ps (halves next ps) r)) (word 0 t) (drop 1 t)
+      all-map few (cutInTurns join m next ps (halves next ps)) (reads 330 ruleOf (word 0 t) (drop 1 t))
+      ∙ (all-reads 330 ruleOf (λ r. few (cutInTurns join m next ps (halves next ps) r)) (word 0 t) (drop 1 t)
       ∙ rows-fit anchored 0 (word 0 t) (drop 1 t) (rows-room limit 330 t c) h (λ j l. let u : 0 + j ≡ j = omega arith in rw (u, drop-drop) (k j l)))

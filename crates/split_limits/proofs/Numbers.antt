@@ -17,6 +17,7 @@ use Rattle.rules.specs.Map.{rule-anchor}
 use Rattle.rules.specs.Sound as S
 use Rattle.rules.specs.Sound.{fitsRoom, withinLimits, pointCount, optionalLine, idLists}
 use Rattle.rules.specs.Split.{LanePlan, Piece, halves, piecesIds, cutMap, cut}
+use Rattle.laws.proofs.TurnsRows.{calm, rules-in-turns}
 use Rattle.tables.specs.View.{Tables, word, rows, view, laneOf, boundaryOf, ruleOf}
 use Rattle.tables.specs.Formed.{spanAt, stored, counted, ruleFormed}
 use Rattle.store.specs.Store.{roomOf}
@@ -67,6 +68,7 @@ pub record Told (t : Tables) (start : ℕ) (ps : List LanePlan) (xs : List Piece
   pub junction-lists : allRows 69 (λ w. leb (word 4 w) 64) (t .junctions) ≡ true
   pub rules-counted : counted 512 330 (t .rules) ≡ true
   pub rules-formed : allRows 330 ruleFormed (t .rules) ≡ true
+  pub rules-calm : all (calm (start + piecesIds xs)) (view t .rules) ≡ true
   pub anchors : (j : ℕ) → j < word 0 (t .rules) → getD anchored j false ≡ isSome (rule-anchor (cutOf t start ps xs) (ruleOf (rowAt 330 (t .rules) j)))
 
 -- the parts put together
@@ -139,4 +141,7 @@ module _ (t : Tables) (tol : Tolerance) (start own : ℕ) (group : List ℕ) (ps
       junctions-are = unfold cut view in junctions-fit next ps 256 (t .junctions) (h .junctions-counted) (h .junction-lists)
 
       rules-are : all (λ r. all (λ ids. leb (length ids) 64) (idLists r)) (after .rules) ≡ rulesFit anchored (cutIds ps) 0 (rows 330 (λ w. w) (t .rules))
-      rules-are = unfold cut view in rules-fit (tol .join) (cutOf t start ps xs) next ps (h .new) 512 anchored (t .rules) (h .rules-counted) (h .rules-formed) (h .anchors)
+      rules-are =
+          unfold cut view in
+          ap (all (λ r. all (λ ids. leb (length ids) 64) (idLists r))) (rules-in-turns (tol .join) (cutOf t start ps xs) next ps (h .cuts) (h .new) (rows 330 ruleOf (t .rules)) (h .rules-calm))
+          ∙ rules-fit (tol .join) (cutOf t start ps xs) next ps (h .new) 512 anchored (t .rules) (h .rules-counted) (h .rules-formed) (h .anchors)

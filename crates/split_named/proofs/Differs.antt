@@ -12,7 +12,7 @@ use Rattle.lists.specs.Select.{any, has, insert-after, numbered, sameNumbers}
 use Rattle.lists.proofs.Booleans.{and-fst, neither}
 use Rattle.lists.proofs.Every.{all-head, all-tail}
 use Rattle.lists.proofs.Select.{length-after, after-still, some-kept}
-use Rattle.rules.specs.Split.{swapFirst}
+use Rattle.rules.specs.Turns.{swapFirst}
 use Rattle.laws.proofs.SplitRows.{same-numbers}
 use Rattle.grow.proofs.Growing.{firsts-numbered}
 use Rattle.follows.specs.Following.{firstPlace, pair, followed, followedAll, ownDiffer}

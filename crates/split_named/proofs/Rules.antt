@@ -1,4 +1,4 @@
--- Rules stored with their lanes as document 01 leaves them are their rows in which the lanes follow, and differ where the rows do. Assumes nothing.
+-- Rules stored with their lanes as they follow in turns are their rows in which the lanes follow, and differ where the rows do. Assumes nothing.
 use mathlib.Core.Path.{_≡_, refl, sym, ap, _∙_}
 use Prim.Native.Nat.{ℕ, zero, suc, _+_, _*_, _<_}
 use native.Mathlib.Nat.{zero-mul}
@@ -14,7 +14,9 @@ use Rattle.lists.specs.Select.{any, each, has, insert-after, numbered, sameNumb
 use Rattle.entities.specs.Records.{Map, Rule}
 use Rattle.rules.specs.Names.{Point2}
 use Rattle.rules.specs.Map.{rule-anchor}
-use Rattle.rules.specs.Split.{LanePlan, onSecond, follow-all, cutRule, ruleDiffers}
+use Rattle.rules.specs.Split.{LanePlan, onSecond, ruleDiffers}
+use Rattle.rules.specs.Turns.{follow-all}
+use Rattle.laws.proofs.TurnsRows.{cutInTurns}
 use Rattle.tables.specs.View.{word, idsAt, idsWhere, rows, ruleOf}
 use Rattle.row_tests.proofs.Tables.{row-length}
 use Rattle.lookup.specs.Lookup.{rowAt}
@@ -90,7 +92,7 @@ module _ (join : Float) (m : Map) (next : ℕ) (ps : List LanePlan) (b : below n
   cut = cutIds ps
 
   abbrev rule : Rule → Rule
-  rule r = cutRule join m next ps (numbered next cut) r
+  rule r = cutInTurns join m next ps (numbered next cut) r
 
   module _ (anchored : Bool) (past : List Bool) (w : List ℕ) (k : RuleMarked join m anchored past next ps w) where
     own : follow-all join m (rule-anchor m (ruleOf w)) next ps (idsAt 5 w) ≡ followedAll anchored past next cut (idsAt 5 w)
@@ -115,10 +117,10 @@ module _ (join : Float) (m : Map) (next : ℕ) (ps : List LanePlan) (b : below n
 
 pub rules-followed : (join : Float) (m : Map) (next : ℕ) (ps : List LanePlan) → below next (cutIds ps) → (anchored past : List Bool) (t : List ℕ) → Follows anchored past next (cutIds ps) t
     → ((i : ℕ) → i < word 0 t → RuleMarked join m (getD anchored i false) (marksOf past i) next ps (rowAt 330 t i))
-    → storeRows 330 ruleOnto (λ r. r .id) t (map (cutRule join m next ps (numbered next (cutIds ps))) (rows 330 ruleOf t)) ≡ rulesFollow anchored past next (cutIds ps) t
+    → storeRows 330 ruleOnto (λ r. r .id) t (map (cutInTurns join m next ps (numbered next (cutIds ps))) (rows 330 ruleOf t)) ≡ rulesFollow anchored past next (cutIds ps) t
 unfolding onRows
 rules-followed join m next ps b anchored past t f k =
-    let c = cutRule join m next ps (numbered next (cutIds ps)) in
+    let c = cutInTurns join m next ps (numbered next (cutIds ps)) in
     let g : ℕ → List ℕ → List ℕ = λ i w. ruleFollows (getD anchored i false) (marksOf past i) next (cutIds ps) w in
     store-changed 330 ruleOnto (λ r. r .id) ruleOf t (rows-room 512 330 t (f .counts)) c (λ w. unfold ruleOf in refl)
     ∙ sym (numbered-rows 330 g (λ w. ruleOnto w (c (ruleOf w))) t (λ i l.

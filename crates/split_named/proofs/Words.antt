@@ -1,4 +1,4 @@
--- A rule's own lanes that follow its anchor, by marks: what document 01 makes of them, and when they differ. Assumes nothing.
+-- A rule's own lanes that follow its anchor, by marks: what following in turns makes of them, and when they differ. Assumes nothing.
 use mathlib.Core.Path.{_≡_, refl, sym, ap, _∙_}
 use Prim.Native.Nat.{ℕ, suc, _≤_, _<_}
 use native.Mathlib.Omega.{arith}
@@ -15,7 +15,8 @@ use Rattle.lists.specs.Select.{has}
 use Rattle.lists.proofs.Every.{all-head, all-tail}
 use Rattle.entities.specs.Records.{Map}
 use Rattle.rules.specs.Names.{Point2}
-use Rattle.rules.specs.Split.{LanePlan, swapFirst, onSecond, follow-all}
+use Rattle.rules.specs.Split.{LanePlan, onSecond}
+use Rattle.rules.specs.Turns.{swapFirst, follow-all}
 use Rattle.follows.specs.Following.{firstPlace, followed, followedAll}
 use Rattle.follows.proofs.Places.{has-place, place-at, swap-set}
 
