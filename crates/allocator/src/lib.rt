@@ -1,5 +1,4 @@
 // id.rs: the counter of ids is lent, and advanced in place, last of all.
-ghost use mathlib.Core.Path.{_≡_};
 ghost use Rattle.step.specs.Step as S;
 ghost use Rattle.ops.specs.Calls.{Applied};
 use advance::Advanced;

@@ -1,7 +1,7 @@
 -- Lines by marks on the points: how the test of soundness finds that no stored point belongs to two lines. What `lines_apart` asks for
 -- (`takeable`) follows from tables whose lines are stored, and the lines that it reads are `spans` (proofs/Stored.antt).
 use Prim.Native.Nat.{ℕ, zero, suc, _+_}
-use mathlib.Core.Bool.{Bool, true, false, not, _&&_, _||_, cond}
+use mathlib.Core.Bool.{Bool, true, not, _&&_, _||_, cond}
 use mathlib.Core.List.{List, [], _∷_, _++_}
 use lib.Dec.{eqb, leb}
 use lib.ListN.{take, drop}

@@ -1,7 +1,6 @@
 -- Document 02 (a): "The host lends a second map area; once its own 10 is passed, it begins with the old map's slices as they came", "What lies past that
 -- copy .. stays".
 use mathlib.Core.Bool.{Bool, _&&_}
-use Prim.Native.Nat.{ℕ}
 use lib.Dec.{leb}
 use lib.ListN.{length, take}
 use Rattle.lists.specs.Rows.{over}

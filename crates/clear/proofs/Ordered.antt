@@ -1,12 +1,12 @@
 -- Lines that lie in order share no point. Assumes nothing.
 use mathlib.Core.Path.{_≡_, refl, sym, ap, _∙_}
-use mathlib.Core.Logic.{_⊎_, inl, ⊎-elim}
+use mathlib.Core.Logic.{inl, ⊎-elim}
 use mathlib.Core.Bool.{Bool, true, false, _&&_, _||_, true≢false}
 use mathlib.Core.List.{List, [], _∷_}
-use Prim.Native.Nat.{ℕ, _+_, _≤_, _<_}
+use Prim.Native.Nat.{ℕ, _+_, _≤_}
 use native.Mathlib.Omega.{arith}
 use lib.Dec.{eqb, leb}
-use borrow.Author.Tests.{eq-eqb, ne-eqb, le-leb, leb-true}
+use borrow.Author.Tests.{eq-eqb, le-leb, leb-true}
 use Rattle.lists.specs.Every.{all}
 use Rattle.lists.proofs.Booleans.{and-both, and-fst, and-snd, or-left, or-right}
 use Rattle.lists.proofs.Every.{all-nil, all-cons, all-head, all-tail}
@@ -19,7 +19,7 @@ use Rattle.layout.proofs.Room.{within-more}
 use Rattle.apart.proofs.Stored.{all-facts, spans-lines}
 use Rattle.layout.specs.Layout.{lineTables, countedLines}
 use Rattle.order.specs.Order.{behindAll, inOrder}
-use Rattle.order.proofs.Heads.{Loose, Stored, line-cases, first-any, first-stored}
+use Rattle.order.proofs.Heads.{Stored, line-cases, first-any, first-stored}
 
 -- a line that has points starts at a point or behind it
 abbrev startsAt : ℕ → Span → Bool

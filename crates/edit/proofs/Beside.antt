@@ -1,14 +1,13 @@
 -- set_neighbor on lent memory, by how it ends. Assumes nothing.
 use mathlib.Core.Path.{_≡_, refl, sym, ap, _∙_}
-use Prim.Native.Nat.{ℕ, zero, suc, _+_, _≤_, _<_}
-use native.Mathlib.Omega.{arith}
+use Prim.Native.Nat.{ℕ, _≤_}
 use mathlib.Core.Bool.{Bool, true, false, not, cond, _&&_, _||_, true≢false}
 use mathlib.Core.List.{List, [], _∷_, _++_, map}
 use mathlib.Core.Option.{Option, none, some}
 use lib.Dec.{eqb}
 use lib.Ieee.{Float}
-use borrow.Author.Tests.{eq-eqb, ne-eqb, eqb-true}
-use Rattle.lists.specs.Select.{any, find, has, place, ascending}
+use borrow.Author.Tests.{eq-eqb, eqb-true}
+use Rattle.lists.specs.Select.{has, place, ascending}
 use Rattle.lists.specs.declared.Found.the-variants.{At, Nothing}
 use Rattle.lists.proofs.Booleans.{and-fst, and-snd, same-test}
 use Rattle.lists.proofs.Select.{has-place, ascending-place}
@@ -16,27 +15,26 @@ use Rattle.entities.specs.declared.OptionNeighbor.{OptionNeighbor}
 use Rattle.entities.specs.declared.OptionNeighbor.the-variants.{None, Some}
 use Rattle.entities.specs.Types.{laneEntity, reciprocal-side}
 use Rattle.entities.specs.Records.{Lane, Map, Issue}
-use Rattle.rules.specs.Names.{Tolerance, Side, Left, Right, Neighbor, NeighborDirection, BoundaryUnshared, LaneAbsent, OwnPartner, LaneKind}
+use Rattle.rules.specs.Names.{Tolerance, Side, Left, Right, Neighbor, BoundaryUnshared, LaneAbsent, OwnPartner, LaneKind}
 use Rattle.rules.specs.Map.{lane, laneIds, neighborOn, boundaryOn, names}
 use Rattle.rules.specs.Sound.{fitsRoom, lastCounter, neighborsReciprocal, slotReturned, has-neighbor, holds}
 use Rattle.rules.specs.Edit as E
 use Rattle.rules.specs.Ops as O
 use Rattle.rules.proofs.Facts.{sound-facts}
-use Rattle.laws.proofs.Links.{lane-id}
 use Rattle.laws.proofs.Exact.{has-key, any-weaken}
 use Rattle.laws.proofs.Connect.{found-all}
-use Rattle.tables.specs.View.{Tables, word, refAt, laneOf, view}
+use Rattle.tables.specs.View.{Tables, refAt, laneOf, view}
 use Rattle.tables.specs.Formed.{soundTables}
 use Rattle.store.specs.Store.{store, roomOf}
 use Rattle.row_tests.specs.Returned.{laneAt}
 use Rattle.lookup.specs.Lookup.{placeOf, sideWord}
 use Rattle.lookup.proofs.Laws.{place-id, side-ref}
-use Rattle.topology.specs.Topology.{lanesChanged, idAt, slotHeld, besideRow}
+use Rattle.topology.specs.Topology.{lanesChanged, idAt, slotHeld}
 use Rattle.sound_facts.proofs.Stored.{withLaneTable}
 use Rattle.sound_facts.proofs.Found.{sound-map, lane-there, lane-missing, lanes-up}
 use Rattle.step.specs.Step.{Lent, step, stateOf, refusing}
 use Rattle.step.proofs.Steps.{step-refused}
-use Rattle.relink.specs.Parts.{writingLinks, placeSlot, slotIds, unsharedIssues, reslotting, freeing, setting}
+use Rattle.relink.specs.Parts.{placeSlot, slotIds, unsharedIssues, reslotting, freeing, setting}
 use Rattle.edit.proofs.Steps.{step-relinking, spread}
 use Rattle.edit.proofs.Named.{lanes-named}
 use Rattle.edit.proofs.Connects.{found-id}

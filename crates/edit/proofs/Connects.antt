@@ -1,26 +1,24 @@
 -- connect and disconnect on lent memory, by how they end. Assumes nothing.
 use mathlib.Core.Path.{_≡_, refl, sym, ap, _∙_}
-use Prim.Native.Nat.{ℕ, zero, suc, _+_, _≤_, _<_}
-use native.Mathlib.Omega.{arith}
+use Prim.Native.Nat.{ℕ, _≤_}
 use mathlib.Core.Bool.{Bool, true, false, not, cond, _&&_, _||_, true≢false}
-use mathlib.Core.List.{List, [], _∷_, _++_, map}
-use mathlib.Core.Option.{Option, none, some}
+use mathlib.Core.List.{[], _∷_, _++_, map}
+use mathlib.Core.Option.{some}
 use lib.Dec.{eqb}
-use lib.Ieee.{Float}
-use borrow.Author.Tests.{eq-eqb, ne-eqb, eqb-true}
-use Rattle.lists.specs.Select.{any, find, has, place, ascending}
+use borrow.Author.Tests.{eq-eqb, eqb-true}
+use Rattle.lists.specs.Select.{has, place, ascending}
 use Rattle.lists.specs.declared.Found.the-variants.{At, Nothing}
 use Rattle.lists.proofs.Select.{has-place, ascending-place}
 use Rattle.entities.specs.Types.{laneEntity}
-use Rattle.entities.specs.Records.{Lane, Map, Issue}
+use Rattle.entities.specs.Records.{Lane, Map}
 use Rattle.rules.specs.Names.{Tolerance, GeometricGap, LaneAbsent, OwnPartner, LaneKind}
-use Rattle.rules.specs.Map.{lane, leads-to, laneIds}
+use Rattle.rules.specs.Map.{lane, laneIds}
 use Rattle.rules.specs.Sound.{fitsRoom, lastCounter}
 use Rattle.rules.specs.Edit as E
 use Rattle.rules.specs.Ops as O
 use Rattle.laws.proofs.Links.{found-any, lane-id}
 use Rattle.laws.proofs.Exact.{has-key}
-use Rattle.tables.specs.View.{Tables, word, laneOf, view}
+use Rattle.tables.specs.View.{Tables, laneOf, view}
 use Rattle.tables.specs.Formed.{soundTables}
 use Rattle.store.specs.Store.{store, roomOf}
 use Rattle.row_tests.specs.Returned.{laneAt}
@@ -28,12 +26,12 @@ use Rattle.lookup.specs.Lookup.{placeOf, drawn}
 use Rattle.lookup.proofs.Laws.{place-id}
 use Rattle.topology.specs.Topology.{lanesChanged, idAt, linksAt}
 use Rattle.sound_facts.proofs.Stored.{withLaneTable}
-use Rattle.step.specs.Step.{Lent, Ended, step, stateOf, refusing}
-use Rattle.relink.specs.Parts.{writingLinks, pairOf, linkRoom, linking, unlinking}
+use Rattle.step.specs.Step.{Lent, step, stateOf, refusing}
+use Rattle.relink.specs.Parts.{pairOf, linkRoom, linking, unlinking}
 use Rattle.step.proofs.Steps.{step-refused}
 use Rattle.edit.proofs.Steps.{step-relinking, spread}
 use Rattle.edit.proofs.Named.{lanes-named}
-use Rattle.sound_facts.proofs.Found.{sound-map, lane-there, lane-missing, gapped-drawn, lanes-up, leads-by-row}
+use Rattle.sound_facts.proofs.Found.{lane-there, lane-missing, gapped-drawn, lanes-up, leads-by-row}
 
 -- ---- two lanes in id order
 

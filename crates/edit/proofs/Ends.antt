@@ -1,12 +1,10 @@
 -- The ends of the edits on a sound map, as the functions meet them. Assumes nothing.
-use mathlib.Core.Path.{_≡_, refl, sym, ap, _∙_}
+use mathlib.Core.Path.{_≡_, sym, ap, _∙_}
 use Prim.Native.Nat.{ℕ, _≤_, _<_}
-use mathlib.Core.Bool.{Bool, true, false}
-use mathlib.Core.List.{List, []}
-use mathlib.Core.Option.{Option, none, some}
+use mathlib.Core.Bool.{Bool, true}
+use mathlib.Core.List.{List}
 use borrow.Author.Tests.{ne-eqb}
 use Rattle.lists.specs.Select.{has}
-use Rattle.lists.specs.declared.Found.{Found}
 use Rattle.lists.specs.declared.Found.the-variants.{At, Nothing}
 use Rattle.entities.specs.declared.OptionNeighbor.{OptionNeighbor}
 use Rattle.entities.specs.declared.OptionNeighbor.the-variants.{None, Some}
@@ -18,7 +16,7 @@ use Rattle.tables.specs.View.{Tables, word, laneOf}
 use Rattle.tables.specs.Formed.{soundTables}
 use Rattle.row_tests.specs.Returned.{searchable, laneAt}
 use Rattle.lookup.specs.Lookup.{placeOf, sortedTable, allStored, drawn}
-use Rattle.lookup.proofs.Laws.{place-within, place-id, searchable-sorted}
+use Rattle.lookup.proofs.Laws.{place-within, place-id}
 use Rattle.topology.specs.Topology.{idAt, linksAt}
 use Rattle.sound_facts.proofs.Facts.{facts}
 use Rattle.sound_facts.proofs.Found.{lanes-search, lanes-sorted}

@@ -1,17 +1,17 @@
 -- How many links lanes have after an edit: at most 16 each way, where the lists that grow have room. Assumes nothing.
 use mathlib.Core.Path.{_≡_, refl, sym, ap, _∙_}
 use mathlib.Core.Logic.{_⊎_, inl, inr}
-use Prim.Native.Nat.{ℕ, zero, suc, _+_, _*_, _≤_, _<_}
+use Prim.Native.Nat.{ℕ, _≤_, _<_}
 use native.Mathlib.Omega.{arith}
-use mathlib.Core.Bool.{Bool, true, false, not, cond, _&&_, _||_, true≢false}
-use mathlib.Core.List.{List, [], _∷_, _++_}
+use mathlib.Core.Bool.{Bool, true, false, not, cond, _&&_, _||_}
+use mathlib.Core.List.{List, []}
 use lib.Dec.{eqb, leb, ltb}
 use lib.Ieee.{Float}
-use lib.ListN.{length, getD, take, drop}
+use lib.ListN.{length, getD, drop}
 use lib.Seq.{drop-drop}
 use borrow.Author.Tests.{eq-eqb, eqb-true, leb-true, le-leb, ltb-true, lt-ltb}
 use Rattle.lists.specs.Every.{all}
-use Rattle.lists.specs.Select.{has, place, without, keep, ascending}
+use Rattle.lists.specs.Select.{place, without}
 use Rattle.lists.proofs.Booleans.{and-both, and-fst, and-snd, same-test}
 use Rattle.lists.proofs.Every.{all-places, all-getD}
 use Rattle.lists.proofs.Rows.{length-reads, getD-reads}
@@ -19,7 +19,7 @@ use Rattle.lists.proofs.Place.{place-present, length-place}
 use Rattle.lists.proofs.Select.{length-keep}
 use Rattle.entities.specs.Records.{Lane}
 use Rattle.rules.specs.Edit as E
-use Rattle.tables.specs.View.{word, idsAt, laneOf, rows}
+use Rattle.tables.specs.View.{word, laneOf, rows}
 use Rattle.row_tests.specs.Returned.{searchable, laneAt}
 use Rattle.topology.specs.Topology.{idAt, linksAt}
 use Rattle.topology.proofs.Table.{unique}

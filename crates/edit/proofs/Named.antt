@@ -1,5 +1,5 @@
 -- The lanes named as modified are an ascending list of ids. Assumes nothing.
-use mathlib.Core.Path.{_≡_, refl, sym, ap, _∙_}
+use mathlib.Core.Path.{_≡_, sym, ap, _∙_}
 use Prim.Native.Nat.{ℕ}
 use mathlib.Core.Bool.{Bool, true, _&&_}
 use mathlib.Core.List.{List, map}
@@ -9,7 +9,7 @@ use Rattle.lists.specs.Select.{keep, any, has, ascending}
 use Rattle.lists.proofs.Booleans.{and-both, and-fst, and-snd, same-test}
 use Rattle.lists.proofs.Same.{ascending-same}
 use Rattle.lists.proofs.Select.{any-implies, keys-keep}
-use Rattle.entities.specs.Records.{Lane, Map}
+use Rattle.entities.specs.Records.{Map}
 use Rattle.rules.specs.Names.{LaneKind}
 use Rattle.rules.specs.Map.{laneIds}
 use Rattle.rules.specs.Edit.{refs, lanesWhere}

@@ -1,9 +1,8 @@
 -- The edits of links and neighbours from a sound map: room and what is written back follow, so a call is what its rows make of it. Assumes nothing.
 use mathlib.Core.Path.{_≡_, refl, sym, ap, _∙_}
-use Prim.Native.Nat.{ℕ, _+_, _*_, _≤_, _<_}
-use native.Mathlib.Omega.{arith}
-use mathlib.Core.Bool.{Bool, true, false, not, cond, _&&_, _||_}
-use mathlib.Core.List.{List, [], _∷_, _++_, map}
+use Prim.Native.Nat.{ℕ, _≤_}
+use mathlib.Core.Bool.{Bool, true, false, cond, _&&_, _||_}
+use mathlib.Core.List.{List, [], map}
 use mathlib.Core.Option.{Option, none, some}
 use lib.Dec.{eqb, leb}
 use lib.ListN.{length}
@@ -12,7 +11,6 @@ use Rattle.lists.specs.Every.{all}
 use Rattle.lists.specs.Select.{has, place, without}
 use Rattle.lists.specs.declared.Found.the-variants.{At}
 use Rattle.entities.specs.declared.OptionNeighbor.the-variants.{None, Some}
-use Rattle.entities.specs.Records.{Lane, Map, Issue}
 use Rattle.rules.specs.Names.{Tolerance, Side, Left, Right, Neighbor}
 use Rattle.rules.specs.Sound.{fitsRoom, lastCounter}
 use Rattle.rules.specs.Edit as E

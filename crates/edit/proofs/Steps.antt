@@ -1,26 +1,23 @@
 -- One call, by how it ends: not sound, refused by the edit, or an edit of links and neighbours with room or without. Assumes nothing.
-use mathlib.Core.Path.{_≡_, refl, sym, ap, _∙_}
-use Prim.Native.Nat.{ℕ, zero, suc, _+_, _-_, _*_, _/_, _≤_, _<_}
+use mathlib.Core.Path.{_≡_, refl, ap, _∙_}
+use Prim.Native.Nat.{ℕ, _/_, _≤_}
 use native.Mathlib.Omega.{arith}
-use mathlib.Core.Bool.{Bool, true, false, not, cond, _&&_}
-use mathlib.Core.List.{List, [], _∷_, _++_, map}
-use mathlib.Core.Option.{Option, none, some}
-use lib.Dec.{eqb, leb}
+use mathlib.Core.Bool.{Bool, true, false, cond, _&&_}
+use mathlib.Core.List.{List, [], map}
+use mathlib.Core.Option.{none}
+use lib.Dec.{leb}
 use lib.ListN.{length, length-map}
 use borrow.Author.Tests.{le-leb}
-use Rattle.lists.specs.Select.{each}
-use Rattle.lists.proofs.Booleans.{and-fst, and-snd}
-use Rattle.lists.proofs.Rows.{over-nil}
-use Rattle.entities.specs.Records.{Lane, Map, Issue, ChangeSet}
-use Rattle.rules.specs.Names.{Tolerance, EntityRef, LaneKind, Refusal, Unsound, NoRoom}
-use Rattle.rules.specs.Sound.{sound, fitsRoom, lastCounter}
+use Rattle.entities.specs.Records.{Map, Issue, ChangeSet}
+use Rattle.rules.specs.Names.{Tolerance, EntityRef, LaneKind, NoRoom}
+use Rattle.rules.specs.Sound.{fitsRoom, lastCounter}
 use Rattle.rules.specs.Edit as E
 use Rattle.rules.specs.Ops as O
-use Rattle.tables.specs.View.{Tables, view}
-use Rattle.tables.specs.Formed.{formed, soundTables}
+use Rattle.tables.specs.View.{Tables}
+use Rattle.tables.specs.Formed.{soundTables}
 use Rattle.store.specs.Store.{roomOf}
 use Rattle.sound_facts.proofs.Stored.{withLaneTable}
-use Rattle.report.specs.Report.{listed, warned, counts, reportFits}
+use Rattle.report.specs.Report.{listed, warned, reportFits}
 use Rattle.report.proofs.Laws.{listed-nil}
 use Rattle.report.specs.declared.Answer.the-variants.{Changed, Refused}
 use Rattle.step.specs.Step.{Lent, Ended, ended, step, stateOf, listsOf, refusing, writing, changing}

@@ -1,10 +1,8 @@
 -- What remove_lane asks of a sound map, and its ends as the one equation with `step`. Assumes nothing.
-use mathlib.Core.Path.{_≡_, refl, sym, ap, _∙_}
-use Prim.Native.Nat.{ℕ, _≤_, _<_}
-use mathlib.Core.Bool.{Bool, true, false, _&&_}
-use mathlib.Core.List.{List}
+use mathlib.Core.Path.{_≡_, sym, ap, _∙_}
+use Prim.Native.Nat.{ℕ, _≤_}
+use mathlib.Core.Bool.{true}
 use lib.Dec.{leb}
-use Rattle.lists.specs.declared.Found.{Found}
 use Rattle.lists.specs.declared.Found.the-variants.{At, Nothing}
 use Rattle.lists.proofs.Booleans.{and-both}
 use Rattle.rules.specs.Names.{Tolerance, LaneAbsent}
@@ -19,9 +17,8 @@ use Rattle.lookup.specs.Lookup.{placeOf}
 use Rattle.laws.proofs.Links.{lane-id}
 use Rattle.sound_facts.proofs.Stored.{formed-counts, lane-key}
 use Rattle.sound_facts.proofs.Facts.{facts}
-use Rattle.step.specs.Step.{Lent, Ended, ended, step, refusing}
+use Rattle.step.specs.Step.{Lent, step, refusing}
 use Rattle.sound_facts.proofs.Found.{sound-formed, lane-there, lane-missing, lanes-sorted, leads-may}
-use Rattle.mentions.specs.declared.Rows.the-variants.{Lanes, Roads, Junctions, Rules}
 use Rattle.mentions.specs.Naming.{tableFormed}
 use Rattle.unused.specs.Parts.{Formed, Removable, Removed, goneWith, without-lane}
 use Rattle.edit_lane.proofs.Steps.{lane-absent, step-removed, spread, given}

@@ -1,15 +1,14 @@
 -- A removal's two ends: written, or refused for want of room. Assumes nothing.
-use mathlib.Core.Path.{_≡_, refl, sym, ap, _∙_}
+use mathlib.Core.Path.{_≡_, sym, ap, _∙_}
 use Prim.Native.Nat.{ℕ, zero, suc, _+_, _*_, _/_, _≤_}
 use native.Mathlib.Omega.{arith}
-use mathlib.Core.Bool.{Bool, true, false, cond, _&&_}
+use mathlib.Core.Bool.{Bool, true, false, _&&_}
 use mathlib.Core.List.{List, [], _∷_, map}
 use lib.Dec.{leb}
-use lib.ListN.{length, getD, take, length-map, length-append}
+use lib.ListN.{length, getD, take, length-map}
 use lib.Seq.{take-nil}
 use Rattle.lists.proofs.Booleans.{and-fst, and-snd}
-use Rattle.rules.specs.Names.{EntityRef, LaneKind, BoundaryKind, NoRoom}
-use Rattle.rules.specs.Edit.{refs}
+use Rattle.rules.specs.Names.{EntityRef, BoundaryKind, NoRoom}
 use Rattle.tables.specs.View.{word}
 use Rattle.row_tests.specs.Returned.{laneAt}
 use Rattle.row_tests.proofs.Lanes.{id-at}
@@ -19,7 +18,7 @@ use Rattle.report.proofs.Warnings.{room}
 use Rattle.mentions.specs.declared.Rows.the-variants.{Rules, Orphans}
 use Rattle.mentions.specs.Naming.{tableFormed, naming}
 use Rattle.unused.specs.declared.Gone.{Gone}
-use Rattle.unused.specs.Parts.{Holds, goneIds, goneWith, touched, leaving, listsFit, Left, leftTables, Removed, removed, without-lane}
+use Rattle.unused.specs.Parts.{Holds, goneIds, touched, leaving, listsFit, Left, leftTables, Removed, removed, without-lane}
 
 pub orphans-formed : (t : List ℕ) → tableFormed Rules t ≡ true → tableFormed Orphans t ≡ true
 unfolding tableFormed

@@ -1,19 +1,17 @@
 -- A call of remove_lane, by how it ends. Assumes nothing.
 use mathlib.Core.Path.{_≡_, refl, sym, ap, _∙_}
-use Prim.Native.Nat.{ℕ, _+_, _-_, _*_, _/_, _≤_}
+use Prim.Native.Nat.{ℕ, _-_, _/_, _≤_}
 use native.Mathlib.Omega.{arith}
-use mathlib.Core.Bool.{Bool, true, false, not, cond, _&&_}
-use mathlib.Core.List.{List, [], _∷_, map}
-use mathlib.Core.Option.{Option, none, some}
-use lib.Dec.{eqb, leb}
+use mathlib.Core.Bool.{Bool, true, false, cond, _&&_}
+use mathlib.Core.List.{List, map}
+use mathlib.Core.Option.{none, some}
+use lib.Dec.{leb}
 use lib.ListN.{length}
 use borrow.Author.Tests.{le-leb}
-use Rattle.lists.specs.Select.{has}
-use Rattle.entities.specs.Records.{Lane, Map, Issue, ChangeSet}
-use Rattle.rules.specs.Names.{Tolerance, EntityRef, Refusal, LaneAbsent, NoRoom}
+use Rattle.entities.specs.Records.{Lane, Issue, ChangeSet}
+use Rattle.rules.specs.Names.{Tolerance, EntityRef, LaneAbsent, NoRoom}
 use Rattle.rules.specs.Map.{lane}
-use Rattle.rules.specs.Sound.{sound, fitsRoom, pointCount, lastCounter}
-use Rattle.rules.specs.Edit as E
+use Rattle.rules.specs.Sound.{fitsRoom, pointCount, lastCounter}
 use Rattle.rules.specs.Lane.{remove-lane}
 use Rattle.rules.specs.Ops as O
 use Rattle.rules.proofs.Facts.{sound-facts}
@@ -22,16 +20,15 @@ use Rattle.tables.specs.Formed.{soundTables}
 use Rattle.row_tests.specs.Returned.{laneAt}
 use Rattle.row_tests.proofs.Tables.{table-room}
 use Rattle.soundness.proofs.Whole.{rows-count}
-use Rattle.store.specs.Store.{store, roomOf}
+use Rattle.store.specs.Store.{roomOf}
 use Rattle.sound_facts.proofs.Stored.{formed-counts}
 use Rattle.sound_facts.proofs.Room.{points-room}
 use Rattle.laws.proofs.Remove.{removed, remove-limits, remove-fewer}
 use Rattle.laws.proofs.RemoveExact.{removal}
 use Rattle.laws.proofs.RemoveLawful.{removing, remove-yields}
-use Rattle.report.specs.Report.{listed, warned, orphanRule, counts}
-use Rattle.report.specs.declared.Answer.{Answer}
+use Rattle.report.specs.Report.{listed, warned, orphanRule}
 use Rattle.report.specs.declared.Answer.the-variants.{Changed, Refused}
-use Rattle.step.specs.Step.{Lent, Ended, ended, step, stateOf, listsOf, refusing, changing}
+use Rattle.step.specs.Step.{Lent, Ended, ended, step, listsOf, refusing, changing}
 use Rattle.step.proofs.Steps.{step-refused, step-decided}
 use Rattle.report.proofs.Laws.{listed-nil}
 use Rattle.sound_facts.proofs.Found.{sound-map, sound-formed}

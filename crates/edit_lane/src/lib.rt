@@ -1,7 +1,6 @@
 // edit/lane.rs: remove_lane. What goes and what names it is found first; then the lists are written, then the tables.
 ghost use mathlib.Core.Path.{_≡_};
 ghost use mathlib.Core.Bool.{true};
-ghost use mathlib.Core.List.{map};
 ghost use Prim.Native.Nat.{_+_, _*_};
 ghost use Rattle.rules.specs.Ops as O;
 ghost use Rattle.tables.specs.View.{word};

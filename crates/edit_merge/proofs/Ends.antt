@@ -3,19 +3,17 @@ use mathlib.Core.Path.{_≡_, refl, sym, ap, _∙_}
 use Prim.Native.Nat.{ℕ, _+_, _/_, _^_, _≤_, _<_, min}
 use native.Mathlib.Omega.{arith}
 use mathlib.Core.Bool.{Bool, true, false, cond, _&&_}
-use mathlib.Core.List.{List, [], _∷_, _++_}
-use mathlib.Core.Option.{none}
+use mathlib.Core.List.{List, [], _∷_}
 use lib.Dec.{leb}
 use lib.Ieee.{Float}
 use lib.ListN.{length, length-append}
 use Rattle.lists.specs.declared.Found.the-variants.{At, Nothing}
 use Rattle.entities.specs.Records.{Lane, Map, Issue, ChangeSet}
 use Rattle.rules.specs.Names.{Tolerance, EntityRef, LaneKind, BoundaryKind, Refusal, LaneAbsent, NotMergeable, NoRoom, NoIds}
-use Rattle.rules.specs.Map.{lane}
 use Rattle.rules.specs.Sound.{fitsRoom, lastCounter, nextId}
 use Rattle.rules.specs.Edit as E
 use Rattle.rules.specs.Edit.{refs, upFrom}
-use Rattle.rules.specs.Merge.{SidePlan, planIds, merged, merge-lanes}
+use Rattle.rules.specs.Merge.{planIds, merged, merge-lanes}
 use Rattle.rules.specs.Ops as O
 use Rattle.tables.specs.View.{Tables, word, view, laneOf}
 use Rattle.tables.specs.Formed.{soundTables, spans}
@@ -25,7 +23,6 @@ use Rattle.layout.specs.Layout.{lastPoint}
 use Rattle.lookup.specs.Lookup.{placeOf, rowAt}
 use Rattle.report.specs.Report.{listed, warned, counts}
 use Rattle.report.specs.declared.Counts.{Counts}
-use Rattle.report.specs.declared.Answer.{Answer}
 use Rattle.report.specs.declared.Answer.the-variants.{Changed}
 use Rattle.report.proofs.Laws.{length-up}
 use Rattle.step.specs.Step.{Lent, Ended, ended, step, stateOf, listsOf, refusing, changing}
@@ -42,7 +39,7 @@ use Rattle.merge_lists.specs.Changes.{touched, leaving, warningsOf}
 use Rattle.merge_lists.proofs.Standing.{length-refs}
 use Rattle.merge_laid.proofs.Planning.{Planning}
 use Rattle.merge_laid.proofs.Merging.{Merging}
-use Rattle.merge_laid.proofs.Whole.{linesOf, lines-spans, relay-laid}
+use Rattle.merge_laid.proofs.Whole.{lines-spans, relay-laid}
 use Rattle.merge_changes.proofs.Lists.{plan-ids, created-read, modified-read, deleted-read, warnings-read}
 use Rattle.merge_changes.proofs.Tables.{roads-forget, junctions-forget, rules-replace}
 use Rattle.merge_limits.proofs.Asked as M
@@ -67,7 +64,7 @@ use Rattle.merge_plan.specs.Sides.{sideId}
 use Rattle.merge_lists.specs.Changes.{Formed, Looked, withJoined}
 use Rattle.merge_lists.proofs.Listed.{joined-more}
 use Rattle.merge_laid.proofs.Whole.{relayable}
-use Rattle.merge_made.specs.Parts.{MayMerge, countsOf, namedWritten, namedIn, reachOf, written, mergeMade, mergeFound, goneIn, joinedIn}
+use Rattle.merge_made.specs.Parts.{MayMerge, countsOf, reachOf, written, mergeMade, mergeFound, goneIn, joinedIn}
 
 -- ---- refused by what is named
 

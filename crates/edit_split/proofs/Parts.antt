@@ -3,8 +3,7 @@ use mathlib.Core.Path.{_≡_, refl, sym, ap, _∙_, subst}
 use Prim.Native.Nat.{ℕ, _+_, _*_, _/_, _^_, _≤_, _<_, min}
 use native.Mathlib.Omega.{arith}
 use mathlib.Core.Bool.{Bool, true, false, not, cond, _&&_}
-use mathlib.Core.List.{List, [], _∷_, _++_}
-use mathlib.Core.Option.{Option, none, some}
+use mathlib.Core.List.{List, [], _∷_}
 use lib.Dec.{leb}
 use lib.Ieee.{Float}
 use lib.ListN.{length, replicate, drop, length-append, length-map, length-replicate}
@@ -15,7 +14,6 @@ use Rattle.lists.specs.declared.Found.{Found}
 use Rattle.lists.specs.declared.Found.the-variants.{At, Nothing}
 use Rattle.lists.proofs.Booleans.{and-fst, and-snd}
 use Rattle.lists.proofs.Rows.{length-keys, length-over}
-use Rattle.entities.specs.Records.{Issue, ChangeSet}
 use Rattle.rules.specs.Names.{Tolerance, Point2, EntityKind, EntityRef, LaneKind, BoundaryKind, NoRoom, NoIds}
 use Rattle.rules.specs.Sound.{fitsRoom, lastCounter, nextId}
 use Rattle.rules.specs.Edit.{Edited, refs, upFrom}
@@ -31,7 +29,7 @@ use Rattle.store.specs.Laid.{laid}
 use Rattle.report.specs.Report.{listed, warned, accepting, counts, counterBehind}
 use Rattle.report.specs.declared.Counts.{Counts}
 use Rattle.report.specs.declared.Answer.{Answer}
-use Rattle.report.specs.declared.Answer.the-variants.{Changed, Split, Refused}
+use Rattle.report.specs.declared.Answer.the-variants.{Split, Refused}
 use Rattle.report.proofs.Laws.{length-up}
 use Rattle.room.specs.Room.{idsLeft, rowsFit, listsFit}
 use Rattle.step.specs.Step.{Lent, Ended, ended, listsOf, refusing}
@@ -42,11 +40,11 @@ use Rattle.group.specs.Walk.{laneMap, idsOf}
 use Rattle.group.proofs.Choose.{unset}
 use Rattle.split_plan.specs.Placing.{groupMarks}
 use Rattle.split_pieces.specs.Pieces as Q
-use Rattle.split_lists.specs.Changes.{createdBy, warningsBy}
+use Rattle.split_lists.specs.Changes.{createdBy}
 use Rattle.split_relay.specs.Relaying.{Cutting, drawnPoints}
 use Rattle.split_touched.specs.Modified.{modifiedOf, blank, Touchable, Modifiable}
 use Rattle.split_made.specs.declared.Drawn.{Drawn}
-use Rattle.split_made.specs.Made.{Fittable, Left, Makeable, Notable, Writable, answerOf, countsOf, fitsAfter, left, lined, modifiedIn, rowsIn, splitMade, tablesCut, toldBy, warningsIn}
+use Rattle.split_made.specs.Made.{Fittable, Left, Makeable, Notable, answerOf, countsOf, fitsAfter, left, lined, modifiedIn, rowsIn, splitMade, tablesCut, toldBy, warningsIn}
 use Rattle.split_facts.specs.Splitting.{Anchored, Measured, Numbered, Planned, piecesIn, reachOf, splitEnds, splitOf, written}
 use Rattle.split_facts.proofs.Facts as F
 use Rattle.split_facts.proofs.Asks as A

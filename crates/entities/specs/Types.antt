@@ -1,6 +1,6 @@
 -- The types that go by value (id.rs, entities.rs, topology.rs, diagnostics.rs), with the numbers of document 01.
 use mathlib.Core.Path.{_≡_, refl}
-use mathlib.Core.Bool.{Bool, true, false}
+use mathlib.Core.Bool.{false}
 use mathlib.Core.Option.{Option, none, some}
 use Prim.Native.Nat.{ℕ}
 use lib.Ieee.{Float, binary64, ofBits, round}

@@ -1,7 +1,7 @@
 -- Rules whose own lanes follow their anchors where lanes are cut, in words. Of each rule there are 64 marks, one for each place of its own lanes: the anchor lies
 -- past the cut of the lane there. Nothing that a host calls rests on this page; the laws of split_named tie it to the rules.
 use mathlib.Core.Path.{_≡_}
-use Prim.Native.Nat.{ℕ, zero, suc, _+_, _*_, _≤_}
+use Prim.Native.Nat.{ℕ, zero, suc, _*_, _≤_}
 use mathlib.Core.Bool.{Bool, true, false, _&&_, _||_, cond}
 use mathlib.Core.List.{List, [], _∷_, _++_}
 use lib.Dec.{eqb, leb}

@@ -1,10 +1,10 @@
 -- geometry/mod.rs: points by value, each float operation in the order of the Rust.
 -- Document 01: norms are the root of the rounded sum of squares, left to right, in two dimensions too (docs/DIFFERENCES.md, `hypot`).
 use mathlib.Core.Bool.{Bool, _&&_, cond}
-use lib.Ieee.{Float, lt, div}
+use lib.Ieee.{Float, lt}
 use lib.Ieee.Scale.{finite}
 use Rattle.root.specs.Root.{root}
-use Rattle.geometry.specs.Float.{_+ᶠ_, _-ᶠ_, _*ᶠ_, _/ᶠ_, zeroᶠ, oneᶠ, epsilon, clamp, mix, coordinate}
+use Rattle.geometry.specs.Float.{_+ᶠ_, _-ᶠ_, _*ᶠ_, _/ᶠ_, zeroᶠ, oneᶠ, epsilon, clamp, coordinate}
 use Rattle.geometry.specs.declared.Point2.{Point2}
 use Rattle.geometry.specs.declared.Point3.{Point3}
 use Rattle.geometry.specs.declared.Heading.{Heading}

@@ -1,6 +1,6 @@
 // geometry/mod.rs: points by value. Every operation is the IEEE one, in the order of the Rust.
 ghost use mathlib.Core.Path.{_≡_};
-ghost use lib.Ieee.{add, sub, mul, neg};
+ghost use lib.Ieee.{add, sub, mul};
 ghost use lib.Ieee.Scale.{finite};
 ghost use Rattle.geometry.specs.Float as F;
 ghost use Rattle.geometry.specs.Point as P;

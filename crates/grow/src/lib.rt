@@ -3,7 +3,7 @@ ghost use mathlib.Core.Path.{_≡_};
 ghost use mathlib.Core.Bool.{true};
 ghost use Prim.Native.Nat.{_+_, _-_, _^_, _≤_, _<_};
 ghost use lib.ListN.{length, getD, take};
-ghost use Rattle.lists.specs.Select.{keep, has, ascending, place, withSecond, insert-after, numbered, writtenBehind};
+ghost use Rattle.lists.specs.Select.{keep, has, ascending, withSecond, insert-after, numbered, writtenBehind};
 ghost use Rattle.lists.specs.Rows.{over};
 ghost use Rattle.grow.specs.Moves.{movedTo};
 use lists::Found;

@@ -1,15 +1,15 @@
 -- THE LAW of this crate (`settled`): lines that lie in order, moved down from the front on and brought up from the back on, are the lines laid out from where they
 -- lay. Assumes nothing.
 use mathlib.Core.Path.{_≡_, refl, sym, ap, _∙_}
-use mathlib.Core.Logic.{_⊎_, inl, inr, ⊎-elim}
-use mathlib.Core.Bool.{Bool, true, false, _&&_, cond}
+use mathlib.Core.Logic.{inl, inr, ⊎-elim}
+use mathlib.Core.Bool.{Bool, true, false}
 use mathlib.Core.List.{List, [], _∷_, _++_}
-use Prim.Native.Nat.{ℕ, suc, _+_, _-_, _*_, _/_, _≤_, _<_}
+use Prim.Native.Nat.{ℕ, _+_, _*_, _/_, _≤_, _<_}
 use native.Mathlib.Omega.{arith}
 use lib.Dec.{eqb, leb}
 use lib.ListN.{length, length-append}
 use lib.Ieee.{Float}
-use borrow.Author.Tests.{eq-eqb, le-leb, leb-true, leb-false, eqb-true, eqb-false}
+use borrow.Author.Tests.{eq-eqb, le-leb, leb-true, leb-false}
 use Rattle.lists.specs.Every.{all}
 use Rattle.lists.specs.Rows.{over}
 use Rattle.lists.specs.Select.{each}
@@ -21,7 +21,7 @@ use Rattle.tables.specs.Formed.{Span}
 use Rattle.apart.specs.Marks.{within}
 use Rattle.layout.specs.Layout.{lineFloats, pointsIn, sourced}
 use Rattle.layout.proofs.Column.{length-laid}
-use Rattle.order.specs.Order.{behind, behindAll}
+use Rattle.order.specs.Order.{behindAll}
 use Rattle.order.proofs.Heads.{Loose, Stored, line-cases, first-any, first-stored}
 use Rattle.in_place.specs.Settle.{downOne, downAll, upOne, upAll, lies}
 use Rattle.in_place.proofs.Moves.{lies-cases, part-none, part-empty, part-before, part-behind, length-sourced, read-stored, read-drawn, down-none, down-drawn, down-stays, down-moved, up-none, up-drawn, up-stays, up-placed}

@@ -1,6 +1,5 @@
 -- Demand 3 of every list in which calls of both `apply` stand side by side. Assumes nothing.
-use mathlib.Core.Path.{_≡_, refl, sym, ap, _∙_}
-use mathlib.Core.Bool.{true}
+use mathlib.Core.Path.{_≡_, refl, ap, _∙_}
 use mathlib.Core.List.{List, [], _∷_}
 use Rattle.rules.specs.Names.{Tolerance}
 use Rattle.tables.specs.Formed.{soundTables}

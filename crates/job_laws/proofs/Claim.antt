@@ -9,9 +9,9 @@ use Rattle.rules.specs.Ops.{State, Call, fitsLists, stepMap, after}
 use Rattle.report.specs.Report.{counts}
 use Rattle.laws.proofs.Law.{step-kept}
 use Rattle.laws.proofs.Claim.{lawful, claim-3}
-use Rattle.jobs.specs.declared.JobAnswer.the-variants.{Made, TooManyEdits, Unsound, NoRoom, EditRefused}
+use Rattle.jobs.specs.declared.JobAnswer.the-variants.{Made, TooManyEdits, Unsound, NoRoom}
 use Rattle.jobs.specs.Job.{JobCall, JobOutcome, Run, done, stopped, maxEdits, commands, edits, net, refusedJob, finishJob, jobMap}
-use Rattle.job_laws.specs.Deeds.{Deed, an-edit, a-job, stateBehind, afterAll, jobCalls, callsFor, writtenOut, JobTold, DeedTold, AllDeedsTold, DeedDemand3, DeedClaim3}
+use Rattle.job_laws.specs.Deeds.{Deed, an-edit, a-job, stateBehind, afterAll, jobCalls, callsFor, writtenOut, JobTold, DeedTold, AllDeedsTold, DeedClaim3}
 use Rattle.job_laws.proofs.Edits.{edits-after}
 use Rattle.job_laws.proofs.Net.{net-exact}
 

@@ -1,7 +1,7 @@
 -- Which entities of the old map some edit of a job lists as modified: a mark for each row that the old tables may have, table behind table in the order of
 -- kinds. Nothing that a host calls rests on these.
 use Prim.Native.Nat.{ℕ, _+_}
-use mathlib.Core.Bool.{Bool, true, _&&_, cond}
+use mathlib.Core.Bool.{Bool, _&&_, cond}
 use mathlib.Core.List.{List, [], _∷_}
 use lib.Dec.{eqb}
 use lib.ListN.{getD, set}

@@ -12,7 +12,7 @@ use Rattle.lists.proofs.Rows.{length-over}
 use Rattle.tables.specs.View.{Tables}
 use Rattle.step.specs.Run.{lengthsOf}
 use Rattle.area.specs.Area.{areaFits, copied, putBack}
-use Rattle.area.proofs.Lengths.{Fits, fits-of}
+use Rattle.area.proofs.Lengths.{fits-of}
 
 -- ---- one slice
 

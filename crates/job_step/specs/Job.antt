@@ -1,6 +1,6 @@
 -- Document 02 (a) on lent memory: a job of several edits, and all that it leaves.
 use Prim.Native.Nat.{ℕ, suc}
-use mathlib.Core.Bool.{Bool, cond}
+use mathlib.Core.Bool.{cond}
 use mathlib.Core.List.{List, [], _∷_}
 use lib.Dec.{leb}
 use Rattle.entities.specs.Records.{ChangeSet}

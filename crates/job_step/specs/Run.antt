@@ -10,13 +10,13 @@ use Rattle.tables.specs.View.{Tables}
 use Rattle.tables.specs.Formed.{soundTables}
 use Rattle.store.specs.Store.{roomOf}
 use Rattle.report.specs.Report.{listed, warned}
-use Rattle.step.specs.Step.{Lent, Ended, closing, listsOf, stateOf}
+use Rattle.step.specs.Step.{Lent, closing, listsOf, stateOf}
 use Rattle.step.specs.Run.{Held, Lending, call, callOn, heldIn, lend, lengthsOf, mapIn}
 use Rattle.jobs.specs.declared.Job.{Job}
 use Rattle.jobs.specs.Job.{JobCall, JobOutcome, jobMap}
 use Rattle.job_laws.specs.Deeds.{Deed, an-edit, a-job, DeedDemand3, afterAll, stateBehind}
 use Rattle.area.specs.Area.{areaFits}
-use Rattle.job_step.specs.Job.{JobLent, JobEnded, jobLent, jobStep}
+use Rattle.job_step.specs.Job.{JobEnded, jobLent, jobStep}
 
 -- ---- one deed of a list
 

@@ -1,6 +1,6 @@
 -- Document 02 (a), on maps: "Take up to 64 edits as one job, each working on the map the last one left. Either all are made or the map stays as it was."
 use Prim.Native.Nat.{ℕ, suc}
-use mathlib.Core.Bool.{Bool, true, false, _&&_, cond}
+use mathlib.Core.Bool.{Bool, _&&_, cond}
 use mathlib.Core.List.{List, [], _∷_, map}
 use lib.Dec.{leb}
 use lib.ListN.{take}

@@ -12,7 +12,6 @@ ghost use Rattle.tables.specs.View.{word};
 ghost use Rattle.lookup.specs.Lookup as K;
 use entities::Side;
 use lists::Found;
-use lists::both;
 use lookup::OptionCount;
 use lookup::OptionLength;
 use polyline::OptionPoint3;

@@ -1,6 +1,6 @@
 -- Demand 3 on maps, undivided: every list of the six edits, refused calls included, from any sound map, with any tolerances and any room. Assumes nothing.
 use mathlib.Core.List.{List, [], _∷_}
-use Prim.{Unit, tt}
+use Prim.{tt}
 use Rattle.entities.specs.declared.Tolerance.{Tolerance}
 use Rattle.rules.specs.Ops.{Command, SplitLane, MergeLanes, ConnectLanes, DisconnectLanes, SetNeighbor, RemoveLane, Call}
 use Rattle.rules.specs.Demand.{Claim3}

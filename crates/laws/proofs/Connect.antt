@@ -2,27 +2,27 @@
 use mathlib.Core.Path.{_≡_, refl, sym, ap, _∙_}
 use mathlib.Core.Bool.{Bool, true, false, not, _&&_, _||_, cond}
 use mathlib.Core.List.{List, [], _∷_, _++_, map}
-use mathlib.Core.Option.{Option, none, some}
+use mathlib.Core.Option.{some}
 use Prim.Native.Nat.{ℕ}
 use native.Mathlib.Omega.{arith}
 use lib.Dec.{eqb, ltb}
 use Rattle.lists.specs.Every.{all}
-use Rattle.lists.specs.Select.{any, each, find, has, place, without, keep, ascending}
+use Rattle.lists.specs.Select.{each, find, place, without, ascending}
 use Rattle.lists.proofs.Every.{all-split, all-append}
 use Rattle.lists.proofs.Booleans.{and-both, and-fst, and-snd}
-use Rattle.lists.proofs.Select.{all-each, any-map, any-same, all-map, all-keep, all-weaken, all-has, ascending-place, ascending-keep}
+use Rattle.lists.proofs.Select.{all-each, any-map, any-same, all-map, all-keep, all-weaken, ascending-place, ascending-keep}
 use Rattle.entities.specs.Types.{reciprocal-side}
 use Rattle.entities.specs.Records.{Lane, Map}
 use Rattle.entities.specs.declared.Side.{Side}
 use Rattle.entities.specs.declared.Side.the-variants as S
 use Rattle.entities.specs.declared.NeighborDirection.{NeighborDirection}
 use Rattle.rules.specs.Map.{lane, leads-to, comes-from, neighborOn}
-use Rattle.rules.specs.Sound.{idsNamed, laneNames, slotId, nextId, withinLimits, linksAscend, linksReciprocal, neighborsReciprocal, has-neighbor, holds, sound}
+use Rattle.rules.specs.Sound.{idsNamed, laneNames, slotId, nextId, withinLimits, linksAscend, neighborsReciprocal, has-neighbor, holds, sound}
 use Rattle.rules.specs.Edit.{linkIn, linkOut, withLanes, relinked}
 use Rattle.rules.specs.Book.{isPair, dropPair}
-use Rattle.rules.proofs.Facts.{Sound, sound-facts}
+use Rattle.rules.proofs.Facts.{sound-facts}
 use Rattle.rules.proofs.Reciprocal.{LinksAgree, links-agree, agree-links, neighbors-agree, agree-neighbors}
-use Rattle.laws.proofs.Links.{connect-leads, connect-comes, disconnect-leads, disconnect-comes, found-passes, lane-id}
+use Rattle.laws.proofs.Links.{connect-leads, connect-comes, disconnect-leads, disconnect-comes, lane-id}
 use Rattle.laws.proofs.Keeps.{all-place, otherNames, relink-sound}
 
 -- ---- what every relinking wants

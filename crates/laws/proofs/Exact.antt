@@ -1,6 +1,6 @@
 -- The lists of an edit that changes lanes' links and neighbours alone: nothing appears, nothing vanishes, and what differs is in modified.
-use mathlib.Core.Path.{_≡_, refl, sym, ap, _∙_, subst}
-use mathlib.Core.Bool.{Bool, true, false, not, _&&_, _||_, cond, true≢false}
+use mathlib.Core.Path.{_≡_, refl, sym, ap, _∙_}
+use mathlib.Core.Bool.{Bool, true, false, not, _&&_, _||_, cond}
 use mathlib.Core.List.{List, [], _∷_, _++_, map}
 use mathlib.Core.Option.{Option, none, some}
 use Prim.Native.Nat.{ℕ}
@@ -9,7 +9,7 @@ use borrow.Author.Tests.{eqb-true, eq-eqb}
 use Rattle.lists.specs.Every.{all}
 use Rattle.lists.specs.Select.{keep, any, find, has, above, ascending}
 use Rattle.lists.proofs.Booleans.{and-both, and-fst, and-snd, or-left}
-use Rattle.lists.proofs.Select.{any-append, any-map, any-same, any-keep, any-implies, has-any, all-of, keys-map, keys-keep, ascending-tail}
+use Rattle.lists.proofs.Select.{any-append, any-map, any-keep, has-any, all-of, keys-map, keys-keep}
 use Rattle.entities.specs.Types.{kindNumber}
 use Rattle.entities.specs.Records.{Lane, Map, Issue, ChangeSet}
 use Rattle.entities.specs.declared.EntityKind.{EntityKind}
@@ -17,8 +17,8 @@ use Rattle.entities.specs.declared.EntityKind.the-variants as K
 use Rattle.entities.specs.declared.EntityRef.{EntityRef}
 use Rattle.rules.specs.Map.{lane, laneIds}
 use Rattle.rules.specs.Edit.{refs, lanesWhere, withLanes}
-use Rattle.rules.specs.Demand.{entities, sameEntity, among, appeared, vanished, Row, lane-row, rowOf, rowIn, row, before, sortedAfter, sorted, apartFrom, Exact}
-use Rattle.laws.proofs.Links.{found-passes, found-any, lane-id}
+use Rattle.rules.specs.Demand.{entities, sameEntity, among, appeared, vanished, lane-row, rowOf, rowIn, row, before, sortedAfter, sorted, apartFrom, Exact}
+use Rattle.laws.proofs.Links.{found-passes, found-any}
 
 -- ---- entities
 

@@ -1,21 +1,20 @@
 -- An edit of links and neighbours alone keeps soundness, but for what concerns links and neighbours themselves.
-use mathlib.Core.Path.{_≡_, refl, sym, ap, _∙_}
-use mathlib.Core.Bool.{Bool, true, false, not, _&&_, _||_, cond}
+use mathlib.Core.Path.{_≡_, refl, sym, _∙_}
+use mathlib.Core.Bool.{Bool, true, false, _&&_, _||_}
 use mathlib.Core.List.{List, [], _∷_, _++_, map}
-use mathlib.Core.Option.{Option, none, some}
+use mathlib.Core.Option.{Option}
 use Prim.Native.Nat.{ℕ}
 use lib.Dec.{eqb, ltb, leb}
 use Rattle.lists.specs.Every.{all}
-use Rattle.lists.specs.Select.{each, has, place, without, keep}
+use Rattle.lists.specs.Select.{each, place, keep}
 use Rattle.lists.proofs.Every.{all-append, all-split}
 use Rattle.lists.proofs.Booleans.{and-both, and-fst, and-snd}
 use Rattle.lists.proofs.Select.{all-each, keys-map, all-map, all-keep, all-weaken}
 use Rattle.entities.specs.declared.Neighbor.{Neighbor}
 use Rattle.entities.specs.Records.{Lane, Map}
-use Rattle.rules.specs.Map.{lane}
-use Rattle.rules.specs.Sound.{lines, optionalLine, idsNamed, laneNames, ruleNames, slotId, nextId, lastCounter, idsAscend, counterAbove, linesInReach, kindsLegal, handlesLegal, handleWidth, speedLegal, withinLimits, linksAscend, linksReciprocal, neighborsReciprocal, repeatFree, sound}
+use Rattle.rules.specs.Sound.{lines, optionalLine, idsNamed, laneNames, ruleNames, nextId, lastCounter, idsAscend, counterAbove, linesInReach, kindsLegal, handlesLegal, handleWidth, speedLegal, withinLimits, linksAscend, linksReciprocal, neighborsReciprocal, repeatFree, sound}
 use Rattle.rules.specs.Edit.{relinked, withLanes}
-use Rattle.rules.proofs.Facts.{Sound, sound-facts, facts-sound}
+use Rattle.rules.proofs.Facts.{sound-facts, facts-sound}
 
 -- ---- lists of lists
 

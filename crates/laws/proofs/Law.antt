@@ -1,24 +1,22 @@
 -- The law of one accepted call, and demand 3 over every list of calls whose commands obey it.
 use mathlib.Core.Path.{_≡_, refl, sym, ap, _∙_, subst}
-use mathlib.Core.Bool.{Bool, true, false, _&&_, cond, true≢false}
+use mathlib.Core.Bool.{Bool, true, false, _&&_, cond}
 use mathlib.Core.List.{List, [], _∷_}
-use mathlib.Core.Option.{Option, none, some}
-use Prim.{Unit, tt}
+use Prim.{Unit}
 use Prim.Native.Nat.{ℕ}
 use lib.Dec.{leb}
 use lib.ListN.{length}
-use Rattle.lists.proofs.Booleans.{and-fst}
 use Rattle.entities.specs.declared.Tolerance.{Tolerance}
 use Rattle.entities.specs.declared.Refusal.{Refusal}
 use Rattle.entities.specs.declared.Refusal.the-variants as R
-use Rattle.entities.specs.Records.{Map, ChangeSet}
+use Rattle.entities.specs.Records.{Map}
 use Rattle.rules.specs.Map.{leads-to}
-use Rattle.rules.specs.Sound.{sound, Room, Lists, fitsRoom, withinLimits, lastCounter, pointCount}
+use Rattle.rules.specs.Sound.{sound, Room, fitsRoom, withinLimits, lastCounter, pointCount}
 use Rattle.rules.specs.Edit.{Res, refuse, yield, _>>=_, check, Edited}
-use Rattle.rules.specs.Ops.{Command, State, Call, Answer, refused, accepted, Outcome, edit, counterAfter, fitsLists, refusedAs, acceptedAs, listable, outcomeOf, finish, stepMap, after}
-use Rattle.rules.specs.Book.{Book, entry, booked, bookAfter, firstBook}
+use Rattle.rules.specs.Ops.{Command, State, Call, Outcome, edit, counterAfter, fitsLists, refusedAs, acceptedAs, listable, outcomeOf, finish, stepMap, after}
+use Rattle.rules.specs.Book.{Book, entry, booked, bookAfter}
 use Rattle.rules.specs.Demand.{Exact, Told, AllTold, Demand3}
-use Rattle.rules.proofs.Facts.{Sound, sound-facts}
+use Rattle.rules.proofs.Facts.{sound-facts}
 use Rattle.rules.proofs.Reciprocal.{links-agree, neighbors-agree}
 
 -- ---- one accepted call

@@ -5,8 +5,8 @@ use mathlib.Core.List.{List, [], _∷_, _++_, map}
 use mathlib.Core.Option.{Option, none, some}
 use Prim.Native.Nat.{ℕ}
 use native.Mathlib.Omega.{arith}
-use lib.Dec.{eqb, leb}
-use borrow.Author.Tests.{eqb-true, eqb-false, eq-eqb}
+use lib.Dec.{eqb}
+use borrow.Author.Tests.{eq-eqb}
 use Rattle.entities.specs.Types.{reciprocal-side, laneEntity}
 use Rattle.entities.specs.declared.Tolerance.{Tolerance}
 use Rattle.entities.specs.declared.Side.{Side}
@@ -14,14 +14,13 @@ use Rattle.entities.specs.declared.Neighbor.{Neighbor}
 use Rattle.entities.specs.declared.Refusal.{Refusal}
 use Rattle.entities.specs.declared.Refusal.the-variants as R
 use Rattle.entities.specs.declared.IssueCode.the-variants as C
-use Rattle.entities.specs.Records.{Lane, Map, Issue, ChangeSet}
+use Rattle.entities.specs.Records.{Lane, Map, Issue}
 use Rattle.rules.specs.Map.{lane, leads-to, neighborOn, names}
-use Rattle.rules.specs.Sound.{sound, Room, withinLimits, lastCounter}
-use Rattle.rules.specs.Edit.{Res, refuse, yield, _>>=_, Passed, passed, check, require, Edited, require-lane, relinking, withLanes, lanesWhere, either, linkIn, linkOut, gapped, warning, no-op, when, connect, disconnect, set-neighbor, require-neighbor, sameSlot, slotIn, slotAfter, reslotted, relinked, unshared}
+use Rattle.rules.specs.Sound.{sound}
+use Rattle.rules.specs.Edit.{Res, refuse, yield, _>>=_, Passed, passed, check, require, Edited, require-lane, relinking, withLanes, lanesWhere, either, linkIn, linkOut, gapped, warning, no-op, when, connect, disconnect, set-neighbor, require-neighbor, sameSlot, slotIn, slotAfter, reslotted, unshared}
 use Rattle.entities.specs.declared.OptionNeighbor.{OptionNeighbor}
 use Rattle.entities.specs.Types.{neighborOption}
-use Rattle.rules.specs.Ops.{ConnectLanes, DisconnectLanes, SetNeighbor, State, edit, counterAfter}
-use Rattle.rules.specs.Demand.{Exact}
+use Rattle.rules.specs.Ops.{ConnectLanes, DisconnectLanes, SetNeighbor, State, edit}
 use Rattle.laws.proofs.Links.{connect-leads, disconnect-leads}
 use Rattle.laws.proofs.Connect.{connect-sound, disconnect-sound}
 use Rattle.laws.proofs.Still.{connect-exact, disconnect-exact, ids-up}

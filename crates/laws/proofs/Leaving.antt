@@ -19,7 +19,7 @@ use Rattle.rules.specs.Map.{laneIds}
 use Rattle.rules.specs.Sound.{lines, optionalLine, optionalId, pointCount, idsNamed, laneNames, ruleNames, slotId, nextId, lastCounter, idsAscend, counterAbove, linesInReach, kindsLegal, ruleLegal, hasContent, stopLinesFit, given, handlesLegal, handleWidth, speedLegal, idLists, withinLimits, linksAscend}
 use Rattle.rules.specs.Lane.{freed, forgetting, roadLanes, junctionLanes, ruleLanes}
 use Rattle.laws.proofs.Keeps.{each-map}
-use Rattle.laws.proofs.Part.{Part, done, also, less, part-whole, part-keep, part-map, part-append, part-each, length-part, total-part, Gives, _&also_, stays, within, all-fewer, all-image}
+use Rattle.laws.proofs.Part.{Part, done, also, less, part-whole, part-keep, part-map, part-append, part-each, total-part, Gives, _&also_, stays, within, all-fewer, all-image}
 
 -- ---- a list without a name, a slot that is freed
 

@@ -1,13 +1,13 @@
 -- What connect and disconnect do to the links: exactly the link book's entry, and the mirror image of the predecessors.
 use mathlib.Core.Path.{_≡_, refl, sym, ap, _∙_}
-use mathlib.Core.Bool.{Bool, true, false, not, _&&_, _||_, cond, true≢false}
-use mathlib.Core.List.{List, [], _∷_, _++_, map}
-use mathlib.Core.Option.{Option, none, some}
+use mathlib.Core.Bool.{Bool, true, false, not, _&&_, _||_, cond}
+use mathlib.Core.List.{List, [], _∷_, map}
+use mathlib.Core.Option.{some}
 use Prim.Native.Nat.{ℕ}
 use native.Mathlib.Omega.{arith}
 use lib.Dec.{eqb}
 use borrow.Author.Tests.{eqb-true, eq-eqb}
-use Rattle.lists.specs.Select.{keep, any, find, has, without, place}
+use Rattle.lists.specs.Select.{any, find, has, without, place}
 use Rattle.lists.proofs.Booleans.{and-both, and-fst, and-snd, same-test}
 use Rattle.lists.proofs.Select.{any-same, any-or, any-implies, has-place, has-without}
 use Rattle.entities.specs.Records.{Lane, Map}

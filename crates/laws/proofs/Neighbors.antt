@@ -1,34 +1,29 @@
 -- set_neighbor keeps soundness, its lists are exact, and the links stay.
 use mathlib.Core.Path.{_≡_, refl, sym, ap, _∙_}
-use mathlib.Core.Bool.{Bool, true, false, not, _&&_, _||_, cond, true≢false}
-use mathlib.Core.List.{List, [], _∷_, _++_, map}
+use mathlib.Core.Bool.{Bool, true, false, _||_, cond, true≢false}
+use mathlib.Core.List.{map}
 use mathlib.Core.Option.{Option, none, some}
-use Prim.{Unit, tt}
+use Prim.{Unit}
 use Prim.Native.Nat.{ℕ}
 use native.Mathlib.Omega.{arith}
-use lib.Dec.{eqb, ltb}
-use borrow.Author.Tests.{eqb-true, eq-eqb, ne-eqb, eqb-false}
-use Rattle.lists.specs.Every.{all}
-use Rattle.lists.specs.Select.{any, find, has, ascending}
-use Rattle.lists.proofs.Every.{all-append}
+use lib.Dec.{eqb}
+use borrow.Author.Tests.{eqb-true, eq-eqb}
+use Rattle.lists.specs.Select.{find, ascending}
 use Rattle.lists.proofs.Booleans.{and-both, and-fst, and-snd, same-test}
 use Rattle.lists.proofs.Select.{any-one, keys-map, onFound}
 use Rattle.entities.specs.Types.{reciprocal-side}
-use Rattle.entities.specs.Records.{Lane, Map, Issue, ChangeSet}
+use Rattle.entities.specs.Records.{Lane, Map}
 use Rattle.entities.specs.declared.Side.{Side}
 use Rattle.entities.specs.declared.Side.the-variants as S
 use Rattle.entities.specs.declared.NeighborDirection.{NeighborDirection}
 use Rattle.entities.specs.declared.Neighbor.{Neighbor}
-use Rattle.rules.specs.Map.{lane, laneIds, neighborOn, leads-to, comes-from, names}
-use Rattle.rules.specs.Sound.{sound, has-neighbor, holds, sameDirection, neighborsReciprocal, slotId, laneNames, nextId, withinLimits, idsNamed}
-use Rattle.rules.specs.Edit.{slotAfter, slotIn, reslotted, sameSlot, withLanes, relinked, lanesWhere, answering, returned, answerSide, sameSide}
-use Rattle.rules.specs.Demand.{Exact}
-use Rattle.rules.proofs.Facts.{Sound, sound-facts}
-use Rattle.rules.proofs.Reciprocal.{NeighborsAgree, neighbors-agree, agree-neighbors, same-direction, direction-same, twice, links-agree, agree-links}
+use Rattle.rules.specs.Map.{lane, laneIds, neighborOn}
+use Rattle.rules.specs.Sound.{has-neighbor, holds, sameDirection, neighborsReciprocal}
+use Rattle.rules.specs.Edit.{slotAfter, reslotted, withLanes, answering, sameSide}
+use Rattle.rules.proofs.Reciprocal.{NeighborsAgree, neighbors-agree, agree-neighbors, same-direction, direction-same, twice}
 use Rattle.laws.proofs.Links.{lane-id}
-use Rattle.laws.proofs.Exact.{found-map, changedBy, relink-exact}
+use Rattle.laws.proofs.Exact.{found-map, changedBy}
 use Rattle.laws.proofs.Slots.{nb, Slots, Answered, heldAt, setSlots, answered-none, answered-some}
-use Rattle.laws.proofs.Still.{ids-up}
 
 -- ---- a map's slots as a function
 

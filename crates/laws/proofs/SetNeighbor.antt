@@ -1,25 +1,24 @@
 -- set_neighbor: soundness kept, links kept, lists exact.
 use mathlib.Core.Path.{_≡_, refl, sym, ap, _∙_}
-use mathlib.Core.Bool.{Bool, true, false, not, _&&_, _||_, cond, true≢false}
+use mathlib.Core.Bool.{Bool, true, false, _&&_, _||_, cond, true≢false}
 use mathlib.Core.List.{List, [], _∷_, _++_, map}
 use mathlib.Core.Option.{Option, none, some}
 use Prim.Native.Nat.{ℕ}
 use lib.Dec.{eqb, ltb}
 use borrow.Author.Tests.{eqb-true, eq-eqb}
 use Rattle.lists.specs.Every.{all}
-use Rattle.lists.specs.Select.{any, find, has, ascending}
 use Rattle.lists.proofs.Every.{all-split, all-append}
 use Rattle.lists.proofs.Booleans.{and-both, and-fst, and-snd, same-test}
 use Rattle.entities.specs.Types.{reciprocal-side}
-use Rattle.entities.specs.Records.{Lane, Map, Issue, ChangeSet}
+use Rattle.entities.specs.Records.{Lane, Map, Issue}
 use Rattle.entities.specs.declared.Side.{Side}
 use Rattle.entities.specs.declared.Side.the-variants as S
 use Rattle.entities.specs.declared.Neighbor.{Neighbor}
-use Rattle.rules.specs.Map.{lane, laneIds, neighborOn, leads-to, comes-from, names}
-use Rattle.rules.specs.Sound.{sound, neighborsReciprocal, slotId, laneNames, nextId, withinLimits, linksReciprocal, linksAscend}
+use Rattle.rules.specs.Map.{lane, leads-to, comes-from, names}
+use Rattle.rules.specs.Sound.{sound, slotId, laneNames, nextId, withinLimits, linksReciprocal}
 use Rattle.rules.specs.Edit.{slotAfter, reslotted, withLanes, relinked, lanesWhere, answering, returned, answerSide, sameSide}
 use Rattle.rules.specs.Demand.{Exact}
-use Rattle.rules.proofs.Facts.{Sound, sound-facts}
+use Rattle.rules.proofs.Facts.{sound-facts}
 use Rattle.rules.proofs.Reciprocal.{links-agree, agree-links}
 use Rattle.rules.proofs.Relations.{leads-map, comes-map}
 use Rattle.laws.proofs.Keeps.{relink-sound}

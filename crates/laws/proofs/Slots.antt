@@ -1,8 +1,7 @@
 -- Setting a neighbour keeps neighbours reciprocal: on slots as a function of a lane and a side.
 use mathlib.Core.Path.{_≡_, refl, sym, ap, _∙_}
-use mathlib.Core.Bool.{Bool, true, false, not, _&&_, _||_, cond, true≢false}
+use mathlib.Core.Bool.{Bool, true, false, _&&_, _||_, cond, true≢false}
 use mathlib.Core.Option.{Option, none, some}
-use mathlib.Core.Logic.{_⊎_, inl, inr}
 use Prim.Native.Nat.{ℕ}
 use native.Mathlib.Omega.{arith}
 use lib.Dec.{eqb}
@@ -12,7 +11,6 @@ use Rattle.entities.specs.Types.{reciprocal-side}
 use Rattle.entities.specs.declared.Side.{Side}
 use Rattle.entities.specs.declared.Side.the-variants as S
 use Rattle.entities.specs.declared.NeighborDirection.{NeighborDirection}
-use Rattle.entities.specs.declared.NeighborDirection.the-variants as D
 use Rattle.entities.specs.declared.Neighbor.{Neighbor}
 use Rattle.rules.specs.Edit.{sameSide, answering, returned, answerSide, slotAfter}
 use Rattle.rules.proofs.Reciprocal.{twice}

@@ -1,27 +1,25 @@
 -- connect and disconnect: the lanes that are not reported are as they were, so the lists are exact.
 use mathlib.Core.Path.{_≡_, refl, sym, ap, _∙_}
-use mathlib.Core.Bool.{Bool, true, false, not, _&&_, _||_, cond, true≢false}
-use mathlib.Core.List.{List, [], _∷_, _++_, map}
-use mathlib.Core.Option.{Option, none, some}
-use Prim.Native.Nat.{ℕ, _<_, _≤_}
-use native.Mathlib.Omega.{arith}
-use lib.Dec.{eqb, ltb}
-use borrow.Author.Tests.{eqb-true, eqb-false, eq-eqb, ne-eqb, ltb-true, lt-ltb, le-ltb}
-use Rattle.lists.specs.Every.{all}
-use Rattle.lists.specs.Select.{keep, any, find, has, place, without, above, ascending}
-use Rattle.lists.proofs.Booleans.{and-both, and-fst, and-snd, neither}
+use mathlib.Core.Bool.{Bool, true, false, not, _&&_, cond}
+use mathlib.Core.List.{List, [], map}
+use mathlib.Core.Option.{some}
+use Prim.Native.Nat.{ℕ}
+use lib.Dec.{eqb}
+use borrow.Author.Tests.{eqb-true}
+use Rattle.lists.specs.Select.{has, place, without, ascending}
+use Rattle.lists.proofs.Booleans.{and-fst, and-snd, neither}
 use Rattle.lists.proofs.Place.{place-present, without-absent}
 use Rattle.lists.proofs.Select.{onFound}
-use Rattle.entities.specs.Records.{Lane, Map, Issue, ChangeSet}
-use Rattle.rules.specs.Map.{lane, leads-to, comes-from, laneIds}
+use Rattle.entities.specs.Records.{Lane, Map, Issue}
+use Rattle.rules.specs.Map.{lane, leads-to, laneIds}
 use Rattle.rules.specs.Sound.{linksAscend, idsAscend, sound}
-use Rattle.rules.specs.Edit.{linkIn, linkOut, either, lanesWhere, withLanes, withLinks, relinked}
+use Rattle.rules.specs.Edit.{linkIn, linkOut, either, lanesWhere, withLanes, withLinks}
 use Rattle.rules.specs.Demand.{Exact}
-use Rattle.rules.proofs.Facts.{Sound, sound-facts}
+use Rattle.rules.proofs.Facts.{sound-facts}
 use Rattle.rules.proofs.Reciprocal.{links-agree}
 use Rattle.rules.proofs.Relations.{leads-found, comes-found}
 use Rattle.laws.proofs.Links.{lane-id}
-use Rattle.laws.proofs.Exact.{relink-exact, listed}
+use Rattle.laws.proofs.Exact.{relink-exact}
 use Rattle.laws.proofs.Connect.{found-all}
 
 -- ---- the lanes that are not reported

@@ -1,7 +1,7 @@
 -- A layout computed: two boundaries whose lines lie in the wrong order, an explicit centreline between them, and a lane that has none. Assumes nothing.
 use mathlib.Core.Path.{_≡_, refl}
 use mathlib.Core.List.{List, [], _∷_, _++_}
-use Prim.Native.Nat.{ℕ, _+_}
+use Prim.Native.Nat.{ℕ}
 use lib.ListN.{replicate}
 use lib.Ieee.{Float}
 use Rattle.lists.specs.Rows.{reads, over}

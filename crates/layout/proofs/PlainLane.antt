@@ -14,8 +14,8 @@ use Rattle.lists.specs.Every.{all}
 use Rattle.lists.specs.Rows.{over}
 use Rattle.lists.proofs.Every.{all-head}
 use Rattle.entities.specs.Records.{Line, Lane}
-use Rattle.tables.specs.View.{word, mark, idsAt, slotAt, lineAt, laneOf}
-use Rattle.tables.specs.Formed.{spanAt, centerSpan, stored, laneFormed}
+use Rattle.tables.specs.View.{slotAt, lineAt, laneOf}
+use Rattle.tables.specs.Formed.{spanAt, stored, laneFormed}
 use Rattle.store.specs.Store.{laneOnto, flag, present, numberOr, slotMark, slotLane, idsOnto}
 use Rattle.store.specs.Rows.{setList}
 use Rattle.store.specs.Laid.{laneLaid, centerOnto as laidCenter}

@@ -1,29 +1,29 @@
 -- Lines that share no point have room, one after another, in the points among which they lie; and a layout asks of `work` only its lines.
 -- Assumes nothing.
 use mathlib.Core.Path.{_≡_, refl, sym, ap, _∙_}
-use mathlib.Core.Logic.{_⊎_, ⊎-elim}
+use mathlib.Core.Logic.{⊎-elim}
 use mathlib.Core.Bool.{Bool, true, false, not, _&&_, or-true}
 use mathlib.Core.List.{List, [], _∷_, _++_}
-use Prim.Native.Nat.{ℕ, zero, suc, _+_, _-_, _*_, _/_, _≤_, min}
+use Prim.Native.Nat.{ℕ, zero, suc, _+_, _-_, _/_, _≤_, min}
 use native.Mathlib.Omega.{arith}
 use lib.Dec.{eqb}
 use lib.ListN.{length, take, drop, replicate, length-append, length-replicate, length-drop, take-append-drop}
-use lib.Seq.{length-take-le, drop-drop, take-take, take-at}
+use lib.Seq.{length-take-le, drop-drop, take-take}
 use lib.Ieee.{Float}
 use borrow.Author.Tests.{le-leb, eq-eqb}
 use Rattle.lists.specs.Every.{all}
 use Rattle.lists.specs.Rows.{over}
-use Rattle.lists.specs.Select.{keep, each}
+use Rattle.lists.specs.Select.{keep}
 use Rattle.lists.proofs.Every.{all-head, all-tail}
 use Rattle.lists.proofs.Booleans.{and-fst, and-snd}
-use Rattle.lists.proofs.Rows.{drop-take, length-over}
+use Rattle.lists.proofs.Rows.{drop-take}
 use Rattle.lists.proofs.Select.{keep-append, keep-all, length-keep, all-weaken}
-use Rattle.tables.specs.View.{Tables, part}
-use Rattle.tables.specs.Formed.{Span, spans, stored, allClear, formed}
+use Rattle.tables.specs.View.{Tables}
+use Rattle.tables.specs.Formed.{Span, spans, stored, allClear}
 use Rattle.apart.specs.Marks.{trues, marked, unmarked, apartBy, within}
 use Rattle.apart.proofs.Marks.{within-cases, length-trues, marked-none, length-marked}
 use Rattle.apart.proofs.Clear.{apart-clear}
-use Rattle.layout.specs.Layout.{lineFloats, pointsIn, gathered, laidOut, countedLines, linesFormed, Gatherable}
+use Rattle.layout.specs.Layout.{pointsIn, countedLines, linesFormed, Gatherable}
 
 -- ---- as many points as lines have
 

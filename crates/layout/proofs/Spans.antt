@@ -3,7 +3,7 @@
 use mathlib.Core.Path.{_≡_, refl, sym, ap, _∙_}
 use mathlib.Core.Bool.{Bool, true, false, _||_, cond, or-true}
 use mathlib.Core.List.{List, [], _∷_, _++_}
-use Prim.Native.Nat.{ℕ, zero, suc, _+_, _-_, _*_, _/_, _≤_, min}
+use Prim.Native.Nat.{ℕ, zero, suc, _+_, _*_, _/_, _≤_, min}
 use native.Mathlib.Nat.{add-zero, zero-add}
 use native.Mathlib.Omega.{arith}
 use lib.Dec.{eqb}
@@ -17,7 +17,6 @@ use Rattle.lists.proofs.Booleans.{and-both}
 use Rattle.lists.proofs.Rows.{length-over}
 use Rattle.tables.specs.View.{Tables, word, mark}
 use Rattle.tables.specs.Formed.{Span, spanAt, spans, counted, stored, clear, allClear}
-use Rattle.apart.specs.Marks.{within}
 use Rattle.apart.proofs.Marks.{counted-facts}
 use Rattle.layout.specs.Layout.{lineFloats, pointsIn, Column, plain, centerlines, lineOf, columnLines, moved, moves, laidFrom, gathered, countedLines, Gatherable, boundaryLines, stopLines, leftEdges, rightEdges}
 use Rattle.layout.proofs.Column.{linesIn, lines-in, lines-more, lines-none, length-laid}

@@ -4,7 +4,6 @@ ghost use mathlib.Core.Path.{_≡_};
 ghost use mathlib.Core.Bool.{true};
 ghost use Prim.Native.Nat.{suc, _+_, _-_, _*_, _/_, _≤_, _<_, min};
 ghost use lib.ListN.{length, set, take, drop};
-ghost use Rattle.lists.specs.Every.{all};
 ghost use Rattle.lists.specs.Rows.{over};
 ghost use Rattle.tables.specs.View.{word, part};
 ghost use Rattle.tables.specs.Formed.{spanAt};

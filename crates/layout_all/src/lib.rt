@@ -1,11 +1,10 @@
 // The lines of whole tables, gathered one behind the other.
 ghost use mathlib.Core.Path.{_≡_};
 ghost use mathlib.Core.Bool.{true};
-ghost use Prim.Native.Nat.{_+_, _-_, _*_, _/_, _≤_, _<_};
-ghost use lib.ListN.{length, set, take, drop};
+ghost use Prim.Native.Nat.{_+_, _*_, _/_, _≤_, _<_};
+ghost use lib.ListN.{length, take, drop};
 ghost use Rattle.lists.specs.Every.{all};
 ghost use Rattle.lists.specs.Rows.{over};
-ghost use Rattle.tables.specs.View.{word};
 ghost use Rattle.tables.specs.Formed.{counted};
 ghost use Rattle.apart.specs.Marks.{within};
 ghost use Rattle.layout.specs.Layout.{sourced, lineFloats, pointsIn, plain, centerlines, lineOf, columnLines, moved, laidFrom, gathered, lineTables, Gatherable};

@@ -1,22 +1,20 @@
 -- Laws of tallies: how often a list has a number. Assumes nothing.
 use mathlib.Core.Path.{_≡_, refl, sym, ap, _∙_}
-use Prim.Native.Nat.{ℕ, zero, suc, _+_, _≤_, _<_}
+use Prim.Native.Nat.{ℕ, zero, suc, _+_, _<_}
 use native.Mathlib.Nat.{le-of-suc-le-suc, not-suc-le-zero}
-use native.Mathlib.Numerals.{add-one}
 use native.Mathlib.Omega.{arith}
-use mathlib.Core.Bool.{Bool, true, false, _&&_, _||_, cond, true≢false}
-use mathlib.Core.List.{List, [], _∷_, _++_, map}
+use mathlib.Core.Bool.{Bool, true, false, _||_, cond}
+use mathlib.Core.List.{List, [], _∷_, _++_}
 use lib.Dec.{eqb, ltb}
-use lib.ListN.{length, getD, set, take, replicate, length-append, length-map, length-set, length-replicate}
+use lib.ListN.{length, getD, set, take, length-append, length-map, length-set}
 use lib.Seq.{ext-getD, getD-set-same, getD-set-other, length-take-le, getD-take, getD-at}
 use borrow.Author.Tests.{eq-eqb, ne-eqb, eqb-true, eqb-false, ltb-true, lt-ltb}
-use Rattle.lists.specs.Every.{all}
 use Rattle.lists.specs.Rows.{rowWith}
-use Rattle.lists.specs.Select.{keep, has, above, ascending}
+use Rattle.lists.specs.Select.{keep, has, ascending}
 use Rattle.lists.specs.declared.Found.the-variants.{At}
 use Rattle.lists.proofs.Booleans.{and-fst, and-snd, and-both}
-use Rattle.lists.proofs.Select.{keep-append, above-all, ascending-tail, ascending-places, all-has, has-append}
-use Rattle.lists.proofs.Rows.{found-key, found-within, row-at}
+use Rattle.lists.proofs.Select.{keep-append, above-all, ascending-tail, ascending-places, all-has}
+use Rattle.lists.proofs.Rows.{found-key, row-at}
 use Rattle.link_tests.specs.Met.{times, tally, standsAt}
 
 pub times-append : (b : ℕ) (l m : List ℕ) → times b (l ++ m) ≡ times b l + times b m

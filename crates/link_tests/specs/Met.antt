@@ -1,5 +1,5 @@
 -- Links met in one pass over the lanes: each link finds its lane at the next place of the list that must name it. Nothing above `sound` rests on this page.
-use Prim.Native.Nat.{ℕ, suc, _+_, _*_}
+use Prim.Native.Nat.{ℕ}
 use mathlib.Core.Bool.{Bool, true, _&&_}
 use mathlib.Core.Path.{_≡_}
 use mathlib.Core.List.{List, _++_, map}

@@ -62,7 +62,7 @@ sameNumbers (x ∷ xs) (y ∷ ys) = eqb x y && sameNumbers xs ys
 abbrev pub secondOf : List (ℕ × ℕ) → ℕ → Option ℕ
 secondOf hs i = elim (find (λ h. eqb (h .0) i) hs) [ none ↦ none | some h ↦ some (h .1) ]
 
--- Document 01: lists of lanes "gain each second half after its first": the second of a pair comes after every occurrence of its first.
+-- Document 01: lists of lanes "gain each second half after its first".
 abbrev pub withSecond : List (ℕ × ℕ) → ℕ → List ℕ
 withSecond hs i = elim (secondOf hs i) [ none ↦ i ∷ [] | some j ↦ i ∷ j ∷ [] ]
 

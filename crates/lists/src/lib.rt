@@ -1,11 +1,11 @@
 // Lists and rows in lent words. A list is a slice whole; a table's rows are cut from it by their length.
 ghost use mathlib.Core.Path.{_≡_};
 ghost use mathlib.Core.Bool.{true, false, _&&_};
-ghost use Prim.Native.Nat.{_+_, _-_, _*_, _≤_, _<_};
+ghost use Prim.Native.Nat.{_-_, _*_, _≤_, _<_};
 ghost use lib.Dec.{leb, eqb};
 ghost use lib.ListN.{length, take};
 ghost use Rattle.lists.specs.Every.{all};
-ghost use Rattle.lists.specs.Select.{keep, has, ascending, place};
+ghost use Rattle.lists.specs.Select.{keep, has, ascending};
 ghost use Rattle.lists.specs.Rows.{keys};
 
 // Both, with no branch.

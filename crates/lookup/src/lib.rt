@@ -6,7 +6,6 @@ ghost use Prim.Native.Nat.{_+_, _*_, _≤_, _<_};
 ghost use lib.ListN.{length, getD, drop};
 ghost use Rattle.lists.specs.Rows.{keys};
 ghost use Rattle.lists.specs.Select.{ascending};
-ghost use Rattle.polyline.specs.Polyline.{points};
 ghost use Rattle.rules.specs.Names.{Left, Right};
 ghost use Rattle.tables.specs.View.{word, part, idsAt, refAt};
 ghost use Rattle.tables.specs.Formed.{stored};

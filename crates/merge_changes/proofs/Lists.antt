@@ -7,35 +7,33 @@ use mathlib.Core.List.{List, [], _∷_, _++_, map}
 use mathlib.Core.Option.{Option, none, some}
 use lib.Dec.{eqb}
 use Rattle.lists.specs.Every.{all}
-use Rattle.lists.specs.Select.{keep, find, has, place, ascending, sameNumbers}
+use Rattle.lists.specs.Select.{keep, has, ascending, sameNumbers}
 use Rattle.lists.proofs.Select.{has-place, has-keep, keep-map, keep-all, ascending-keep, ascending-place, all-keep, onFound}
 use Rattle.lists.proofs.Same.{ascending-same}
-use Rattle.entities.specs.Types.{laneEntity, boundaryEntity}
-use Rattle.entities.specs.Records.{Line, Lane, Boundary, Map, Issue, ChangeSet}
+use Rattle.entities.specs.Types.{laneEntity}
+use Rattle.entities.specs.Records.{Line, Lane, Boundary, Map, ChangeSet}
 use Rattle.rules.specs.Names.{Neighbor, Tolerance, Side, Left, Right, EntityRef, LaneKind, BoundaryKind, BoundaryRef, AttributeConflict}
 use Rattle.lists.proofs.Booleans.{and-fst}
 use Rattle.lookup.proofs.Laws.{sorted-ascends}
 use borrow.Author.Tests.{eq-eqb, eqb-true}
-use Rattle.rules.specs.Map.{lane, boundary, boundaryOn, neighborOn, oriented-boundary, orientedIn, lanes-using-boundary, beside}
-use Rattle.rules.specs.Sound.{nextId}
-use Rattle.rules.specs.Edit.{yield, Edited, refs, upFrom, lanesWhere, boundariesWhere, when, warning}
+use Rattle.rules.specs.Map.{lane, boundary, boundaryOn, oriented-boundary, orientedIn, lanes-using-boundary, beside}
+use Rattle.rules.specs.Edit.{yield, refs, upFrom, lanesWhere, boundariesWhere, when, warning}
 use Rattle.rules.specs.Lane.{mentions}
 use Rattle.rules.specs.Merge as M
 use Rattle.rules.specs.Merge.{SidePlan, kept, in-place, fresh, side-plan, joinedLines, planIds, planJoins, planWarning, merged}
-use Rattle.tables.specs.View.{Tables, rows, view, laneOf, boundaryOf}
+use Rattle.tables.specs.View.{Tables, rows, view, laneOf}
 use Rattle.laws.proofs.KeptRows.{keep-on, has-found}
 use Rattle.laws.proofs.Links.{eqb-swap}
 use Rattle.laws.proofs.MergePlans.{bothNew, ids-made}
 use Rattle.mentions.specs.declared.Rows.the-variants.{Lanes}
 use Rattle.mentions.specs.Naming.{naming}
 use Rattle.mentions.proofs.Filters.{lanes-named, roads-named, junctions-named, rules-named}
-use Rattle.merge_plan.specs.Deciding.{laneIn, counted}
+use Rattle.merge_plan.specs.Deciding.{counted}
 use Rattle.merge_plan.specs.Sides.{sideIds}
 use Rattle.merge_plan.specs.declared.Joined.{Joined}
-use Rattle.merge_plan.specs.declared.Joined.the-variants.{Kept, InPlace, Fresh}
 use Rattle.merge_plan.specs.declared.Plan.{Plan}
 use Rattle.merge_decide.proofs.Whole.{conflict-lineless, slot-lineless}
-use Rattle.merge_lists.specs.Changes.{withJoined, joinedIds, touched, leaving, unshared, conflicting, warningsOf}
+use Rattle.merge_lists.specs.Changes.{withJoined, joinedIds, touched, leaving, unshared, warningsOf}
 use Rattle.merge_laid.proofs.Lanes.{all-one}
 use Rattle.merge_laid.proofs.Merging.{Merging, a, b, pl, pr, next, left-planned, right-planned, found, leads, lanes-up, boundary-keys, known}
 

@@ -1,12 +1,10 @@
 -- The tables without lines that a merge leaves: roads and junctions without the second lane, rules in which it reads as the first. Assumes nothing.
-use mathlib.Core.Path.{_≡_, refl, sym, ap, _∙_}
+use mathlib.Core.Path.{_≡_, refl, _∙_}
 use Prim.Native.Nat.{ℕ}
-use mathlib.Core.Bool.{Bool, true}
-use mathlib.Core.List.{List, map}
+use mathlib.Core.Bool.{true}
+use mathlib.Core.List.{map}
 use lib.Dec.{leb}
-use lib.ListN.{length, getD, drop}
 use Rattle.lists.specs.Select.{without}
-use Rattle.entities.specs.Records.{Road, Junction, Rule}
 use Rattle.rules.specs.Lane.{roadLanes, junctionLanes, ruleLanes}
 use Rattle.rules.specs.Merge.{replace-lane}
 use Rattle.tables.specs.View.{Tables, word, rows, view, roadOf, junctionOf, ruleOf}

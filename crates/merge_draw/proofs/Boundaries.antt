@@ -1,6 +1,6 @@
 -- Rows of boundaries in a merge: one that points to its line, and one that is new. Assumes nothing.
 use mathlib.Core.Path.{_≡_, refl, sym, ap, _∙_}
-use Prim.Native.Nat.{ℕ, suc, _+_, _*_, _≤_, _<_}
+use Prim.Native.Nat.{ℕ, _+_, _*_, _≤_, _<_}
 use native.Mathlib.Omega.{arith}
 use mathlib.Core.Bool.{Bool, true, false, cond}
 use mathlib.Core.List.{List, [], _∷_, _++_}
@@ -11,8 +11,6 @@ use borrow.Author.Tests.{eq-eqb, ne-eqb}
 use Rattle.lists.specs.Rows.{over}
 use Rattle.lists.proofs.Rows.{length-over, store-at, store-behind, row-within}
 use Rattle.tables.specs.View.{word}
-use Rattle.tables.specs.Formed.{counted}
-use Rattle.row_tests.proofs.Tables.{table-room}
 use Rattle.lookup.specs.Lookup.{rowAt}
 use Rattle.store.specs.Store.{writes}
 use Rattle.store.specs.Rows.{appendedRows}

@@ -19,7 +19,7 @@ use Rattle.tables.specs.Formed.{laneFormed}
 use Rattle.row_tests.proofs.Formed.{lane-before, lane-after}
 use Rattle.store.specs.Rows.{setList, setSlot}
 use Rattle.store.proofs.Marks.{lane-marks}
-use Rattle.store.proofs.LaneRow.{LaneRow, lane-row}
+use Rattle.store.proofs.LaneRow.{lane-row}
 use Rattle.store.proofs.Turns.{drop-behind}
 use Rattle.mentions.specs.Naming.{slotNames, freeAt, forgetAt, laneForgets}
 use Rattle.mentions.proofs.Going.{lane-length, forget-length}

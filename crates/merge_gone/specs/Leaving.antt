@@ -3,19 +3,19 @@
 use Prim.Native.Nat.{ℕ, _+_, _-_, _≤_, _<_}
 use mathlib.Core.Path.{_≡_}
 use mathlib.Core.Bool.{Bool, true, false, not, _&&_, _||_, cond}
-use mathlib.Core.List.{List, []}
+use mathlib.Core.List.{List}
 use lib.Dec.{eqb, leb}
 use lib.Ieee.{Float}
 use lib.ListN.{length, drop}
 use Rattle.lists.specs.Every.{all}
 use Rattle.lists.specs.Rows.{keys}
 use Rattle.lists.specs.Select.{keep, has, place}
-use Rattle.rules.specs.Names.{Side, Left, Right}
+use Rattle.rules.specs.Names.{Left, Right}
 use Rattle.rules.specs.Limits.{maxBoundaries, maxCrosswalks, maxLanes, maxLinePoints, maxStopLines}
 use Rattle.rules.specs.Sound.{total}
-use Rattle.tables.specs.View.{word, mark, refAt, rows}
+use Rattle.tables.specs.View.{word, mark, rows}
 use Rattle.tables.specs.Columns.{boundarySize, boundaryStart, boundaryWords, crosswalkLeftStart, crosswalkRightStart, crosswalkWords, laneCenterline, laneCenterlineSize, laneWords, rowCount, rowId, stopLineStart, stopLineWords}
-use Rattle.lookup.specs.Lookup.{rowAt, sideWord, rowUses, usedOutside, sortedTable, allShort}
+use Rattle.lookup.specs.Lookup.{rowAt, rowUses, usedOutside, sortedTable, allShort}
 use Rattle.lookup.specs.declared.OptionCount.{OptionCount}
 use Rattle.merge_plan.specs.declared.Joined.{Joined}
 use Rattle.merge_plan.specs.declared.Joined.the-variants.{Kept, InPlace, Fresh}

@@ -1,20 +1,18 @@
 -- A lane's row in a merge: the merged lane, written over the row with where its centreline starts, is the row that the code leaves. Assumes nothing.
-use mathlib.Core.Path.{_≡_, refl, sym, ap, _∙_, subst}
-use Prim.Native.Nat.{ℕ, zero, suc, _+_, _≤_, _<_}
-use native.Mathlib.Nat.{add-zero}
+use mathlib.Core.Path.{_≡_, refl, sym, ap, _∙_}
+use Prim.Native.Nat.{ℕ, suc, _+_, _≤_, _<_}
 use native.Mathlib.Omega.{arith}
 use mathlib.Core.Bool.{Bool, true, false, not, cond, _||_, true≢false}
-use mathlib.Core.List.{List, [], _∷_, _++_, append-nil}
+use mathlib.Core.List.{List, [], _∷_, _++_}
 use mathlib.Core.Option.{Option, none, some}
 use lib.Dec.{eqb}
 use lib.Ieee.{Float}
-use lib.ListN.{length, getD, take, drop, length-append, length-drop, take-append-drop}
-use lib.Seq.{drop-drop, length-take-le, take-at, drop-at, drop-cons, take-all}
+use lib.ListN.{length, length-append}
+use lib.Seq.{length-take-le}
 use borrow.Author.Tests.{eqb-true, eq-eqb}
 use Rattle.lists.specs.Every.{all}
 use Rattle.lists.specs.Rows.{over}
 use Rattle.lists.specs.Select.{keep, has, without, place, ascending}
-use Rattle.lists.proofs.Every.{all-head}
 use Rattle.lists.proofs.Place.{place-present, length-place}
 use Rattle.lists.proofs.Rows.{over-nil, length-over}
 use Rattle.lists.proofs.Select.{length-keep, length-without, ascending-keep}
@@ -24,14 +22,12 @@ use Rattle.rules.specs.Names.{Tolerance}
 use Rattle.rules.specs.Edit.{relinked}
 use Rattle.rules.specs.Lane.{freed, forgetting}
 use Rattle.rules.specs.Merge.{SidePlan, kept, in-place, fresh, planIds, planRef, joinedCenter, mergedLane, afterMerge}
-use Rattle.tables.specs.View.{word, mark, idsAt, refAt, slotAt, lineAt, laneOf}
-use Rattle.tables.specs.Formed.{spanAt, centerSpan, stored, laneFormed}
-use Rattle.store.specs.Store.{laneOnto, flag, present, numberOr, slotMark, slotLane, idsOnto}
+use Rattle.tables.specs.View.{word, mark, idsAt, refAt, slotAt, laneOf}
+use Rattle.tables.specs.Formed.{centerSpan, stored, laneFormed}
+use Rattle.store.specs.Store.{flag, present, slotMark, slotLane, idsOnto}
 use Rattle.store.specs.Rows.{setList}
-use Rattle.store.specs.Laid.{laneLaid, centerOnto as laidCenter}
-use Rattle.store.proofs.Marks.{LaneMarks, lane-marks}
+use Rattle.store.specs.Laid.{laneLaid}
 use Rattle.store.proofs.LaneRow.{list-written}
-use Rattle.store.proofs.OtherRows.{lane-same}
 use Rattle.store.proofs.Back.{onto-length, ids-back}
 use Rattle.store.proofs.Turns.{drop-behind}
 use Rattle.layout.proofs.PlainLane.{lane18, startOr, sizeOr, after-set, onto-row, laid-row, long, marks, own3, own5, own6, own9, own10, own11, own-line, plain-of}

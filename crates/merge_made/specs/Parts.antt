@@ -1,7 +1,7 @@
 -- merge_lanes in words: what the lent slices hold at its end, once the lanes are found and both sides planned. Nothing that a host calls rests on this page.
 use mathlib.Core.Path.{_≡_}
 use Prim.Native.Nat.{ℕ, _+_, _*_, _^_, _≤_, _<_}
-use mathlib.Core.Bool.{Bool, true, cond}
+use mathlib.Core.Bool.{true, cond}
 use mathlib.Core.List.{List, []}
 use lib.ListN.{length}
 use lib.Ieee.{Float}

@@ -4,7 +4,6 @@ ghost use mathlib.Core.Bool.{true};
 ghost use mathlib.Core.List.{[], _∷_};
 ghost use Prim.Native.Nat.{_+_, _*_, _≤_};
 ghost use lib.ListN.{length};
-ghost use Rattle.lists.specs.Rows.{over};
 ghost use Rattle.tables.specs.View.{word};
 ghost use Rattle.tables.specs.Formed.{counted};
 ghost use Rattle.store.specs.Rows.{onRows, appendedRows};

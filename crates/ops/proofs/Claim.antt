@@ -1,6 +1,5 @@
 -- Demand 3 of every list of calls of `apply`, undivided. Assumes nothing.
-use mathlib.Core.Path.{_≡_, refl, sym, ap, _∙_, subst}
-use mathlib.Core.Bool.{true}
+use mathlib.Core.Path.{_≡_, refl, ap, _∙_}
 use mathlib.Core.List.{List, [], _∷_, map}
 use Rattle.rules.specs.Names.{Tolerance}
 use Rattle.rules.specs.Ops as O
@@ -9,7 +8,7 @@ use Rattle.store.specs.Store.{roomOf}
 use Rattle.step.specs.Step.{Ended, stateOf, step}
 use Rattle.step.specs.Run.{Held, Lending, callOn, heldAfter, heldIn, lend, lengthsOf, mapIn, runTables}
 use Rattle.step.proofs.Claim.{demand-3-tables}
-use Rattle.ops.specs.Calls.{ApplyClaim3, ApplyDemand3, Calls, heldBy}
+use Rattle.ops.specs.Calls.{ApplyClaim3, Calls, heldBy}
 
 -- the calls are the run of the definitions
 calls-run : (tol : Tolerance) (cs : List Lending) (h : Held) (es : List Ended) → Calls tol cs h es → es ≡ runTables tol cs h

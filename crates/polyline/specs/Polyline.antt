@@ -1,9 +1,9 @@
 -- geometry/polyline.rs: a line is the list of its points. Stations are measured in three dimensions, nearest points in two.
-use Prim.Native.Nat.{ℕ, zero, suc, _+_, _-_, _*_, _/_, max}
+use Prim.Native.Nat.{ℕ, zero, suc, _-_, _/_, max}
 use mathlib.Core.Bool.{Bool, true, false, _&&_, _||_, cond}
-use mathlib.Core.List.{List, [], _∷_, _++_, reverse, zipWith}
+use mathlib.Core.List.{List, [], _∷_, _++_, zipWith}
 use lib.IntN.{pos}
-use lib.Dec.{ltb, leb}
+use lib.Dec.{ltb}
 use lib.ListN.{length, getD, drop}
 use lib.Ieee.{Float, nan, binary64, lt, le, eq, ofInt, ofBits}
 use Rattle.lists.specs.Rows.{reads}

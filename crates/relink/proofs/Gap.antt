@@ -1,5 +1,5 @@
 -- The gap between two lanes, by its four ends. Assumes nothing.
-use mathlib.Core.Path.{_≡_, refl, sym, ap, _∙_}
+use mathlib.Core.Path.{_≡_, sym, _∙_}
 use mathlib.Core.Bool.{Bool, true, false, _&&_, _||_}
 use lib.Ieee.{Float, lt}
 use Rattle.geometry.specs.Point.{distance3}

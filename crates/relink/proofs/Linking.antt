@@ -1,27 +1,25 @@
 -- Rows that can be linked: their lists, and a link that is there. Assumes nothing.
 use mathlib.Core.Path.{_≡_, refl, sym, ap, _∙_}
-use mathlib.Core.Logic.{_⊎_, inl, inr}
-use Prim.Native.Nat.{ℕ, zero, suc, _+_, _-_, _*_, _≤_, _<_}
-use native.Mathlib.Omega.{arith}
-use mathlib.Core.Bool.{Bool, true, false, not, cond, _&&_, _||_, true≢false}
-use mathlib.Core.List.{List, [], _∷_, _++_}
+use mathlib.Core.Logic.{inl, inr}
+use Prim.Native.Nat.{ℕ, _+_, _*_, _<_}
+use mathlib.Core.Bool.{Bool, true, false, cond, _&&_, _||_}
+use mathlib.Core.List.{List, []}
 use lib.Dec.{eqb, ltb}
-use lib.ListN.{length, getD, take, drop}
+use lib.ListN.{length, getD}
 use borrow.Author.Tests.{eqb-true, ltb-true}
-use Rattle.lists.specs.Select.{has, place, ascending}
+use Rattle.lists.specs.Select.{place}
 use Rattle.lists.proofs.Booleans.{and-fst, and-snd}
-use Rattle.entities.specs.Records.{Lane}
 use Rattle.rules.specs.Edit.{linkIn, relinked}
 use Rattle.tables.specs.View.{word, idsAt, slotAt, laneOf}
 use Rattle.row_tests.specs.Returned.{searchable, laneAt}
-use Rattle.row_tests.proofs.Lanes.{lane-room, links-within, ids-at, row-formed}
+use Rattle.row_tests.proofs.Lanes.{lane-room, row-formed}
 use Rattle.store.specs.Store.{laneOnto}
-use Rattle.store.specs.Rows.{onRows, setList}
+use Rattle.store.specs.Rows.{setList}
 use Rattle.store.proofs.Marks.{lane-marks}
 use Rattle.store.proofs.LaneRow.{lane-row}
 use Rattle.lists.proofs.Place.{place-present}
 use Rattle.topology.specs.Topology.{lanesChanged, idAt, linksAt, Open}
-use Rattle.topology.proofs.Table.{row-words, lanes-agree-at, lanes-changed, lanes-stay, unique}
+use Rattle.topology.proofs.Table.{row-words, lanes-changed, lanes-stay, unique}
 use Rattle.topology.proofs.Links.{list-count}
 use Rattle.topology.proofs.Linked.{record-linked, ids-few}
 use Rattle.relink.specs.Parts.{Linkable, linkRoom}

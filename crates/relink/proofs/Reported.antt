@@ -1,6 +1,6 @@
 -- What an edit of links and neighbours leaves, from what its parts leave. Assumes nothing.
 use mathlib.Core.Path.{_≡_, refl, sym, ap, _∙_}
-use Prim.Native.Nat.{ℕ, zero, suc, _+_, _*_, _≤_, _<_}
+use Prim.Native.Nat.{ℕ, _+_, _*_, _≤_, _<_}
 use native.Mathlib.Omega.{arith}
 use mathlib.Core.Bool.{Bool, true, false, not, cond, _&&_, _||_}
 use mathlib.Core.List.{List, [], _∷_, _++_, append-nil}
@@ -13,8 +13,6 @@ use Rattle.entities.specs.Types.{laneEntity}
 use Rattle.entities.specs.Records.{Issue}
 use Rattle.rules.specs.Names.{IssueCode, GeometricGap, LaneKind, NoRoom}
 use Rattle.rules.specs.Edit as E
-use Rattle.tables.specs.View.{word}
-use Rattle.row_tests.specs.Returned.{laneAt}
 use Rattle.row_tests.proofs.Lanes.{id-at}
 use Rattle.topology.specs.Topology.{lanesChanged, idAt}
 use Rattle.report.specs.declared.Counts.{Counts}
@@ -22,7 +20,7 @@ use Rattle.report.specs.declared.Notice.{Notice}
 use Rattle.report.specs.declared.Notice.the-variants as N
 use Rattle.report.specs.declared.Answer.the-variants.{Changed, Refused}
 use Rattle.report.specs.Report.{listed, warned, issues, reportFits}
-use Rattle.relink.specs.Parts.{linksWritten, writingLinks, pairOf, linkRoom, linking, unlinking, Linkable}
+use Rattle.relink.specs.Parts.{linksWritten, writingLinks, pairOf, linkRoom, linking, unlinking}
 
 -- ---- notices
 

@@ -4,7 +4,7 @@ ghost use mathlib.Core.Bool.{true, cond};
 ghost use Prim.Native.Nat.{_+_, _*_, _^_, _≤_, _<_};
 ghost use lib.ListN.{length, take};
 ghost use Rattle.lists.specs.Rows.{over};
-ghost use Rattle.lists.specs.Select.{each, has, place, ascending};
+ghost use Rattle.lists.specs.Select.{each, place, ascending};
 ghost use Rattle.rules.specs.Edit as E;
 ghost use Rattle.report.specs.declared.Notice.the-variants as N;
 ghost use Rattle.report.specs.Report as R;

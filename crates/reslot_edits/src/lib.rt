@@ -1,6 +1,6 @@
 // edit/mod.rs: the two ends of set_neighbor, a slot freed and a slot set.
 ghost use mathlib.Core.Path.{_≡_};
-ghost use mathlib.Core.Bool.{true, not, cond};
+ghost use mathlib.Core.Bool.{true};
 ghost use Prim.Native.Nat.{_<_};
 ghost use Rattle.tables.specs.View.{word};
 ghost use Rattle.row_tests.specs.Returned.{searchable};

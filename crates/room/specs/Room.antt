@@ -1,5 +1,5 @@
 -- The room that an edit asks for, as tests of numbers: document 01's 11, the 10 of the map and the 10 of the lists. Nothing that a host calls rests on this page.
-use Prim.Native.Nat.{ℕ, _-_, _/_, _≤_}
+use Prim.Native.Nat.{ℕ, _-_, _/_}
 use mathlib.Core.Bool.{Bool, _&&_}
 use mathlib.Core.List.{List}
 use lib.Dec.{leb}

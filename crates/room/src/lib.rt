@@ -1,7 +1,7 @@
 // The room that an edit asks for: ids, rows, points and places in the lists, each tested on numbers before anything lent is written.
 ghost use mathlib.Core.Path.{_≡_};
 ghost use mathlib.Core.Bool.{true};
-ghost use Prim.Native.Nat.{_+_, _*_, _^_, _≤_, _<_};
+ghost use Prim.Native.Nat.{_+_, _*_, _≤_, _<_};
 ghost use lib.ListN.{length};
 ghost use Rattle.rules.specs.Sound.{nextId};
 ghost use Rattle.tables.specs.Formed.{counted};

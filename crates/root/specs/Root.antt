@@ -1,7 +1,7 @@
 -- The square root of a double, over whole numbers (IEEE 754-2019, 5.4.1: the exact root, rounded once).
 -- Document 01: "A square root is the IEEE 754-2019 one: the double nearest the exact root, ties to even, stated over whole numbers."
 use Prim.Native.Nat.{ℕ, zero, suc, _+_, _-_, _*_, _/_, _^_, compare}
-use mathlib.Core.Bool.{Bool, true, false, cond}
+use mathlib.Core.Bool.{true, false, cond}
 use lib.Dec.{leb}
 use lib.Ieee.{Float, nan, inf, fin, binary64, prec, low, up, down, size, nearest, units}
 

@@ -1,5 +1,4 @@
 // A positive double as 53 binary digits, with the power of two halved for its root.
-ghost use mathlib.Core.Path.{_≡_};
 ghost use Prim.Native.Nat.{_+_, _*_, _≤_, _<_, _^_};
 ghost use Rattle.root.specs.Steps.{Scaled, magnitude};
 use super::HIDDEN;

@@ -1,10 +1,9 @@
 -- What the test of soundness asks of each row, in one pass over a table. Nothing above `sound` rests on this page: its contract names
 -- `soundTables` alone.
-use Prim.Native.Nat.{ℕ, zero, suc, _+_, _*_, _-_, max}
-use mathlib.Core.Bool.{Bool, true, false, not, _&&_, _||_, cond}
-use mathlib.Core.List.{List, [], _∷_, _++_}
+use Prim.Native.Nat.{ℕ, suc, _-_, max}
+use mathlib.Core.Bool.{Bool, true, not, _&&_, _||_, cond}
+use mathlib.Core.List.{List}
 use lib.Dec.{eqb, leb, ltb}
-use lib.ListN.{length, take, drop}
 use lib.Ieee.{Float}
 use Rattle.lists.specs.Every.{all}
 use Rattle.lists.specs.Select.{ascending, distinct}

@@ -2,18 +2,18 @@
 use mathlib.Core.Path.{refl}
 use mathlib.Core.Bool.{true, false}
 use mathlib.Core.List.{List, [], _∷_}
-use mathlib.Core.Option.{Option, none, some}
+use mathlib.Core.Option.{none, some}
 use Prim.{tt}
 use Prim.Native.Nat.{ℕ, _-_, _^_}
 use lib.Ieee.{Float}
 use Rattle.entities.specs.Types.{same, opposing}
-use Rattle.entities.specs.Records.{Line, Lane, StopLine, Crosswalk, Map, Issue}
-use Rattle.rules.specs.Names.{Fraction, Station, EntityRef, RoadKind, RuleKind, Warning, BoundaryUnshared, OrphanRule, AttributeConflict, PositionOutside, NotMergeable, BoundaryAbsent, NoUsableLine, NotCrossing, Unsound, NoRoom, NoIds}
+use Rattle.entities.specs.Records.{Lane, Issue}
+use Rattle.rules.specs.Names.{Fraction, Station, EntityRef, RoadKind, Warning, BoundaryUnshared, OrphanRule, AttributeConflict, PositionOutside, NotMergeable, BoundaryAbsent, NoUsableLine, NotCrossing, Unsound, NoRoom, NoIds}
 use Rattle.rules.specs.Sound.{Room, Lists}
 use Rattle.rules.specs.Ops.{SplitLane, MergeLanes, ConnectLanes, DisconnectLanes, RemoveLane}
 use Rattle.rules.proofs.Opened.{opened}
 use Rattle.rules.proofs.Cases.{Case, Holds, AllHold, theLane, theBoundary, warns, nothing-done, ample, lists, refusing, changing, changes, f, -n2, n0, n0·5, n10, n2, n5, at, from, edge, plain, beside, linked, yard, e101, e102, e103, one, halvedAt, halving}
-use Rattle.rules.proofs.Turned.{n6, n8, n14, n20, counting, turned, centred, road, rule, ranking, stopping, crossing, stop, walk, furnished, ruleEntity}
+use Rattle.rules.proofs.Turned.{n6, n8, n20, counting, turned, centred, road, rule, ranking, stopping, crossing, stop, walk, furnished, ruleEntity}
 
 -- ---- what the corners need beside the helpers of Cases
 

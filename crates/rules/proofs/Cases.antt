@@ -1,17 +1,17 @@
 -- Document 01, "Cases": cases 1 to 9 and the corners that its text names, as one table of rows. A row is a map with its counter, a call and the
 -- whole outcome; each holds by computation. Ids allocated are the counter's: N1 is 104 where the counter stands at 104.
 use mathlib.Core.Path.{_≡_, refl}
-use mathlib.Core.Bool.{Bool, true, false}
+use mathlib.Core.Bool.{true, false}
 use mathlib.Core.List.{List, [], _∷_, _++_}
 use mathlib.Core.Option.{Option, none, some}
 use Prim.{Unit, tt}
-use Prim.Native.Nat.{ℕ, _-_, _^_}
+use Prim.Native.Nat.{ℕ}
 use lib.Ieee.{Float, nan, binary64, ofBits}
 use Rattle.entities.specs.Types.{preset, forward, same}
-use Rattle.entities.specs.Records.{Line, Lane, Boundary, Road, Junction, Rule, StopLine, Map, Issue, ChangeSet}
+use Rattle.entities.specs.Records.{Line, Lane, Boundary, Map, Issue, ChangeSet}
 use Rattle.rules.specs.Names.{Point3, Fraction, Station, Neighbor, EntityRef, LaneKind, BoundaryKind, Info, Warning, IssueCode, NoOp, GeometricGap, BoundaryUnshared, NeighborDropped, Refusal, FractionOutside, PositionOutside, OwnPartner}
 use Rattle.rules.specs.Sound.{Room, Lists}
-use Rattle.rules.specs.Ops.{Command, SplitLane, MergeLanes, ConnectLanes, DisconnectLanes, SetNeighbor, RemoveLane, State, Call, Answer, refused, accepted, Outcome, stepMap}
+use Rattle.rules.specs.Ops.{Command, SplitLane, MergeLanes, ConnectLanes, DisconnectLanes, RemoveLane, State, Call, refused, accepted, Outcome, stepMap}
 use Rattle.rules.proofs.Opened.{opened}
 
 -- ---- rows

@@ -1,8 +1,8 @@
 -- Soundness as a record of facts, and back.
 use mathlib.Core.Path.{_≡_}
-use mathlib.Core.Bool.{Bool, true, _&&_}
+use mathlib.Core.Bool.{true, _&&_}
 use Prim.Native.Nat.{ℕ}
-use Rattle.lists.proofs.Booleans.{and-both, and-fst, and-snd}
+use Rattle.lists.proofs.Booleans.{and-fst, and-snd}
 use Rattle.entities.specs.Records.{Map}
 use Rattle.rules.specs.Sound.{sound, withinLimits, idsAscend, counterAbove, linesInReach, kindsLegal, handlesLegal, linksAscend, linksReciprocal, neighborsReciprocal, repeatFree}
 

@@ -1,12 +1,11 @@
 -- What changes of the lane table do to ids and to the relations `leads-to` and `comes-from`.
-use mathlib.Core.Path.{_≡_, refl, sym, ap, _∙_}
-use mathlib.Core.Bool.{Bool, true, false, not, _&&_, _||_}
-use mathlib.Core.List.{List, [], _∷_, _++_, map}
-use mathlib.Core.Option.{Option, none, some}
+use mathlib.Core.Path.{_≡_, _∙_}
+use mathlib.Core.Bool.{Bool, true, _&&_, _||_}
+use mathlib.Core.List.{List, _++_, map}
 use Prim.Native.Nat.{ℕ}
 use lib.Dec.{eqb}
-use Rattle.lists.specs.Select.{keep, any, find, has, ascending}
-use Rattle.lists.proofs.Select.{any-append, any-map, any-same, any-keep, any-one, onFound, keys-map, keys-keep, find-map}
+use Rattle.lists.specs.Select.{keep, any, has, ascending}
+use Rattle.lists.proofs.Select.{any-append, any-map, any-same, any-keep, any-one, onFound, keys-map, keys-keep}
 use Rattle.entities.specs.Records.{Lane, Map}
 use Rattle.rules.specs.Map.{lane, leads-to, comes-from, laneIds}
 use Rattle.rules.specs.Edit.{withLanes}

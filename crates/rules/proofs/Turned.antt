@@ -290,10 +290,25 @@ lists-share-holds : Holds lists-share
 unfolding opened
 lists-share-holds = refl
 
+-- A rule that names both lanes of a merge names the merged one once.
+abbrev merged-once : Case
+merged-once =
+    changing (counting 302 (furnished [] (rule 301 5 (2 ∷ 7 ∷ 1 ∷ []) ∷ []) [] []
+    (yard (linked [] (2 ∷ []) (plain 1 101 102) ∷ linked (1 ∷ []) [] (plain 2 103 104) ∷ [])
+    (e101 ∷ e102 ∷ edge 103 (from n10 n20 n2) ∷ edge 104 (from n10 n20 -n2) ∷ [])))) (MergeLanes 1 2)
+    (furnished [] (rule 301 5 (7 ∷ 1 ∷ []) ∷ []) [] []
+    (yard (plain 1 101 102 ∷ []) (edge 101 (at n0 n2 ∷ at n10 n2 ∷ at n20 n2 ∷ []) ∷ edge 102 (at n0 -n2 ∷ at n10 -n2 ∷ at n20 -n2 ∷ []) ∷ [])))
+    302 none
+    (changes [] (theLane 1 ∷ theBoundary 101 ∷ theBoundary 102 ∷ ruleEntity 301 ∷ []) (theLane 2 ∷ theBoundary 103 ∷ theBoundary 104 ∷ []) [])
+
+merged-once-holds : Holds merged-once
+unfolding opened
+merged-once-holds = refl
+
 -- ---- the table
 
 abbrev pub turns : List Case
-turns = merge-directions ∷ opposite-halves ∷ freed-reported ∷ removed-unlinked ∷ both-absent ∷ absent-itself ∷ nearest-station ∷ stop-missing ∷ road-repeat ∷ junction-repeat ∷ own-repeat ∷ priority-repeat ∷ yielding-repeat ∷ lists-share ∷ []
+turns = merge-directions ∷ opposite-halves ∷ freed-reported ∷ removed-unlinked ∷ both-absent ∷ absent-itself ∷ nearest-station ∷ stop-missing ∷ road-repeat ∷ junction-repeat ∷ own-repeat ∷ priority-repeat ∷ yielding-repeat ∷ lists-share ∷ merged-once ∷ []
 
 pub turns-hold : AllHold turns
-turns-hold = (merge-directions-holds, (opposite-halves-holds, (freed-reported-holds, (removed-unlinked-holds, (both-absent-holds, (absent-itself-holds, (nearest-station-holds, (stop-missing-holds, (road-repeat-holds, (junction-repeat-holds, (own-repeat-holds, (priority-repeat-holds, (yielding-repeat-holds, (lists-share-holds, tt))))))))))))))
+turns-hold = (merge-directions-holds, (opposite-halves-holds, (freed-reported-holds, (removed-unlinked-holds, (both-absent-holds, (absent-itself-holds, (nearest-station-holds, (stop-missing-holds, (road-repeat-holds, (junction-repeat-holds, (own-repeat-holds, (priority-repeat-holds, (yielding-repeat-holds, (lists-share-holds, (merged-once-holds, tt)))))))))))))))

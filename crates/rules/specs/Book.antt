@@ -1,8 +1,7 @@
 -- Document 01: "The link book is a set of pairs of lane ids, (a, b) for b a successor of a", here the test of a pair.
 use Prim.Native.Nat.{ℕ}
-use mathlib.Core.Bool.{Bool, true, false, not, _&&_, _||_, cond}
-use mathlib.Core.List.{List, [], _∷_, _++_, map}
-use mathlib.Core.Option.{Option, none, some}
+use mathlib.Core.Bool.{Bool, true, false, not, _&&_, _||_}
+use mathlib.Core.List.{List, [], _∷_, map}
 use lib.Dec.{eqb}
 use Rattle.lists.specs.Select.{keep, any}
 use Rattle.rules.specs.Names.{Tolerance, EntityKind, LaneKind, BoundaryKind, RoadKind, JunctionKind, StopLineKind, SignalKind, CrosswalkKind, RuleKind, EntityRef}

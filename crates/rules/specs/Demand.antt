@@ -1,12 +1,10 @@
 -- Demand 3, as a statement: one claim over every list of calls from any sound map.
 use mathlib.Core.Path.{_≡_}
-use Prim.Native.Nat.{ℕ, _<_}
-use mathlib.Core.Bool.{Bool, true, false, not, _&&_, _||_, cond}
+use Prim.Native.Nat.{ℕ}
+use mathlib.Core.Bool.{Bool, true, false, not, _&&_, _||_}
 use mathlib.Core.List.{List, [], _∷_, _++_, map}
 use mathlib.Core.Option.{Option, none, some}
-use mathlib.Core.Logic.{_⊎_}
 use lib.Dec.{eqb, ltb}
-use lib.ListN.{length}
 use Rattle.lists.specs.Select.{keep, any, find}
 use Rattle.entities.specs.Types.{kindNumber, reciprocal-side}
 use Rattle.rules.specs.Names.{Side, NeighborDirection, Tolerance, EntityKind, LaneKind, BoundaryKind, RoadKind, JunctionKind, StopLineKind, SignalKind, CrosswalkKind, RuleKind, EntityRef}
@@ -14,7 +12,7 @@ use Rattle.entities.specs.Records.{Lane, Boundary, Road, Junction, Rule, StopLi
 use Rattle.rules.specs.Map.{leads-to, comes-from}
 use Rattle.rules.specs.Sound.{sound, Room, has-neighbor, repeatFree}
 use Rattle.rules.specs.Edit.{refs}
-use Rattle.rules.specs.Ops.{Command, State, Call, Answer, refused, accepted, Outcome, stepMap, after}
+use Rattle.rules.specs.Ops.{State, Call, refused, accepted, Outcome, stepMap, after}
 use Rattle.rules.specs.Book.{bookAfter, firstBook}
 
 -- ---- entities of a map

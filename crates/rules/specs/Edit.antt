@@ -5,7 +5,7 @@ use mathlib.Core.List.{List, [], _∷_, _++_, map}
 use mathlib.Core.Option.{Option, none, some}
 use lib.Dec.{eqb}
 use lib.Ieee.{Float, lt}
-use Rattle.lists.specs.Select.{keep, has, without, place}
+use Rattle.lists.specs.Select.{keep, without, place}
 use Rattle.geometry.specs.Point.{distance3}
 use Rattle.entities.specs.Types.{reciprocal-side, laneEntity}
 use Rattle.rules.specs.Names.{BoundaryRef, Side, Left, Right, Neighbor, Tolerance, EntityKind, LaneKind, BoundaryKind, RoadKind, JunctionKind, RuleKind, EntityRef, Info, Warning, IssueCode, NoOp, GeometricGap, BoundaryUnshared, Refusal, LaneAbsent, OwnPartner, OptionPoint3, NoPoint, APoint}

@@ -1,15 +1,15 @@
 -- edit/lane.rs: remove_lane.
 use Prim.Native.Nat.{ℕ}
-use mathlib.Core.Bool.{Bool, true, false, not, _&&_, _||_, cond}
+use mathlib.Core.Bool.{Bool, true, not, _&&_, _||_, cond}
 use mathlib.Core.List.{List, [], _∷_, _++_, map}
 use mathlib.Core.Option.{Option, none, some}
 use lib.Dec.{eqb}
 use lib.ListN.{length}
 use Rattle.lists.specs.Select.{keep, any, has, without}
 use Rattle.rules.specs.Names.{Neighbor, LaneKind, RuleKind, Warning, OrphanRule}
-use Rattle.entities.specs.Records.{Lane, Boundary, Road, Junction, Rule, Map, Issue, ChangeSet}
-use Rattle.rules.specs.Map.{names, beside, uses}
-use Rattle.rules.specs.Edit.{Res, refuse, yield, _>>=_, Edited, require-lane, refs, lanesWhere, boundariesWhere, roadsWhere, junctionsWhere, rulesWhere, relinked}
+use Rattle.entities.specs.Records.{Lane, Boundary, Road, Junction, Rule, Map, Issue}
+use Rattle.rules.specs.Map.{beside, uses}
+use Rattle.rules.specs.Edit.{Res, yield, _>>=_, Edited, require-lane, refs, lanesWhere, boundariesWhere, roadsWhere, junctionsWhere, rulesWhere, relinked}
 
 -- ---- a lane leaves: shared with merge_lanes, whose second lane leaves
 

@@ -1,7 +1,7 @@
 -- map.rs: look-ups, lines and centrelines, users of a boundary, lateral groups and anchors, on a map as a record of lists.
 use Prim.Native.Nat.{ℕ, zero, suc}
-use mathlib.Core.Bool.{Bool, true, false, _&&_, _||_, cond}
-use mathlib.Core.List.{List, [], _∷_, _++_, map, reverse}
+use mathlib.Core.Bool.{Bool, false, _&&_, _||_, cond}
+use mathlib.Core.List.{List, [], _∷_, map, reverse}
 use mathlib.Core.Option.{Option, none, some}
 use lib.Dec.{eqb}
 use lib.ListN.{length}
@@ -11,7 +11,7 @@ use Rattle.geometry.specs.Float.{halfᶠ}
 use Rattle.geometry.specs.Point as Point
 use Rattle.polyline.specs.Polyline as Polyline
 use Rattle.rules.specs.Names.{Side, Left, Right, BoundaryRef, Neighbor, Point2, OptionPoint3, NoPoint, APoint, OptionNearest, NoNearest, ANearest}
-use Rattle.entities.specs.Records.{Line, Lane, Boundary, Road, Junction, Rule, StopLine, Crosswalk, Map}
+use Rattle.entities.specs.Records.{Line, Lane, Boundary, Rule, StopLine, Crosswalk, Map}
 
 -- ---- look-ups by id
 

@@ -4,16 +4,15 @@ use mathlib.Core.Bool.{Bool, true, false, not, _&&_, _||_, cond}
 use mathlib.Core.List.{List, [], _∷_, _++_, map, reverse}
 use mathlib.Core.Option.{Option, none, some}
 use lib.Dec.{eqb}
-use lib.ListN.{length}
 use lib.Ieee.{Float, binary64, ofBits, ne}
 use Rattle.lists.specs.Select.{keep, has, without, place, sameNumbers}
 use Rattle.polyline.specs.Polyline.{concat}
 use Rattle.entities.specs.Types.{forward, laneEntity, boundaryEntity}
 use Rattle.rules.specs.Names.{Side, Left, Right, BoundaryRef, Neighbor, Tolerance, LaneKind, BoundaryKind, BoundaryUnshared, NeighborDropped, AttributeConflict, NotMergeable, BoundaryAbsent}
-use Rattle.entities.specs.Records.{Line, Lane, Boundary, Rule, Map, Issue, ChangeSet}
-use Rattle.rules.specs.Map.{boundary, boundaryOn, neighborOn, oriented-boundary, lanes-using-boundary, names}
-use Rattle.rules.specs.Edit.{Res, refuse, yield, _>>=_, check, require, Edited, require-lane, refs, lanesWhere, boundariesWhere, roadsWhere, junctionsWhere, rulesWhere, warning, when, laneWith, relinked}
-use Rattle.rules.specs.Lane.{mentions, forgetting, freed, roadLanes, junctionLanes, ruleLanes, ruleNamesLane, unused}
+use Rattle.entities.specs.Records.{Line, Lane, Boundary, Map, Issue}
+use Rattle.rules.specs.Map.{boundary, boundaryOn, oriented-boundary, lanes-using-boundary, names}
+use Rattle.rules.specs.Edit.{Res, yield, _>>=_, check, require, Edited, require-lane, refs, lanesWhere, boundariesWhere, roadsWhere, junctionsWhere, rulesWhere, warning, when, laneWith, relinked}
+use Rattle.rules.specs.Lane.{mentions, forgetting, roadLanes, junctionLanes, ruleLanes, ruleNamesLane, unused}
 
 -- ---- one side of the two lanes
 

@@ -1,8 +1,8 @@
 -- ops.rs: the six commands, one call of the editor, and a list of calls.
-use Prim.Native.Nat.{ℕ, _+_, max}
-use mathlib.Core.Bool.{Bool, true, false, _&&_, cond}
-use mathlib.Core.List.{List, [], _∷_, _++_}
-use mathlib.Core.Option.{Option, none, some}
+use Prim.Native.Nat.{ℕ, _+_}
+use mathlib.Core.Bool.{Bool, _&&_, cond}
+use mathlib.Core.List.{List, [], _∷_}
+use mathlib.Core.Option.{Option}
 use lib.Dec.{eqb, leb}
 use lib.ListN.{length}
 pub use Rattle.entities.specs.declared.Command.{Command}

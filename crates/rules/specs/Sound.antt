@@ -1,17 +1,17 @@
 -- Document 01, "The map", and document 02, (b): when a map with its counter is sound, and the room of a map.
 -- What concerns the lent memory alone (counts against lent lengths, lines apart from each other) is in the crate `tables`.
-use Prim.Native.Nat.{ℕ, zero, suc, _+_, _-_, _^_, max}
+use Prim.Native.Nat.{ℕ, _+_, _-_, _^_, max}
 use mathlib.Core.Bool.{Bool, true, false, not, _&&_, _||_, cond}
 use mathlib.Core.List.{List, [], _∷_, _++_, map}
 use mathlib.Core.Option.{Option, none, some}
 use lib.Dec.{eqb, leb, ltb}
 use lib.ListN.{length}
 use Rattle.lists.specs.Every.{all}
-use Rattle.lists.specs.Select.{any, each, has, ascending, distinct}
+use Rattle.lists.specs.Select.{any, each, ascending, distinct}
 use Rattle.geometry.specs.Point.{inReach}
 use Rattle.entities.specs.Types.{reciprocal-side}
 use Rattle.rules.specs.Names.{Side, Left, Right, NeighborDirection, Same, Opposite, Neighbor}
-use Rattle.entities.specs.Records.{Line, Lane, Boundary, Road, Junction, Rule, StopLine, Crosswalk, Map}
+use Rattle.entities.specs.Records.{Line, Lane, Rule, Map}
 use Rattle.rules.specs.Limits.{maxLanes, maxBoundaries, maxRoads, maxJunctions, maxRules, maxStopLines, maxCrosswalks, maxLinePoints, maxPoints, maxLinks, maxIds, lastLaneKind, lastTurn, lastBoundaryKind, lastRuleKind, trafficSign, stopLineRule, rightOfWay, crosswalkRule, otherRule}
 pub use Rattle.rules.specs.Limits.{handleWidth, featureHandleWidth}
 use Rattle.rules.specs.Map.{laneIds, leads-to, comes-from, neighborOn}

@@ -1,5 +1,5 @@
 -- edit/split.rs: split_lane.
-use Prim.Native.Nat.{ℕ, zero, suc, _+_}
+use Prim.Native.Nat.{ℕ, suc, _+_}
 use mathlib.Core.Bool.{Bool, true, false, not, _&&_, _||_, cond}
 use mathlib.Core.List.{List, [], _∷_, _++_, map}
 use mathlib.Core.Option.{Option, none, some}
@@ -12,8 +12,8 @@ use Rattle.geometry.specs.Float.{_-ᶠ_, _*ᶠ_, zeroᶠ, oneᶠ}
 use Rattle.polyline.specs.Polyline.{lineLength, point-at, firstPiece, secondPiece, concat}
 use Rattle.entities.specs.Types.{opposing, same, laneEntity, boundaryEntity, crossingMargin}
 use Rattle.rules.specs.Names.{BoundaryRef, Same, Opposite, Neighbor, SplitAt, Fraction, Station, Tolerance, LaneKind, BoundaryKind, BoundaryUnshared, NeighborDropped, FractionOutside, PositionOutside, BoundaryAbsent, NoUsableLine, NotCrossing, Point2}
-use Rattle.entities.specs.Records.{Line, Lane, Boundary, Road, Junction, Rule, Map, Issue, ChangeSet}
-use Rattle.rules.specs.Map.{lane, boundary, boundaryOn, neighborOn, centerline, station, lateral-group, uses, flatPoint, rule-anchor}
+use Rattle.entities.specs.Records.{Line, Lane, Boundary, Rule, Map, Issue}
+use Rattle.rules.specs.Map.{lane, boundary, centerline, station, lateral-group, uses, flatPoint, rule-anchor}
 use Rattle.rules.specs.Edit.{Res, refuse, yield, _>>=_, Passed, passed, check, require, Edited, require-lane, refs, lanesWhere, boundariesWhere, roadsWhere, junctionsWhere, rulesWhere, warning, when, laneWith, withLinks}
 use Rattle.rules.specs.Lane.{roadLanes, junctionLanes, ruleLanes}
 use Rattle.rules.specs.Merge.{redrawn}

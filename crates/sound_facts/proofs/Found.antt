@@ -1,17 +1,16 @@
 -- Lanes, links and ends of lanes of a sound map, by their rows. Assumes nothing.
 use mathlib.Core.Path.{_≡_, refl, sym, ap, _∙_}
-use Prim.Native.Nat.{ℕ, zero, suc, _+_, _≤_, _<_}
-use mathlib.Core.Bool.{Bool, true, false, not, cond, _&&_, _||_}
-use mathlib.Core.List.{List, [], _∷_, _++_, map}
-use mathlib.Core.Option.{Option, none, some}
-use lib.Dec.{eqb}
+use Prim.Native.Nat.{ℕ, _<_}
+use mathlib.Core.Bool.{true}
+use mathlib.Core.List.{List}
+use mathlib.Core.Option.{none, some}
 use lib.Ieee.{Float}
-use Rattle.lists.specs.Select.{has, find, ascending}
+use Rattle.lists.specs.Select.{has, ascending}
 use Rattle.lists.specs.declared.Found.{Found}
 use Rattle.lists.specs.declared.Found.the-variants.{At, Nothing}
 use Rattle.lists.proofs.Booleans.{and-fst, and-snd}
 use Rattle.lists.proofs.Select.{onFound}
-use Rattle.entities.specs.Records.{Lane, Map}
+use Rattle.entities.specs.Records.{Lane}
 use Rattle.rules.specs.Map.{lane, boundary, oriented-boundary, leads-to, comes-from, laneIds}
 use Rattle.rules.specs.Sound.{sound}
 use Rattle.rules.specs.Edit as E
@@ -19,7 +18,7 @@ use Rattle.rules.proofs.Facts.{sound-facts}
 use Rattle.rules.proofs.Reciprocal.{links-agree}
 use Rattle.rules.proofs.Relations.{leads-found, comes-found}
 use Rattle.laws.proofs.Still.{ids-up}
-use Rattle.tables.specs.View.{Tables, word, idsAt, laneOf, boundaryOf, rows, view}
+use Rattle.tables.specs.View.{Tables, word, laneOf, view}
 use Rattle.tables.specs.Formed.{formed, soundTables}
 use Rattle.row_tests.specs.Returned.{searchable, laneAt}
 use Rattle.lookup.specs.Lookup.{placeOf, sortedTable, drawn}

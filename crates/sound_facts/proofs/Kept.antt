@@ -1,17 +1,16 @@
 -- An edit of lanes that keeps their ids and centrelines, as one of links and neighbours does, written back: the tables hold the edited map, and stay sound.
 -- Assumes nothing.
 use mathlib.Core.Path.{_≡_, refl, sym, ap, _∙_}
-use Prim.Native.Nat.{ℕ, zero, suc, _+_, _*_, _≤_}
+use Prim.Native.Nat.{ℕ, suc, _+_, _*_, _≤_}
 use mathlib.Core.Bool.{Bool, true, false, not, _&&_, cond}
 use mathlib.Core.List.{List, [], _∷_, _++_, map}
 use mathlib.Core.Option.{Option, none, some}
 use lib.Dec.{eqb, leb}
 use lib.Ieee.{Float}
-use lib.ListN.{length, take, drop}
+use lib.ListN.{length, drop}
 use lib.Seq.{drop-cons}
 use borrow.Author.Tests.{leb-true}
 use Rattle.lists.specs.Every.{all}
-use Rattle.lists.specs.Rows.{reads}
 use Rattle.lists.specs.Select.{each}
 use Rattle.lists.proofs.Booleans.{and-both, and-fst, and-snd}
 use Rattle.lists.proofs.Select.{all-map}

@@ -1,6 +1,6 @@
 -- A map written back of which only links and neighbours changed: the lane table changes, and nothing else. Assumes nothing.
 use mathlib.Core.Path.{_≡_, refl, sym, ap, _∙_}
-use Prim.Native.Nat.{ℕ, zero, suc, _*_, _≤_}
+use Prim.Native.Nat.{ℕ, _*_, _≤_}
 use native.Mathlib.Omega.{arith}
 use mathlib.Core.Bool.{Bool, true, false, cond}
 use mathlib.Core.List.{List, [], _∷_, map}
@@ -9,8 +9,6 @@ use lib.Dec.{leb}
 use lib.Ieee.{Float}
 use lib.ListN.{length, getD, take, drop, length-drop}
 use borrow.Author.Tests.{leb-true}
-use Rattle.lists.specs.Every.{all}
-use Rattle.lists.specs.Rows.{reads}
 use Rattle.store.proofs.Packing.{every-row}
 use Rattle.entities.specs.Records.{Line, Lane}
 use Rattle.entities.specs.declared.Neighbor.{Neighbor}
@@ -23,7 +21,7 @@ use Rattle.soundness.proofs.Back.{formed-parts}
 use Rattle.soundness.proofs.Counts.{Counts, counts}
 use Rattle.store.specs.Store.{laneOnto, boundaryOnto, roadOnto, junctionOnto, ruleOnto, storeRows, store, present}
 use Rattle.store.specs.Rows.{mapRows, onRows}
-use Rattle.store.proofs.Rows.{passing, rows-agree-at}
+use Rattle.store.proofs.Rows.{rows-agree-at}
 use Rattle.store.proofs.Whole.{store-changed, store-same}
 use Rattle.store.proofs.OtherRows.{boundary-same, road-same, junction-same, rule-same}
 use Rattle.topology.specs.Topology.{lanesChanged}

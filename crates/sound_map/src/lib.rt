@@ -1,7 +1,7 @@
 // Map soundness, decided: whether lent tables hold a sound map.
 ghost use mathlib.Core.Path.{_≡_};
 ghost use mathlib.Core.Bool.{true};
-ghost use Rattle.tables.specs.Formed.{counted, soundTables};
+ghost use Rattle.tables.specs.Formed.{soundTables};
 ghost use Rattle.tables.specs.View.{tablesOf};
 ghost use Rattle.soundness.specs.Parts as P;
 use lists::both;

@@ -1,26 +1,25 @@
 -- From soundness to the test: each clause gives its part of every table.
-use mathlib.Core.Path.{_≡_, refl, sym, ap, _∙_}
-use mathlib.Core.Bool.{Bool, true, false, not, _&&_, _||_, cond}
-use mathlib.Core.List.{List, [], _∷_, _++_, map}
-use Prim.Native.Nat.{ℕ, zero, suc, _+_, _*_, _^_, _≤_}
-use lib.Dec.{eqb, leb, ltb}
-use lib.ListN.{length, take, drop}
-use lib.Ieee.{Float}
+use mathlib.Core.Path.{_≡_, sym, _∙_}
+use mathlib.Core.Bool.{Bool, true, _&&_}
+use mathlib.Core.List.{_∷_}
+use Prim.Native.Nat.{ℕ, _≤_}
+use lib.Dec.{leb, ltb}
+use lib.ListN.{length, drop}
 use Rattle.lists.specs.Every.{all}
 use Rattle.lists.specs.Rows.{keys}
 use Rattle.lists.specs.Select.{ascending, distinct}
 use Rattle.lists.proofs.Booleans.{and-fst, and-snd}
 use Rattle.geometry.specs.Point.{inReach}
-use Rattle.entities.specs.Records.{Line, Map}
-use Rattle.rules.specs.Sound.{lastCounter, handleWidth, speedLegal, sound, withinLimits, counterAbove, linesInReach, kindsLegal, handlesLegal, linksAscend, repeatFree, idsAscend, pointCount, idLists, lines, optionalLine, laneNames, ruleNames, ruleLegal}
-use Rattle.rules.proofs.Facts.{Sound, sound-facts}
+use Rattle.entities.specs.Records.{Line}
+use Rattle.rules.specs.Sound.{lastCounter, handleWidth, speedLegal, sound, withinLimits, counterAbove, linesInReach, kindsLegal, handlesLegal, linksAscend, repeatFree, pointCount, idLists, lines, optionalLine, laneNames, ruleNames, ruleLegal}
+use Rattle.rules.proofs.Facts.{sound-facts}
 use Rattle.tables.specs.View.{Tables, word, lineAt, rows, view, laneOf, boundaryOf, roadOf, junctionOf, ruleOf, stopLineOf, crosswalkOf}
-use Rattle.tables.specs.Formed.{spanAt, centerSpan, stored, counted, spans, allClear, formed, soundTables, laneFormed, ruleFormed}
+use Rattle.tables.specs.Formed.{spanAt, centerSpan, stored, spans, allClear, formed, soundTables, laneFormed, ruleFormed}
 use Rattle.row_tests.specs.Good.{largestId, allRows}
 use Rattle.soundness.specs.Parts.{allCounted}
 use Rattle.soundness.proofs.Rows.{all-rows}
 use Rattle.soundness.proofs.Pointwise.{and3, and5}
-use Rattle.soundness.proofs.Parts.{Held, parts-lane, parts-boundary, parts-road, parts-junction, parts-rule, parts-stop-line, parts-crosswalk}
+use Rattle.soundness.proofs.Parts.{parts-lane, parts-boundary, parts-road, parts-junction, parts-rule, parts-stop-line, parts-crosswalk}
 use Rattle.soundness.proofs.Whole.{counter-same, all-lines, all-stored, all-names}
 use Rattle.soundness.proofs.Words.{AllHeld, names-ok}
 use Rattle.soundness.proofs.Verdict.{Tested, parts-line, ids-same}

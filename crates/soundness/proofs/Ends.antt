@@ -1,28 +1,26 @@
 -- Each end of the test, from what its parts found.
-use mathlib.Core.Path.{_≡_, refl, sym, ap, _∙_}
-use mathlib.Core.Bool.{Bool, true, false, not, _&&_, _||_, true≢false}
+use mathlib.Core.Path.{_≡_, refl, sym, _∙_}
+use mathlib.Core.Bool.{Bool, true, false, _&&_, true≢false}
 use mathlib.Core.List.{List, [], _∷_}
 use Prim.Native.Nat.{ℕ, suc, _^_, _≤_}
 use native.Mathlib.Omega.{arith}
 use mir.Syntax.{w64}
 use mir.Val.{Fits}
 use borrow.Author.Tests.{lt-ltb}
-use lib.ListN.{drop, getD}
+use lib.ListN.{getD}
 use Rattle.lists.specs.Every.{all}
-use Rattle.lists.specs.Rows.{keys}
-use Rattle.lists.specs.Select.{ascending}
 use Rattle.lists.proofs.Booleans.{and-both, and-fst, and-snd, same-test}
 use Rattle.rules.specs.Sound.{lastCounter, linksReciprocal, neighborsReciprocal}
-use Rattle.tables.specs.View.{Tables, word, rows, view, laneOf}
-use Rattle.tables.specs.Formed.{stored, counted, spans, allClear, formed, soundTables, laneFormed}
-use Rattle.apart.specs.Marks.{takeable, lineSpans}
-use Rattle.apart.proofs.Stored.{takeable-of, spans-lines}
+use Rattle.tables.specs.View.{Tables, rows, view}
+use Rattle.tables.specs.Formed.{stored, spans, allClear, formed, soundTables}
+use Rattle.apart.specs.Marks.{takeable}
+use Rattle.apart.proofs.Stored.{takeable-of}
 use Rattle.row_tests.specs.Good.{largestId, allRows, laneGood, boundaryGood, roadGood, junctionGood, ruleGood, stopLineGood, crosswalkGood}
 use Rattle.row_tests.specs.Returned.{searchable, laneReturned, slotsReturned}
 use Rattle.row_tests.proofs.Relations.{links-tie, neighbors-tie}
 use Rattle.soundness.specs.Parts.{allCounted, allGood, allAscend, ascends}
 use Rattle.soundness.proofs.Pointwise.{ok}
-use Rattle.soundness.proofs.Parts.{Held, lane-parts, boundary-parts, stop-line-parts, crosswalk-parts}
+use Rattle.soundness.proofs.Parts.{lane-parts, boundary-parts, stop-line-parts, crosswalk-parts}
 use Rattle.soundness.proofs.Whole.{all-stored}
 use Rattle.soundness.proofs.Words.{AllHeld}
 use Rattle.soundness.proofs.Verdict.{Tested, tested-sound, line-parts, five}

@@ -1,16 +1,16 @@
 -- Lines that are stored and share no point have together at most as many points as the store: at most 65,536 in all. Assumes nothing.
 use mathlib.Core.Path.{_≡_, refl, sym, ap, _∙_}
 use mathlib.Core.Logic.{⊎-elim}
-use mathlib.Core.Bool.{Bool, true, false, not, cond, or-true, true≢false}
+use mathlib.Core.Bool.{Bool, true, false, not, cond, true≢false}
 use mathlib.Core.List.{List, [], _∷_, _++_, map}
 use mathlib.Core.Option.{none, some}
-use Prim.Native.Nat.{ℕ, zero, suc, _+_, _*_, _/_, _≤_, min}
+use Prim.Native.Nat.{ℕ, zero, suc, _+_, _*_, _≤_}
 use native.Mathlib.Omega.{arith}
-use lib.Dec.{eqb, leb}
+use lib.Dec.{leb}
 use lib.Ieee.{Float}
 use lib.ListN.{length, take, drop, replicate, length-take, length-drop, length-replicate, take-append-drop}
 use lib.Seq.{drop-drop, length-take-le}
-use borrow.Author.Tests.{leb-true, le-leb}
+use borrow.Author.Tests.{le-leb}
 use Rattle.lists.specs.Every.{all}
 use Rattle.lists.specs.Rows.{reads, over}
 use Rattle.lists.specs.Select.{each}
@@ -23,7 +23,7 @@ use Rattle.rules.specs.Sound.{total, pointCount, lines, optionalLine}
 use Rattle.tables.specs.View.{Tables, word, mark, part, lineAt, laneOf, boundaryOf, stopLineOf, crosswalkOf, rows, view}
 use Rattle.tables.specs.Formed.{Span, spanAt, centerSpan, stored, allClear, spans}
 use Rattle.apart.specs.Marks.{marked, unmarked, apartBy, within, trues}
-use Rattle.apart.proofs.Marks.{or-cases, length-trues, within-cases, marked-none, length-marked}
+use Rattle.apart.proofs.Marks.{length-trues, within-cases, marked-none, length-marked}
 use Rattle.apart.proofs.Clear.{apart-clear}
 use Rattle.apart.proofs.Stored.{stored-within}
 

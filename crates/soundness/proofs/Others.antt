@@ -1,24 +1,19 @@
 -- Row by row, the other tables: what the definition asks, and what the test asks.
-use mathlib.Core.Path.{_≡_, refl, sym, ap, _∙_}
-use mathlib.Core.Bool.{Bool, true, false, not, _&&_, _||_, cond, true≢false}
-use mathlib.Core.List.{List, [], _∷_, _++_}
-use mathlib.Core.Option.{Option, none, some}
-use Prim.Native.Nat.{ℕ, zero, suc, _≤_}
-use native.Mathlib.Omega.{arith}
-use lib.Dec.{eqb, leb, ltb}
-use lib.ListN.{length, take, drop}
+use mathlib.Core.Path.{_≡_, refl, ap, _∙_}
+use mathlib.Core.Bool.{Bool, true, false, _&&_}
+use mathlib.Core.List.{List, _∷_}
+use Prim.Native.Nat.{ℕ}
+use lib.Dec.{leb, ltb}
+use lib.ListN.{length}
 use lib.Ieee.{Float}
-use borrow.Author.Tests.{leb-true, le-leb, eqb-true, eq-eqb}
 use Rattle.lists.specs.Every.{all}
 use Rattle.lists.specs.Select.{distinct}
-use Rattle.lists.proofs.Every.{all-split}
-use Rattle.lists.proofs.Booleans.{and-both, and-fst, and-snd, same-test}
+use Rattle.lists.proofs.Booleans.{and-fst, and-snd, same-test}
 use Rattle.geometry.specs.Point.{inReach}
-use Rattle.entities.specs.Records.{Line, Rule}
-use Rattle.rules.specs.Sound.{handleWidth, optionalId, ruleNames, ruleLegal, hasContent, stopLinesFit, given}
-use Rattle.tables.specs.View.{word, idsAt, idsWhere, lineAt, ruleOf}
-use Rattle.tables.specs.Formed.{Span, spanAt, stored, ruleFormed}
-use Rattle.row_tests.specs.Good.{lineGood, idsGood, handleGood, boundaryGood, roadGood, junctionGood, ruleNumbers, ruleLists, ruleGood, stopLineGood, crosswalkGood}
+use Rattle.rules.specs.Sound.{handleWidth}
+use Rattle.tables.specs.View.{word, idsAt, lineAt}
+use Rattle.tables.specs.Formed.{spanAt, stored}
+use Rattle.row_tests.specs.Good.{lineGood, idsGood, handleGood, boundaryGood, roadGood, junctionGood, stopLineGood, crosswalkGood}
 use Rattle.soundness.proofs.Pointwise.{and3, and4, and5, line-same}
 
 -- what the definition asks of a line: in the store, not too long, within reach

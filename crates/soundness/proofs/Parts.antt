@@ -1,10 +1,10 @@
 -- Table by table: the test of every row is what the clauses of soundness ask of the table.
-use mathlib.Core.Path.{_≡_, refl, sym, ap, _∙_}
-use mathlib.Core.Bool.{Bool, true, false, not, _&&_, _||_, cond}
-use mathlib.Core.List.{List, [], _∷_, _++_, map}
-use Prim.Native.Nat.{ℕ, zero, suc, _+_, _*_, _≤_}
-use lib.Dec.{eqb, leb, ltb}
-use lib.ListN.{length, take, drop}
+use mathlib.Core.Path.{_≡_, sym, _∙_}
+use mathlib.Core.Bool.{Bool, true, _&&_}
+use mathlib.Core.List.{List, _∷_}
+use Prim.Native.Nat.{ℕ, _+_, _*_, _≤_}
+use lib.Dec.{leb, ltb}
+use lib.ListN.{length}
 use lib.Ieee.{Float}
 use borrow.Author.Tests.{leb-true}
 use Rattle.lists.specs.Every.{all}
@@ -12,10 +12,10 @@ use Rattle.lists.specs.Select.{ascending, distinct}
 use Rattle.lists.proofs.Booleans.{and-both, and-fst, and-snd, same-test}
 use Rattle.geometry.specs.Point.{inReach}
 use Rattle.rules.specs.Sound.{handleWidth, optionalLine, speedLegal, laneNames, ruleNames, ruleLegal}
-use Rattle.tables.specs.View.{word, idsAt, optionAt, optionLineAt, lineAt, rows, laneOf, boundaryOf, roadOf, junctionOf, ruleOf, stopLineOf, crosswalkOf}
-use Rattle.tables.specs.Formed.{Span, spanAt, centerSpan, stored, counted, laneFormed, ruleFormed}
+use Rattle.tables.specs.View.{word, idsAt, optionAt, optionLineAt, rows, laneOf, boundaryOf, roadOf, junctionOf, ruleOf, stopLineOf, crosswalkOf}
+use Rattle.tables.specs.Formed.{centerSpan, stored, counted, laneFormed, ruleFormed}
 use Rattle.row_tests.specs.Good.{allRows, laneGood, boundaryGood, roadGood, junctionGood, ruleGood, stopLineGood, crosswalkGood}
-use Rattle.soundness.proofs.Rows.{all-rows, rows-and, rows-three, rows-four, rows-five, rows-six, rows-weaken}
+use Rattle.soundness.proofs.Rows.{all-rows, rows-three, rows-four, rows-five, rows-six, rows-weaken}
 use Rattle.soundness.proofs.Pointwise.{ok, and3, and4, and5, laneAsked, lane-same}
 use Rattle.soundness.proofs.Others.{lineAsked, boundaryAsked, boundary-same, stopLineAsked, stop-line-same, crosswalkAsked, crosswalk-same, roadAsked, road-same, junctionAsked, junction-same}
 use Rattle.soundness.proofs.Rules.{ruleAsked, rule-same}

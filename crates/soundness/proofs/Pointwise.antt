@@ -1,28 +1,25 @@
 -- Row by row: what the definition asks of a row, and what the test of soundness asks.
 use mathlib.Core.Path.{_≡_, refl, sym, ap, _∙_}
-use mathlib.Core.Bool.{Bool, true, false, not, _&&_, _||_, cond, true≢false}
-use mathlib.Core.List.{List, [], _∷_, _++_, map}
-use mathlib.Core.Option.{Option, none, some}
-use Prim.Native.Nat.{ℕ, zero, suc, _+_, _*_, _-_, _/_, _^_, _≤_, _<_, max, min}
+use mathlib.Core.Bool.{Bool, true, false, not, _&&_, _||_, cond}
+use mathlib.Core.List.{List, [], _∷_, _++_}
+use mathlib.Core.Option.{none, some}
+use Prim.Native.Nat.{ℕ, zero, suc, _+_, _*_, _-_, _/_, _^_, _≤_, min}
 use native.Mathlib.Omega.{arith}
 use lib.Dec.{eqb, leb, ltb}
-use lib.ListN.{length, getD, take, drop, length-drop}
+use lib.ListN.{length, take, drop, length-drop}
 use lib.Seq.{length-take-le}
 use Rattle.polyline.proofs.Points.{length-points}
-use Rattle.soundness.proofs.Rows.{all-rows, rows-and}
 use lib.Ieee.{Float}
-use borrow.Author.Tests.{leb-true, le-leb, ltb-true, lt-ltb, eqb-true, eq-eqb, ne-eqb, eqb-false}
+use borrow.Author.Tests.{leb-true, eqb-true}
 use Rattle.lists.specs.Every.{all}
 use Rattle.lists.specs.Select.{ascending}
-use Rattle.lists.proofs.Every.{all-split, all-append, all-take, all-drop}
-use Rattle.lists.proofs.Booleans.{and-both, and-fst, and-snd, same-test}
-use Rattle.lists.proofs.Select.{all-weaken}
+use Rattle.lists.proofs.Every.{all-split}
+use Rattle.lists.proofs.Booleans.{and-fst, and-snd, same-test}
 use Rattle.geometry.specs.Point.{inReach}
 use Rattle.polyline.specs.Polyline.{points}
 use Rattle.entities.specs.Types.{same, opposing}
-use Rattle.entities.specs.Records.{Line, Lane}
 use Rattle.rules.specs.Sound.{laneNames, slotId, optionalLine, speedLegal, handleWidth}
-use Rattle.tables.specs.View.{word, mark, idsAt, refAt, optionAt, slotAt, lineAt, optionLineAt, part, laneOf, boundaryOf}
+use Rattle.tables.specs.View.{word, mark, idsAt, optionAt, slotAt, lineAt, optionLineAt, part, laneOf}
 use Rattle.tables.specs.Formed.{Span, spanAt, centerSpan, stored, laneFormed}
 use Rattle.row_tests.specs.Good.{lineGood, idsGood, slotGood, handleGood, laneNumbers, linksGood, laneGood}
 

@@ -1,20 +1,16 @@
 -- Tests of the rows of a table, and of the records that they hold.
 use mathlib.Core.Path.{_≡_, refl, sym, ap, _∙_}
-use mathlib.Core.Bool.{Bool, true, false, not, _&&_, _||_, cond, true≢false}
-use mathlib.Core.List.{List, [], _∷_, _++_, map}
-use Prim.Native.Nat.{ℕ, zero, suc, _+_, _*_, _-_, _≤_, _<_}
+use mathlib.Core.Bool.{Bool, true, _&&_}
+use mathlib.Core.List.{List}
+use Prim.Native.Nat.{ℕ, zero, suc, _+_, _*_, _≤_}
 use native.Mathlib.Omega.{arith}
-use lib.Dec.{eqb, leb, ltb}
-use lib.ListN.{length, getD, take, drop, length-drop}
+use lib.ListN.{length, take, drop, length-drop}
 use lib.Seq.{length-take-le}
-use borrow.Author.Tests.{leb-true}
 use Rattle.lists.specs.Every.{all}
 use Rattle.lists.specs.Rows.{reads}
-use Rattle.lists.specs.Select.{each}
 use Rattle.lists.proofs.Every.{all-and, all-take, all-drop}
 use Rattle.lists.proofs.Booleans.{and-both, and-fst, and-snd}
 use Rattle.tables.specs.View.{word, rows}
-use Rattle.tables.specs.Formed.{counted}
 use Rattle.row_tests.specs.Good.{allRows}
 use Rattle.row_tests.proofs.Relations.{all-reads}
 

@@ -1,11 +1,11 @@
 -- The verdict of the test is the definition's: soundness from the parts, and the parts from soundness.
 use mathlib.Core.Path.{_≡_, refl, sym, ap, _∙_}
-use mathlib.Core.Bool.{Bool, true, false, not, _&&_, _||_, cond, true≢false}
-use mathlib.Core.List.{List, [], _∷_, _++_, map}
-use Prim.Native.Nat.{ℕ, zero, suc, _+_, _*_, _-_, _^_, _≤_, _<_, min}
+use mathlib.Core.Bool.{Bool, true, false, not, _&&_, _||_, true≢false}
+use mathlib.Core.List.{List}
+use Prim.Native.Nat.{ℕ, suc, _+_, _*_, _≤_, min}
 use native.Mathlib.Omega.{arith}
-use lib.Dec.{eqb, leb, ltb}
-use lib.ListN.{length, getD, take, drop, length-take}
+use lib.Dec.{eqb, leb}
+use lib.ListN.{length, drop, length-take}
 use lib.Ieee.{Float}
 use borrow.Author.Tests.{leb-true, le-leb}
 use Rattle.lists.specs.Every.{all}
@@ -13,16 +13,16 @@ use Rattle.lists.specs.Rows.{keys}
 use Rattle.lists.specs.Select.{ascending}
 use Rattle.lists.proofs.Booleans.{and-both, and-fst, and-snd}
 use Rattle.geometry.specs.Point.{inReach}
-use Rattle.entities.specs.Records.{Line, Lane, Map}
+use Rattle.entities.specs.Records.{Line}
 use Rattle.rules.specs.Sound.{lastCounter, sound, withinLimits, idsAscend, counterAbove, linesInReach, kindsLegal, handlesLegal, linksAscend, linksReciprocal, neighborsReciprocal, repeatFree, pointCount, idLists, lines, optionalLine}
-use Rattle.rules.proofs.Facts.{Sound, sound-facts, facts-sound}
+use Rattle.rules.proofs.Facts.{facts-sound}
 use Rattle.tables.specs.View.{Tables, word, idsAt, idsWhere, lineAt, rows, view, laneOf, boundaryOf, roadOf, junctionOf, ruleOf, stopLineOf, crosswalkOf}
-use Rattle.tables.specs.Formed.{Span, spanAt, centerSpan, stored, counted, spans, allClear, formed, soundTables, laneFormed, ruleFormed}
+use Rattle.tables.specs.Formed.{spanAt, stored, spans, allClear, formed, soundTables, laneFormed, ruleFormed}
 use Rattle.row_tests.specs.Good.{largestId, allRows, laneGood, boundaryGood, roadGood, junctionGood, ruleGood, stopLineGood, crosswalkGood}
 use Rattle.soundness.proofs.Rows.{all-rows, rows-three, rows-weaken}
-use Rattle.soundness.proofs.Pointwise.{ok, and3, and5}
+use Rattle.soundness.proofs.Pointwise.{ok, and3}
 use Rattle.soundness.proofs.Others.{lineAsked}
-use Rattle.soundness.proofs.Parts.{Held, room, LaneParts, lane-parts, parts-lane, BoundaryParts, boundary-parts, parts-boundary, RoadParts, road-parts, parts-road, JunctionParts, junction-parts, parts-junction, RuleParts, rule-parts, parts-rule, StopLineParts, stop-line-parts, parts-stop-line, CrosswalkParts, crosswalk-parts, parts-crosswalk}
+use Rattle.soundness.proofs.Parts.{Held, room, LaneParts, lane-parts, BoundaryParts, boundary-parts, RoadParts, road-parts, JunctionParts, junction-parts, RuleParts, rule-parts, StopLineParts, stop-line-parts, CrosswalkParts, crosswalk-parts}
 use Rattle.soundness.proofs.Whole.{counter-same, ids-keys, rows-count, all-lines, all-stored, all-names}
 use Rattle.soundness.proofs.Words.{AllHeld, names-ok}
 

@@ -1,30 +1,28 @@
 -- The test of soundness is the definition: every clause from the rows, the keys, the marks and the searches, and back.
 use mathlib.Core.Path.{_≡_, refl, sym, ap, _∙_}
-use mathlib.Core.Bool.{Bool, true, false, not, _&&_, _||_, cond}
+use mathlib.Core.Bool.{Bool, true, false, _&&_, _||_, cond}
 use mathlib.Core.List.{List, [], _∷_, _++_, map}
-use Prim.Native.Nat.{ℕ, zero, suc, _+_, _*_, _-_, _^_, _≤_, _<_, max}
+use Prim.Native.Nat.{ℕ, _-_, _^_, _≤_, _<_, max}
 use native.Mathlib.Omega.{arith}
 use lib.Dec.{eqb, leb, ltb}
-use lib.ListN.{length, getD, take, drop}
+use lib.ListN.{length, drop}
 use lib.Ieee.{Float}
-use borrow.Author.Tests.{leb-true, le-leb, ltb-true, lt-ltb, eqb-true, eqb-false}
+use borrow.Author.Tests.{leb-true, le-leb, ltb-true, lt-ltb}
 use Rattle.lists.specs.Every.{all}
-use Rattle.lists.specs.Rows.{reads, keys}
-use Rattle.lists.specs.Select.{ascending, each}
+use Rattle.lists.specs.Rows.{keys}
+use Rattle.lists.specs.Select.{each}
 use Rattle.lists.proofs.Every.{all-split, all-and}
 use Rattle.lists.proofs.Rows.{length-reads}
 use Rattle.lists.proofs.Booleans.{and-both, and-fst, and-snd, same-test}
 use Rattle.lists.proofs.Select.{all-each, all-weaken, all-map}
-use Rattle.geometry.specs.Point.{inReach}
-use Rattle.entities.specs.Records.{Line, Lane, Map}
+use Rattle.entities.specs.Records.{Line, Map}
 use Rattle.rules.specs.Sound.{lastCounter, nextId, counterAbove, idsNamed, laneNames, ruleNames, lines, optionalLine}
-use Rattle.tables.specs.View.{Tables, word, rows, view, laneOf}
+use Rattle.tables.specs.View.{Tables, word, rows}
 use Rattle.tables.specs.Formed.{Span, spanAt, centerSpan, stored, spans}
 use Rattle.row_tests.specs.Good.{largestId, allRows}
 use Rattle.row_tests.proofs.Relations.{keys-reads}
-use Rattle.soundness.proofs.Rows.{all-rows, rows-three}
-use Rattle.soundness.proofs.Pointwise.{ok, and3}
-use Rattle.soundness.proofs.Others.{lineAsked}
+use Rattle.soundness.proofs.Rows.{all-rows}
+use Rattle.soundness.proofs.Pointwise.{ok}
 
 -- ---- the counter
 

@@ -1,18 +1,16 @@
 -- Every id that a map names is a word of its tables, so it is below 2 ^ 64.
-use mathlib.Core.Path.{_≡_, refl, sym, ap, _∙_}
-use mathlib.Core.Bool.{Bool, true, false, not, _&&_, _||_, cond}
+use mathlib.Core.Path.{_≡_, refl, _∙_}
+use mathlib.Core.Bool.{Bool, true, false, not, cond}
 use mathlib.Core.List.{List, [], _∷_, _++_}
-use mathlib.Core.Option.{Option, none, some}
-use Prim.Native.Nat.{ℕ, zero, suc, _+_, _*_, _≤_}
-use lib.Dec.{eqb, leb, ltb}
-use lib.ListN.{length, take, drop}
+use mathlib.Core.Option.{none, some}
+use Prim.Native.Nat.{ℕ, zero, suc}
+use lib.Dec.{eqb}
+use lib.ListN.{drop}
 use lib.Ieee.{Float}
 use Rattle.lists.specs.Every.{all}
 use Rattle.lists.specs.Rows.{reads}
 use Rattle.lists.proofs.Every.{all-append, all-take, all-drop, all-cons, all-nil}
-use Rattle.lists.proofs.Booleans.{and-both}
 use Rattle.entities.specs.Types.{same, opposing}
-use Rattle.entities.specs.Records.{Map}
 use Rattle.rules.specs.Sound.{idsNamed, laneNames, ruleNames, slotId, optionalId}
 use Rattle.tables.specs.View.{Tables, word, idsAt, idsWhere, slotAt, rows, view, laneOf, boundaryOf, roadOf, junctionOf, ruleOf, stopLineOf, crosswalkOf}
 use Rattle.row_tests.specs.Good.{allRows}

@@ -3,7 +3,6 @@ use Prim.Native.Nat.{ℕ}
 use mathlib.Core.Bool.{Bool, _&&_}
 use mathlib.Core.List.{List}
 use lib.ListN.{drop}
-use lib.Ieee.{Float}
 use Rattle.lists.specs.Rows.{keys}
 use Rattle.lists.specs.Select.{ascending}
 use Rattle.tables.specs.View.{Tables, word}

@@ -1,5 +1,5 @@
 -- What a split lists as created is the definition's: the second halves, then the new pieces. Assumes nothing.
-use mathlib.Core.Path.{_≡_, refl, ap, _∙_}
+use mathlib.Core.Path.{_≡_, refl, ap}
 use Prim.Native.Nat.{ℕ, suc, _+_}
 use mathlib.Core.List.{List, [], _∷_, _++_, map}
 use lib.ListN.{length}
@@ -7,7 +7,7 @@ use Rattle.lists.specs.Select.{each}
 use Rattle.entities.specs.Records.{Lane, Boundary}
 use Rattle.rules.specs.Names.{LaneKind, BoundaryKind, Point2}
 use Rattle.rules.specs.Edit.{refs, upFrom}
-use Rattle.rules.specs.Split.{LanePlan, Piece, halves, newPieces, pieces, piecesIds}
+use Rattle.rules.specs.Split.{LanePlan, halves, newPieces, pieces, piecesIds}
 use Rattle.laws.proofs.SplitPieces.{piece-ids}
 use Rattle.split_lists.specs.Changes.{createdBy}
 

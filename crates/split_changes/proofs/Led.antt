@@ -16,9 +16,9 @@ use Rattle.rules.specs.Edit.{refs, lanesWhere}
 use Rattle.rules.proofs.Relations.{comes-found}
 use Rattle.rules.proofs.Reciprocal.{links-agree}
 use Rattle.laws.proofs.Links.{eqb-swap}
-use Rattle.tables.specs.View.{word, rows, laneOf}
+use Rattle.tables.specs.View.{rows, laneOf}
 use Rattle.mentions.proofs.Filters.{ids-where}
-use Rattle.split_laws.proofs.Members.{In, in-found, keep-in}
+use Rattle.split_laws.proofs.Members.{in-found, keep-in}
 use Rattle.split_marks.specs.Touched.{laneTouched, laneMarks}
 use Rattle.split_lists.specs.Changes.{markedIds}
 use Rattle.split_changes.proofs.Touched.{marked-pass}

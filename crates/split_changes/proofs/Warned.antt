@@ -1,21 +1,19 @@
 -- What a split warns of is the definition's: boundaries that are used outside the group, then neighbours that are not cut. Assumes nothing.
-use mathlib.Core.Path.{_≡_, refl, sym, ap, _∙_}
-use Prim.Native.Nat.{ℕ, zero, suc, _+_, _*_}
+use mathlib.Core.Path.{_≡_, refl}
+use Prim.Native.Nat.{ℕ, suc, _+_}
 use native.Mathlib.Omega.{arith}
 use mathlib.Core.Bool.{Bool, true, false, not, cond}
-use mathlib.Core.List.{List, [], _∷_, _++_, map, append-assoc}
-use lib.Dec.{eqb}
+use mathlib.Core.List.{List, [], _∷_, map, append-assoc}
 use lib.Ieee.{Float}
 use lib.ListN.{length}
 use Rattle.lists.specs.Select.{each, numbered}
-use Rattle.entities.specs.Records.{Lane, Issue}
 use Rattle.entities.specs.Types.{boundaryEntity}
 use Rattle.rules.specs.Names.{BoundaryUnshared}
 use Rattle.rules.specs.Edit.{warning, when}
-use Rattle.rules.specs.Split.{LanePlan, Piece, unsharedPiece, droppedAll, droppedBeside}
-use Rattle.tables.specs.View.{word, laneOf}
+use Rattle.rules.specs.Split.{LanePlan, Piece, unsharedPiece, droppedAll}
+use Rattle.tables.specs.View.{laneOf}
 use Rattle.split_laid.proofs.Boundaries.{PieceWords, AllWords, pieceSize}
-use Rattle.split_lists.specs.Changes.{pieceIssues, piecesIssues, rowDropped, rowsDropped}
+use Rattle.split_lists.specs.Changes.{pieceIssues, piecesIssues, rowsDropped}
 
 module _ (pieces lines : List ℕ) where
   piece-warned : (j at : ℕ) (x : Piece) → PieceWords pieces lines j at x → pieceIssues pieces j ≡ unsharedPiece x

@@ -1,9 +1,8 @@
 // edit/split.rs: whether every boundary of the lanes that are cut crosses the cut.
 ghost use mathlib.Core.Path.{_≡_};
 ghost use mathlib.Core.Bool.{true};
-ghost use Prim.Native.Nat.{_+_, _≤_, _<_};
+ghost use Prim.Native.Nat.{_≤_, _<_};
 ghost use lib.ListN.{length};
-ghost use Rattle.lists.specs.Every.{all};
 ghost use Rattle.tables.specs.View.{word};
 ghost use Rattle.lookup.specs.Lookup as K;
 ghost use Rattle.split_plan.specs.Placing as P;
@@ -12,7 +11,6 @@ use entities::Side;
 use entities::Tolerance;
 use geometry::Point2;
 use lists::Found;
-use lists::both;
 use polyline::OptionNearest;
 use split_plan::Crossed;
 

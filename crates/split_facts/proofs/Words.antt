@@ -39,7 +39,7 @@ use Rattle.split_laid.proofs.Lies.{pieceLines, StartsAt}
 use Rattle.split_laid.proofs.Lies as L
 use Rattle.split_limits.proofs.Centers.{AllPlans}
 use Rattle.split_facts.specs.Splitting.{lanesIn, plansIn, piecesIn, Planned, Measured}
-use Rattle.split_facts.proofs.Facts.{known, pieces-same, accepted}
+use Rattle.split_facts.proofs.Facts.{pieces-same, accepted}
 use Rattle.split_facts.proofs.Asks as A
 
 -- ---- rows of three words

@@ -1,6 +1,6 @@
 -- A split whose lanes are planned: what document 01 makes of it, and what is known of it from step to step. Nothing that a host calls rests on this page.
 use mathlib.Core.Path.{_≡_}
-use Prim.Native.Nat.{ℕ, _+_, _^_, _≤_, _<_}
+use Prim.Native.Nat.{ℕ, _+_, _^_, _<_}
 use mathlib.Core.Bool.{Bool, true, false, _&&_, cond}
 use mathlib.Core.List.{List, map}
 use lib.Dec.{leb}
@@ -9,9 +9,9 @@ use lib.ListN.{length, replicate}
 use Rattle.lists.specs.Rows.{over}
 use Rattle.lists.specs.Select.{keep, any, has}
 use Rattle.lists.specs.declared.Found.the-variants.{At}
-use Rattle.entities.specs.Records.{Lane, Boundary}
+use Rattle.entities.specs.Records.{Lane}
 use Rattle.rules.specs.Names.{Tolerance, Point2, NoRoom, NoIds}
-use Rattle.rules.specs.Limits.{maxBoundaries, maxLanes, maxPoints}
+use Rattle.rules.specs.Limits.{maxBoundaries, maxLanes}
 use Rattle.rules.specs.Map.{uses}
 use Rattle.rules.specs.Sound.{fitsRoom, lastCounter, nextId}
 use Rattle.rules.specs.Edit.{yield, passed, Edited}
@@ -32,7 +32,7 @@ use Rattle.split_plan.specs.Placing.{groupMarks, markedRows, plansOf}
 use Rattle.split_pieces.specs.Pieces.{cutMarks, cutKeys, idsOf, pieceWords}
 use Rattle.split_lines.specs.Cut.{measured, drawnPieces}
 use Rattle.split_rules.specs.Past.{anchoredBy, pastBy}
-use Rattle.split_relay.specs.Relaying.{Cutting, cutting, boundaryLines, centerLines}
+use Rattle.split_relay.specs.Relaying.{Cutting, boundaryLines, centerLines}
 
 -- ---- what document 01 makes of it
 

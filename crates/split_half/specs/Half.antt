@@ -1,12 +1,10 @@
 -- The centreline of a half, made of the lane's row and the old boundaries, and whether a rule's anchor lies past the cut. Nothing that a host calls rests on this
 -- page; the laws of split_rules tie it to the rules: it is the centreline of the half in the map after the cut.
-use mathlib.Core.Path.{_≡_}
-use Prim.Native.Nat.{ℕ, _≤_, _<_}
+use Prim.Native.Nat.{ℕ, _<_}
 use mathlib.Core.Bool.{Bool, true, false, cond, not}
-use mathlib.Core.List.{List, [], reverse}
+use mathlib.Core.List.{List, reverse}
 use mathlib.Core.Option.{Option, none, some}
 use lib.Ieee.{Float, le}
-use lib.ListN.{length}
 use Rattle.lists.specs.Rows.{over}
 use Rattle.polyline.specs.Polyline.{flat, firstPiece, secondPiece}
 use Rattle.entities.specs.Records.{Line, Lane}

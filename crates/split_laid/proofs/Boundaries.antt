@@ -1,6 +1,6 @@
 -- The table of boundaries that a split leaves is the cut map's boundaries written over it, each with where its line starts. Assumes nothing.
 use mathlib.Core.Path.{_≡_, refl, sym, ap, _∙_}
-use Prim.Native.Nat.{ℕ, zero, suc, _+_, _*_, _≤_}
+use Prim.Native.Nat.{ℕ, suc, _+_, _*_, _≤_}
 use native.Mathlib.Omega.{arith}
 use mathlib.Core.Bool.{Bool, true, false, not, cond}
 use mathlib.Core.List.{List, [], _∷_, _++_, map, map-append}
@@ -20,7 +20,7 @@ use Rattle.entities.specs.Records.{Boundary}
 use Rattle.rules.specs.Merge.{redrawn}
 use Rattle.rules.specs.Split.{Piece, pieceFor, cutBoundary, newPiece, newPieces}
 use Rattle.tables.specs.View.{word, rows, boundaryOf}
-use Rattle.tables.specs.Formed.{spanAt, stored, counted}
+use Rattle.tables.specs.Formed.{spanAt, stored}
 use Rattle.store.specs.Store.{writes, storeRows}
 use Rattle.store.specs.Laid.{boundaryLaid}
 use Rattle.store.specs.Rows.{onRows, appendedRows}
@@ -33,7 +33,7 @@ use Rattle.layout.proofs.Standing.{boundary-stands, mapped-rows}
 use Rattle.merge_draw.specs.Redrawing.{boundaryRow, asGiven}
 use Rattle.merge_draw.proofs.Drawn.{boundary-redrawn, boundary-new}
 use Rattle.split_plan.specs.Placing.{picked}
-use Rattle.split_tables.specs.Cut.{pointedAt, pointedPiece, newRow, newRows, firstPieceRow, secondPieceRow, piecesAdded, boundariesCut}
+use Rattle.split_tables.specs.Cut.{pointedAt, pointedPiece, newRows, boundariesCut}
 
 picked-map : {A B : Type 0} (f : A → B) (bs : List Bool) (xs : List A) → map f (picked bs xs) ≡ picked bs (map f xs)
 unfolding picked

@@ -1,6 +1,6 @@
 -- The table of lanes that a split leaves is the cut map's lanes written over it, each with where its centreline starts. Assumes nothing.
 use mathlib.Core.Path.{_≡_, refl, sym, ap, _∙_}
-use Prim.Native.Nat.{ℕ, zero, suc, _+_, _*_, _≤_, _<_}
+use Prim.Native.Nat.{ℕ, suc, _+_, _*_, _≤_, _<_}
 use native.Mathlib.Omega.{arith}
 use mathlib.Core.Bool.{Bool, true, false, not, _&&_, cond}
 use mathlib.Core.List.{List, [], _∷_, _++_, map}
@@ -17,13 +17,13 @@ use Rattle.lists.specs.declared.Found.{Found}
 use Rattle.lists.specs.declared.Found.the-variants.{At, Nothing}
 use Rattle.lists.proofs.Booleans.{and-fst, and-snd}
 use Rattle.lists.proofs.Select.{all-map}
-use Rattle.entities.specs.Records.{Line, Lane}
+use Rattle.entities.specs.Records.{Lane}
 use Rattle.rules.specs.Split.{Piece, LanePlan, planFor, cutLane, cameFrom, firstHalf, secondHalf, secondHalves, uncut}
 use Rattle.tables.specs.View.{word, idsAt, rows, laneOf}
-use Rattle.tables.specs.Formed.{centerSpan, stored, laneFormed}
+use Rattle.tables.specs.Formed.{laneFormed}
 use Rattle.store.specs.Store.{writes, storeRows}
 use Rattle.store.specs.Laid.{laneLaid}
-use Rattle.store.specs.Rows.{onRows, mapRows, appendedRows}
+use Rattle.store.specs.Rows.{onRows, appendedRows}
 use Rattle.store.proofs.Marks.{lane-marks}
 use Rattle.store.proofs.Rows.{rows-agree-at, rows-length}
 use Rattle.store.proofs.Growing.{store-more}

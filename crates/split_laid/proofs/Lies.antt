@@ -7,21 +7,19 @@ use mathlib.Core.List.{List, [], _∷_, _++_, map, append-nil}
 use mathlib.Core.Option.{Option, none, some}
 use lib.Dec.{eqb}
 use lib.Ieee.{Float}
-use lib.ListN.{length, take, drop, length-append}
-use lib.Seq.{take-at, drop-at, drop-drop, take-add}
+use lib.ListN.{length, take, drop}
+use lib.Seq.{drop-drop}
 use Rattle.lists.specs.Every.{all}
 use Rattle.lists.specs.Rows.{reads, rowWith, later}
 use Rattle.lists.specs.Select.{each, find, numbered, secondOf}
 use Rattle.lists.specs.declared.Found.{Found}
 use Rattle.lists.specs.declared.Found.the-variants.{At, Nothing}
-use Rattle.lists.proofs.Every.{all-head}
 use Rattle.polyline.specs.Polyline.{flat}
-use Rattle.polyline.proofs.Points.{flat-append, length-flat}
 use Rattle.entities.specs.Records.{Line, Lane, Boundary}
 use Rattle.rules.specs.Sound.{optionalLine, total}
 use Rattle.rules.specs.Merge.{redrawn}
 use Rattle.rules.specs.Split.{Piece, LanePlan, planFor, newPiece}
-use Rattle.tables.specs.View.{word, mark, part, lineAt, rows, laneOf, boundaryOf}
+use Rattle.tables.specs.View.{word, mark, part, rows, laneOf, boundaryOf}
 use Rattle.tables.specs.Formed.{spanAt, centerSpan}
 use Rattle.apart.specs.Marks.{within}
 use Rattle.store.specs.Laid.{pointsOf}

@@ -1,13 +1,12 @@
 -- The rows of lanes that a split leaves: halves and lanes that are not cut, written over a row with where the centreline starts. Assumes nothing.
 use mathlib.Core.Path.{_≡_, refl, sym, ap, _∙_}
-use Prim.Native.Nat.{ℕ, suc, _+_, _*_, _≤_}
+use Prim.Native.Nat.{ℕ, suc, _+_, _≤_}
 use native.Mathlib.Omega.{arith}
-use mathlib.Core.Bool.{Bool, true, false, not, cond}
+use mathlib.Core.Bool.{Bool, true, false, cond}
 use mathlib.Core.List.{List, [], _∷_, _++_}
 use mathlib.Core.Option.{Option, none, some}
-use lib.Dec.{eqb}
 use lib.Ieee.{Float}
-use lib.ListN.{length, getD, set, take, drop, length-append, length-take}
+use lib.ListN.{length, getD, set, drop, length-append, length-take}
 use lib.Seq.{drop-at}
 use Rattle.lists.specs.Every.{all}
 use Rattle.lists.specs.Rows.{over}
@@ -17,18 +16,17 @@ use Rattle.entities.specs.declared.BoundaryRef.{BoundaryRef}
 use Rattle.entities.specs.declared.Neighbor.{Neighbor}
 use Rattle.entities.specs.Records.{Line, Lane}
 use Rattle.rules.specs.Edit.{laneWith}
-use Rattle.rules.specs.Split.{Piece, LanePlan, pieceFor, firstRef, secondRef, firstSlot, secondSlot, cameFrom, firstHalf, secondHalf, uncut}
-use Rattle.tables.specs.View.{word, mark, idsAt, refAt, slotAt, optionAt, lineAt, laneOf}
+use Rattle.rules.specs.Split.{Piece, pieceFor, firstRef, secondRef, firstSlot, secondSlot, cameFrom, uncut}
+use Rattle.tables.specs.View.{word, mark, idsAt, refAt, slotAt, optionAt, laneOf}
 use Rattle.tables.specs.Formed.{centerSpan, stored, laneFormed}
-use Rattle.store.specs.Store.{laneOnto, flag, present, numberOr, slotMark, slotLane, idsOnto, directionMark}
-use Rattle.store.specs.Rows.{setSlot, setList, slotWords}
+use Rattle.store.specs.Store.{laneOnto, flag, present, numberOr, slotMark, slotLane, idsOnto}
+use Rattle.store.specs.Rows.{setSlot, setList}
 use Rattle.store.specs.Laid.{laneLaid}
 use Rattle.store.proofs.Back.{onto-length}
 use Rattle.store.proofs.OtherRows.{lane-same}
 use Rattle.store.proofs.Marks.{LaneMarks, lane-marks}
 use Rattle.store.proofs.LaneRow.{lane-row}
 use Rattle.layout.proofs.PlainLane.{lane18, startOr, sizeOr, laid-row, after-set, before-set, own3, own5, own6, own9, own10, own11, own14, own15, own16, own17, own-line, plain-of}
-use Rattle.mentions.specs.Naming.{changeAt}
 use Rattle.split_rows.specs.Halves.{halfRef, centerOnto, firstStart, firstSize, secondSize, firstRow, headRow, secondRow, cameRow}
 
 -- ---- slots of a plain row

@@ -10,8 +10,7 @@ use Rattle.entities.specs.Records.{Line, Lane, Map}
 use Rattle.rules.specs.Names.{Tolerance, Refusal, NoUsableLine, PositionOutside, Point2}
 use Rattle.rules.specs.Map.{boundary, centerline, station}
 use Rattle.rules.specs.Edit.{Res, refuse, yield, _>>=_, check, require}
-use Rattle.rules.specs.Split.{LanePlan, centerPiece, cuttable, lane-plan, lane-plans, crosses, all-cross}
-use Rattle.polyline.specs.Polyline.{firstPiece, secondPiece}
+use Rattle.rules.specs.Split.{cuttable, lane-plan, lane-plans, crosses, all-cross}
 use Rattle.tables.specs.View.{word, rows, laneOf, boundaryOf}
 use Rattle.lookup.specs.Lookup.{drawn}
 use Rattle.lookup.proofs.Center.{center-drawn}

@@ -18,7 +18,7 @@ use Rattle.rules.specs.Names.{Tolerance, SplitAt, Refusal, LaneAbsent, NoUsable
 use Rattle.rules.specs.Map.{lane, centerline, uses, flatPoint}
 use Rattle.rules.specs.Edit.{Res, refuse, yield, _>>=_, Passed, passed, check, require, Edited}
 use Rattle.rules.specs.Split.{cutStation, cuttable, LanePlan, lane-plans, all-cross, pieces, cut, groupOf, split-lane}
-use Rattle.tables.specs.View.{Tables, word, rows, laneOf, view}
+use Rattle.tables.specs.View.{Tables, word, laneOf, view}
 use Rattle.row_tests.specs.Returned.{searchable}
 use Rattle.lookup.specs.Lookup.{placeOf, rowAt, centerLine}
 use Rattle.lookup.proofs.Laws.{find-at, find-none, place-id}

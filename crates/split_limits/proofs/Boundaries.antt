@@ -8,10 +8,10 @@ use mathlib.Core.Option.{Option, none, some}
 use lib.Dec.{eqb, leb, ltb}
 use lib.Ieee.{Float}
 use lib.ListN.{length, drop}
-use borrow.Author.Tests.{ltb-true, leb-true, lt-ltb, le-leb, eq-eqb, ne-eqb}
+use borrow.Author.Tests.{ltb-true, leb-true, le-leb, eq-eqb, ne-eqb}
 use Rattle.lists.specs.Every.{all}
-use Rattle.lists.specs.Select.{each, find, above, ascending}
-use Rattle.lists.proofs.Booleans.{and-both, and-false, and-fst, and-snd}
+use Rattle.lists.specs.Select.{each, find, ascending}
+use Rattle.lists.proofs.Booleans.{and-false, and-fst, and-snd}
 use Rattle.lists.specs.Rows.{keys}
 use Rattle.lists.proofs.Rows.{length-reads, mapped-reads}
 use Rattle.lists.proofs.Select.{all-map, all-of, all-weaken, above-all, ascending-tail, map-twice}
@@ -23,7 +23,6 @@ use Rattle.rules.specs.Split.{LanePlan, Piece, pieceFor, cutBoundary, newPiece,
 use Rattle.tables.specs.View.{word, rows, boundaryOf}
 use Rattle.tables.specs.Formed.{spanAt, stored}
 use Rattle.store.specs.Laid.{pointsOf}
-use Rattle.store.proofs.LaidRows.{points-append}
 use Rattle.row_tests.proofs.Relations.{all-reads}
 use Rattle.layout.proofs.Standing.{line-long}
 use Rattle.split_plan.specs.Placing.{picked}

@@ -22,7 +22,6 @@ use Rattle.rules.specs.Split.{LanePlan, Piece, halves, planFor, uncut, firstHal
 use Rattle.tables.specs.View.{word, mark, lineAt, rows, laneOf}
 use Rattle.tables.specs.Formed.{spanAt, stored}
 use Rattle.lookup.specs.Lookup.{pointsOr, centersStored}
-use Rattle.row_tests.specs.Good.{allRows}
 use Rattle.row_tests.proofs.Relations.{all-reads}
 use Rattle.store.specs.Laid.{pointsOf}
 use Rattle.layout.proofs.Standing.{line-long}

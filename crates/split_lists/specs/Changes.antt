@@ -1,9 +1,9 @@
 -- The change set of a split, from marks, pieces and rows. Nothing that a host calls rests on this page; the laws of split_changes tie it to the rules.
 use mathlib.Core.Path.{_≡_}
 use Prim.Native.Nat.{ℕ, zero, suc, _+_, _*_, _^_, _≤_, _<_}
-use mathlib.Core.Bool.{Bool, true, false, cond}
+use mathlib.Core.Bool.{Bool, true, cond}
 use mathlib.Core.List.{List, [], _∷_, _++_, map}
-use lib.Dec.{eqb, leb}
+use lib.Dec.{eqb}
 use lib.ListN.{length}
 use Rattle.lists.specs.Select.{ascending, numbered}
 use Rattle.entities.specs.Records.{Issue}
@@ -14,11 +14,9 @@ use Rattle.rules.specs.Split.{droppedBeside}
 use Rattle.tables.specs.View.{word, slotAt, rows}
 use Rattle.tables.specs.Formed.{counted}
 use Rattle.tables.specs.Columns.{boundaryWords, junctionWords, laneWords, leftSlot, rightSlot, roadWords, rowCount, rowId, ruleWords}
-use Rattle.row_tests.specs.Good.{allRows}
 use Rattle.report.specs.Report.{issues}
 use Rattle.report.specs.declared.Notice.the-variants.{Pieces}
 use Rattle.split_plan.specs.Placing.{picked, markedRows}
-use Rattle.split_marks.specs.Touched.{marked}
 
 -- ---- created
 

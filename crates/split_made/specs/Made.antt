@@ -2,13 +2,12 @@
 -- rests on this page; the laws of split_facts tie it to the rules.
 use mathlib.Core.Path.{_≡_}
 use Prim.Native.Nat.{ℕ, _+_, _*_, _^_, _≤_, _<_}
-use mathlib.Core.Bool.{Bool, true, _&&_, cond}
+use mathlib.Core.Bool.{Bool, _&&_, cond}
 use mathlib.Core.List.{List}
 use lib.ListN.{length}
 use Rattle.lists.specs.Rows.{rowWith}
 use Rattle.lists.specs.declared.Found.{Found}
 use Rattle.lists.specs.declared.Found.the-variants.{At, Nothing}
-use Rattle.lists.specs.Select.{ascending}
 use Rattle.entities.specs.Records.{Issue}
 use Rattle.rules.specs.Names.{EntityRef, NoRoom}
 use Rattle.rules.specs.Limits.{maxBoundaries, maxLanes}

@@ -1,16 +1,14 @@
 -- Which rows a split touches, as marks by row. Nothing that a host calls rests on this page; the laws of split_changes tie it to the rules.
 use mathlib.Core.Path.{_≡_}
 use Prim.Native.Nat.{ℕ, suc, _+_, _*_, _≤_}
-use mathlib.Core.Bool.{Bool, true, false, _&&_, _||_, cond}
+use mathlib.Core.Bool.{Bool, true, false, _||_, cond}
 use mathlib.Core.List.{List, [], _∷_, map}
 use lib.Dec.{eqb, leb}
-use lib.ListN.{length, getD}
-use Rattle.lists.specs.Rows.{over}
+use lib.ListN.{length}
 use Rattle.lists.specs.Select.{any, ascending, has}
-use Rattle.rules.specs.Limits.{maxBoundaries, maxIds, maxLanes, maxRules}
 use Rattle.tables.specs.View.{word, idsAt, rows}
-use Rattle.tables.specs.Formed.{counted, laneFormed, ruleFormed}
-use Rattle.tables.specs.Columns.{boundaryWords, laneWords, predecessorsAt, rowCount, rowId, ruleWords}
+use Rattle.tables.specs.Formed.{counted}
+use Rattle.tables.specs.Columns.{laneWords, predecessorsAt, rowCount, rowId}
 use Rattle.row_tests.specs.Good.{allRows}
 
 -- ---- rows

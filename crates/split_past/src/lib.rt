@@ -1,7 +1,7 @@
 // edit/split.rs: on which side of the cut a point is, by its nearest station on the two halves' joined line.
 ghost use mathlib.Core.Path.{_≡_};
 ghost use mathlib.Core.Bool.{true};
-ghost use Prim.Native.Nat.{_*_, _≤_, _<_};
+ghost use Prim.Native.Nat.{_*_, _≤_};
 ghost use lib.ListN.{length};
 ghost use Rattle.polyline.specs.Polyline.{points};
 ghost use Rattle.lookup.specs.Lookup as K;

@@ -10,7 +10,7 @@ use lib.Ieee.{Float}
 use lib.ListN.{length, getD, take, drop}
 use Rattle.rules.specs.Names.{Refusal}
 use Rattle.rules.specs.Edit.{Res, refuse, yield, _>>=_, Passed, passed}
-use Rattle.split_plan.specs.Placing.{picked, allOf, before, goodOf, allPass}
+use Rattle.split_plan.specs.Placing.{picked, allOf, goodOf, allPass}
 
 -- ---- those that are marked
 

@@ -1,6 +1,5 @@
 // edit/split.rs: where a lane is cut. Refusals come in the order of the Rust; nothing lent is written.
 ghost use mathlib.Core.Path.{_≡_};
-ghost use mathlib.Core.Bool.{not};
 ghost use mathlib.Core.Option.{some};
 ghost use Prim.Native.Nat.{_+_, _*_, _≤_, _<_};
 ghost use lib.ListN.{length};

@@ -1,6 +1,5 @@
 -- The tables with lines as a split leaves them, in words: pieces drawn into an array of work, rows that point there, and the layout. Nothing that a host calls
 -- rests on this page; the laws of split_laid tie it to `laid` and the rules.
-use mathlib.Core.Path.{_≡_}
 use Prim.Native.Nat.{ℕ, _+_, _*_, _≤_}
 use mathlib.Core.Bool.{Bool, true, false, cond}
 use mathlib.Core.List.{List}

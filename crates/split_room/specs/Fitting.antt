@@ -5,17 +5,16 @@ use Prim.Native.Nat.{ℕ, zero, suc, _+_, _*_, _≤_}
 use mathlib.Core.Bool.{Bool, true, false, _&&_, cond}
 use mathlib.Core.List.{List, [], _∷_}
 use lib.Dec.{eqb, leb}
-use lib.Ieee.{Float}
 use lib.ListN.{length, getD}
 use Rattle.lists.specs.Every.{all}
 use Rattle.lists.specs.Select.{ascending, has, keep}
 use Rattle.rules.specs.Limits.{maxBoundaries, maxCrosswalks, maxIds, maxLanes, maxLinePoints, maxRules, maxStopLines, rightOfWay}
 use Rattle.tables.specs.View.{word, mark, idsAt, rows}
 use Rattle.tables.specs.Formed.{counted, ruleFormed}
-use Rattle.tables.specs.Columns.{boundarySize, boundaryStart, boundaryWords, crosswalkLeftStart, crosswalkRightStart, crosswalkWords, junctionLanesAt, junctionWords, laneCenterline, laneCenterlineSize, laneWords, roadLanesAt, roadWords, rowCount, ruleKind, ruleLanesAt, rulePriorityAt, ruleWords, ruleYieldingAt, stopLineStart, stopLineWords}
+use Rattle.tables.specs.Columns.{boundarySize, boundaryStart, boundaryWords, crosswalkLeftStart, crosswalkRightStart, crosswalkWords, laneCenterline, laneCenterlineSize, laneWords, rowCount, ruleKind, ruleLanesAt, rulePriorityAt, ruleWords, ruleYieldingAt, stopLineStart, stopLineWords}
 use Rattle.row_tests.specs.Good.{allRows}
-use Rattle.lookup.specs.Lookup.{rowAt, allShort}
-use Rattle.room.specs.Room.{rowsFit, pointsFit, columnPoints}
+use Rattle.lookup.specs.Lookup.{allShort}
+use Rattle.room.specs.Room.{columnPoints}
 use Rattle.split_plan.specs.Placing.{picked, markedRows}
 
 -- ---- points

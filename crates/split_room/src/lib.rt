@@ -1,13 +1,11 @@
 // edit/split.rs: whether the map after a split has room: points, lines of at most 256 points, lists of at most 64 ids. Nothing lent is written.
 ghost use mathlib.Core.Path.{_≡_};
-ghost use mathlib.Core.Bool.{true, _&&_};
+ghost use mathlib.Core.Bool.{true};
 ghost use Prim.Native.Nat.{_+_, _*_, _≤_, _<_};
-ghost use lib.Dec.{leb};
 ghost use lib.ListN.{length};
-ghost use Rattle.lists.specs.Every.{all};
 ghost use Rattle.lists.specs.Select.{ascending};
 ghost use Rattle.tables.specs.View.{word, rows};
-ghost use Rattle.tables.specs.Formed.{counted, ruleFormed};
+ghost use Rattle.tables.specs.Formed.{ruleFormed};
 ghost use Rattle.row_tests.specs.Good.{allRows};
 ghost use Rattle.lookup.specs.Lookup.{rowAt};
 ghost use Rattle.split_room.specs.Fitting as D;

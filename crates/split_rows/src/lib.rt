@@ -2,7 +2,7 @@
 ghost use mathlib.Core.Path.{_≡_};
 ghost use mathlib.Core.Bool.{true};
 ghost use Prim.Native.Nat.{_+_, _*_, _≤_, _<_};
-ghost use lib.ListN.{length, set};
+ghost use lib.ListN.{length};
 ghost use Rattle.lists.specs.Rows.{keys};
 ghost use Rattle.lists.specs.Select.{ascending, numbered};
 ghost use Rattle.rules.specs.Split as S;

@@ -1,12 +1,12 @@
 -- Which rules that name a cut lane have an anchor, and past which cuts it lies, as marks: one a rule, and 64 a rule, one for each place of its own lanes.
 -- Nothing that a host calls rests on this page; the laws of split_named tie it to the rules.
 use mathlib.Core.Path.{_≡_}
-use Prim.Native.Nat.{ℕ, suc, _+_, _*_, _≤_, _<_}
+use Prim.Native.Nat.{ℕ, suc, _*_, _≤_, _<_}
 use mathlib.Core.Bool.{Bool, true, false, cond}
 use mathlib.Core.List.{List, [], _∷_, map}
 use mathlib.Core.Option.{Option, none, some}
 use lib.Ieee.{Float}
-use lib.ListN.{length, getD, set}
+use lib.ListN.{length, getD}
 use Rattle.lists.specs.Rows.{over, rowWith}
 use Rattle.lists.specs.Select.{any, ascending, has}
 use Rattle.lists.specs.declared.Found.{Found}

@@ -2,12 +2,11 @@
 // lent is written.
 ghost use mathlib.Core.Path.{_≡_};
 ghost use mathlib.Core.Bool.{true};
-ghost use mathlib.Core.Option.{some};
 ghost use mathlib.Core.List.{map};
 ghost use Prim.Native.Nat.{_+_, _*_, _≤_, _<_};
 ghost use lib.ListN.{length};
 ghost use Rattle.lists.specs.Rows.{over};
-ghost use Rattle.lists.specs.Select.{any, ascending, has};
+ghost use Rattle.lists.specs.Select.{ascending};
 ghost use Rattle.tables.specs.View.{word, idsAt};
 ghost use Rattle.tables.specs.Formed.{ruleFormed, counted};
 ghost use Rattle.lookup.specs.Lookup as K;

@@ -6,7 +6,6 @@ use mathlib.Core.Bool.{Bool, true, false}
 use mathlib.Core.List.{List, [], _∷_, _++_}
 use lib.ListN.{length, take, drop, length-append, length-map}
 use Rattle.lists.proofs.Rows.{length-reads}
-use Rattle.entities.specs.declared.EntityRef.{EntityRef}
 use Rattle.rules.specs.Names.{EntityKind, LaneKind, BoundaryKind, RoadKind, JunctionKind, RuleKind}
 use Rattle.rules.specs.Edit.{refs}
 use Rattle.tables.specs.View.{word, rows}

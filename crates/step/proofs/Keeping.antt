@@ -1,6 +1,6 @@
 -- What an accepted call keeps of lent memory, and demand 3 over every list of calls whose commands keep it and are lawful. Assumes nothing.
 use mathlib.Core.Path.{_≡_, refl, sym, ap, _∙_, subst}
-use mathlib.Core.Bool.{Bool, true, false, _&&_, cond}
+use mathlib.Core.Bool.{Bool, true, false, cond}
 use mathlib.Core.List.{List, [], _∷_, map}
 use mathlib.Core.Option.{Option}
 use Prim.{Unit, tt}

@@ -2,14 +2,13 @@
 use mathlib.Core.Path.{_≡_, refl, ap, _∙_, subst}
 use mathlib.Core.Bool.{true, not, cond}
 use mathlib.Core.List.{List, [], _∷_, map}
-use mathlib.Core.Option.{Option}
 use Prim.Native.Nat.{ℕ}
 use lib.Dec.{eqb}
 use lib.ListN.{length}
 use Rattle.entities.specs.declared.OptionNeighbor.{OptionNeighbor}
 use Rattle.entities.specs.Types.{neighborOption}
 use Rattle.entities.specs.Records.{Lane, Issue}
-use Rattle.rules.specs.Names.{Tolerance, Side, Neighbor, EntityRef, OwnPartner}
+use Rattle.rules.specs.Names.{Tolerance, Side, EntityRef, OwnPartner}
 use Rattle.rules.specs.Map.{neighborOn}
 use Rattle.rules.specs.Sound.{sound}
 use Rattle.rules.specs.Edit.{Res, refuse, yield, _>>=_, check, Edited, require-lane, require-neighbor, relinking, withLanes, linkIn, linkOut, reslotted, slotAfter, slotIn, sameSlot, connect, disconnect, set-neighbor}

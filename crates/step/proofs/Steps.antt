@@ -1,10 +1,9 @@
 -- One call, by how it ends: not sound, refused by the edit, without ids, without room, or written. Assumes nothing.
-use mathlib.Core.Path.{_≡_, refl, sym, ap, _∙_}
-use Prim.Native.Nat.{ℕ, _≤_}
+use mathlib.Core.Path.{_≡_, refl}
 use mathlib.Core.Bool.{Bool, true, false, cond, _&&_}
 use lib.Dec.{leb}
 use Rattle.rules.specs.Names.{Tolerance, Refusal, Unsound, NoRoom, NoIds}
-use Rattle.rules.specs.Sound.{sound, fitsRoom, lastCounter}
+use Rattle.rules.specs.Sound.{fitsRoom, lastCounter}
 use Rattle.rules.specs.Edit as E
 use Rattle.rules.specs.Edit.{_>>=_}
 use Rattle.rules.specs.Ops as O

@@ -1,6 +1,6 @@
 -- One call of the editor on lent memory: document 01's edits and refusals on the map that it holds, written back.
 use Prim.Native.Nat.{ℕ, _/_}
-use mathlib.Core.Bool.{Bool, true, false, cond}
+use mathlib.Core.Bool.{cond}
 use mathlib.Core.List.{List}
 use mathlib.Core.Option.{Option}
 use lib.ListN.{length}

@@ -1,25 +1,21 @@
 -- A lane's row with its links and neighbours replaced: its words. Assumes nothing.
-use mathlib.Core.Path.{_≡_, refl, sym, ap, _∙_, transport}
-use Prim.Native.Nat.{ℕ, zero, suc, _+_, _-_, _*_, _≤_, _<_}
+use mathlib.Core.Path.{_≡_, refl, sym, ap, _∙_}
+use Prim.Native.Nat.{ℕ, zero, suc, _+_, _≤_, _<_}
 use native.Mathlib.Nat.{add-zero}
 use native.Mathlib.Omega.{arith}
-use mathlib.Core.Bool.{Bool, true, false, not, cond, _&&_}
-use mathlib.Core.List.{List, [], _∷_, _++_, append-assoc, append-nil}
+use mathlib.Core.Bool.{Bool, true, false, not, cond}
+use mathlib.Core.List.{List, [], _∷_, _++_, append-nil}
 use mathlib.Core.Option.{Option, none, some}
-use lib.ListN.{length, getD, take, drop, length-append, length-drop, take-append-drop}
+use lib.ListN.{length, getD, take, drop, length-drop, take-append-drop}
 use lib.Seq.{getD-drop, drop-drop, length-take-le, take-at, drop-at, drop-cons, take-all}
-use lib.Dec.{eqb, leb}
+use lib.Dec.{eqb}
 use lib.Ieee.{Float}
-use borrow.Author.Tests.{leb-true}
 use Rattle.lists.specs.Rows.{over}
-use Rattle.lists.proofs.Booleans.{and-fst, and-snd}
 use Rattle.entities.specs.declared.Neighbor.{Neighbor}
-use Rattle.entities.specs.declared.NeighborDirection.the-variants.{Same, Opposite}
 use Rattle.entities.specs.Types.{same, opposing}
 use Rattle.rules.specs.Edit.{relinked}
-use Rattle.tables.specs.View.{word, mark, idsAt, slotAt, optionAt, optionLineAt, lineAt, laneOf}
-use Rattle.tables.specs.Formed.{laneFormed}
-use Rattle.store.specs.Rows.{slotWords, setSlot, setList}
+use Rattle.tables.specs.View.{word, mark, idsAt, slotAt, lineAt, laneOf}
+use Rattle.store.specs.Rows.{setSlot, setList}
 use Rattle.lists.proofs.Rows.{take-front, over-in, over-itself}
 use Rattle.store.proofs.Marks.{LaneMarks}
 use Rattle.store.specs.Store.{laneOnto, flag, present, numberOr, directionMark, slotMark, slotLane, idsOnto}

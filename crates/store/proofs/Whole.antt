@@ -1,23 +1,21 @@
 -- A table written back with records changed one by one, or with none changed. Assumes nothing.
 use mathlib.Core.Path.{_≡_, refl, sym, ap, _∙_}
-use Prim.Native.Nat.{ℕ, zero, suc, _+_, _-_, _*_, _≤_, _<_}
+use Prim.Native.Nat.{ℕ, zero, suc, _+_, _*_, _≤_}
 use native.Mathlib.Nat.{zero-mul}
 use native.Mathlib.Omega.{arith}
-use mathlib.Core.Bool.{Bool, true, false, cond, _||_}
-use mathlib.Core.List.{List, [], _∷_, _++_, map}
-use lib.ListN.{length, getD, take, drop, length-map, length-drop, take-append-drop}
-use lib.Seq.{drop-drop, length-take-le, take-add, drop-cons}
+use mathlib.Core.Bool.{Bool, true, false, _||_}
+use mathlib.Core.List.{List, [], _∷_, map}
+use lib.ListN.{length, getD, take, drop, length-map}
+use lib.Seq.{take-add, drop-cons}
 use lib.Dec.{eqb}
-use borrow.Author.Tests.{eq-eqb, le-leb, leb-true}
-use lib.Dec.{leb}
-use Rattle.lists.specs.Rows.{reads, over}
-use Rattle.lists.specs.Select.{keep, each, has}
+use borrow.Author.Tests.{eq-eqb}
+use Rattle.lists.specs.Rows.{reads}
+use Rattle.lists.specs.Select.{each, has}
 use Rattle.lists.specs.Every.{all}
-use Rattle.lists.proofs.Booleans.{and-fst, and-snd, and-both}
 use Rattle.lists.proofs.Rows.{length-reads, mapped-reads, over-itself}
 use Rattle.lists.proofs.Select.{keep-all, all-weaken}
 use Rattle.tables.specs.View.{word, rows}
-use Rattle.store.specs.Store.{writes, packed, storeRows}
+use Rattle.store.specs.Store.{packed, storeRows}
 use Rattle.store.specs.Rows.{mapRows}
 use Rattle.store.proofs.Rows.{passing, rows-written, rows-stay}
 

@@ -1,11 +1,9 @@
 -- How a map is written back when lines are made, joined or cut: split_lane and merge_lanes. All lines are laid out anew, one after another from
 -- point 0: boundaries, centrelines, stop lines, crosswalks' left edges, their right edges. What is not used stays, as in `store`.
 use Prim.Native.Nat.{ℕ, _+_}
-use mathlib.Core.Bool.{true, false}
 use mathlib.Core.List.{List, [], _∷_, map}
 use mathlib.Core.Option.{Option, none, some}
 use lib.ListN.{length}
-use lib.Ieee.{Float}
 use Rattle.lists.specs.Rows.{over}
 use Rattle.lists.specs.Select.{each}
 use Rattle.polyline.specs.Polyline.{flat}

@@ -11,9 +11,9 @@ use Rattle.lists.specs.Select.{keep, each, has}
 use Rattle.entities.specs.declared.Neighbor.{Neighbor}
 use Rattle.entities.specs.declared.NeighborDirection.{NeighborDirection}
 use Rattle.entities.specs.declared.NeighborDirection.the-variants.{Same, Opposite}
-use Rattle.entities.specs.Records.{Line, Lane, Boundary, Road, Junction, Rule, Map}
+use Rattle.entities.specs.Records.{Lane, Boundary, Road, Junction, Rule, Map}
 use Rattle.rules.specs.Sound.{hasContent, Room}
-use Rattle.tables.specs.View.{Tables, word, rows, laneWords, boundaryWords, roadWords, junctionWords, ruleWords}
+use Rattle.tables.specs.View.{Tables, word, laneWords, boundaryWords, roadWords, junctionWords, ruleWords}
 use Rattle.tables.specs.Columns.{boundarySize, boundaryStart, firstPredecessor, firstSuccessor, junctionFirstLane, laneCenterlineSize, laneCenterlineStart, laneSpeedBits, leftSlotLane, rightSlotLane, roadFirstLane, rowCount, rowId, ruleContent, ruleCrosswalk, ruleFirstControlled, ruleFirstLane, rulePriorityAt, ruleStopLinesAt, ruleYieldingAt}
 use Rattle.rules.specs.Limits.{otherRule, rightOfWay}
 

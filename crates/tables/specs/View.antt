@@ -1,11 +1,11 @@
 -- How the lent words and coordinates hold a map. A table's word 0 is its count; rows of a fixed length follow. Of a row only what is used is read:
 -- not the slots past a list's count, nor the words of a thing that its mark says is absent, nor what a rule's kind does not have.
-use Prim.Native.Nat.{ℕ, zero, suc, _+_, _*_}
-use mathlib.Core.Bool.{Bool, true, false, not, _||_, cond}
-use mathlib.Core.List.{List, [], _∷_, _++_}
+use Prim.Native.Nat.{ℕ, suc, _*_}
+use mathlib.Core.Bool.{Bool, not, cond}
+use mathlib.Core.List.{List, []}
 use mathlib.Core.Option.{Option, none, some}
 use lib.Dec.{eqb}
-use lib.ListN.{length, getD, take, drop}
+use lib.ListN.{getD, take, drop}
 use lib.Ieee.{Float}
 use Rattle.lists.specs.Rows.{reads}
 use Rattle.polyline.specs.Polyline.{points}

@@ -1,17 +1,16 @@
 -- Two lists of links written, one in each of two lanes, or both in one. Assumes nothing.
 use mathlib.Core.Path.{_≡_, refl, sym, ap, _∙_}
 use mathlib.Core.Logic.{_⊎_, inl, inr, ⊎-elim}
-use Prim.Native.Nat.{ℕ, zero, suc, _+_, _-_, _*_, _≤_, _<_}
+use Prim.Native.Nat.{ℕ, suc, _+_, _*_, _≤_, _<_}
 use native.Mathlib.Omega.{arith}
-use mathlib.Core.Bool.{Bool, true, false, not, cond, _&&_}
-use mathlib.Core.List.{List, [], _∷_, _++_}
-use lib.ListN.{length, getD, take, drop, length-take}
+use mathlib.Core.Bool.{Bool, true, false, not, cond}
+use mathlib.Core.List.{List, [], _∷_}
+use lib.ListN.{length, getD, drop, length-take}
 use lib.Seq.{getD-drop}
-use lib.Ieee.{Float}
-use lib.Dec.{eqb, leb}
-use borrow.Author.Tests.{eq-eqb, ne-eqb, eqb-true, le-leb}
+use lib.Dec.{eqb}
+use borrow.Author.Tests.{eqb-true}
 use Rattle.lists.specs.Rows.{over}
-use Rattle.lists.specs.Select.{has, place, without, keep, ascending}
+use Rattle.lists.specs.Select.{place, without}
 use Rattle.lists.proofs.Select.{length-keep}
 use Rattle.lists.proofs.Rows.{length-over, getD-over-before, getD-over-behind, drop-from-over}
 use Rattle.entities.specs.Records.{Lane}

@@ -1,25 +1,22 @@
 -- A counted list of links in a row, written. Assumes nothing.
-use mathlib.Core.Path.{_≡_, refl, sym, ap, _∙_}
+use mathlib.Core.Path.{_≡_, sym, ap, _∙_}
 use mathlib.Core.Logic.{_⊎_, ⊎-elim}
-use Prim.Native.Nat.{ℕ, zero, suc, _+_, _-_, _*_, _≤_, _<_}
-use native.Mathlib.Nat.{add-zero}
+use Prim.Native.Nat.{ℕ, _+_, _-_, _*_, _≤_, _<_}
 use native.Mathlib.Omega.{arith}
-use mathlib.Core.Bool.{Bool, true, false, not, cond, _&&_, true≢false}
-use lib.Dec.{eqb, ltb}
-use borrow.Author.Tests.{ltb-true, ltb-false, eqb-false}
-use mathlib.Core.List.{List, [], _∷_, _++_, append-assoc}
-use lib.ListN.{length, getD, set, take, drop, length-append, length-drop, take-append-drop}
-use lib.Seq.{drop-drop, drop-cons, length-take-le, take-take}
-use borrow.Rule.Slice.PartMut.{midOf, putMid, post-is}
+use mathlib.Core.Bool.{true, false, not}
+use lib.Dec.{eqb}
+use mathlib.Core.List.{List, _∷_}
+use lib.ListN.{length, getD, set, take, drop, length-drop}
+use lib.Seq.{length-take-le, take-take}
+use borrow.Rule.Slice.PartMut.{midOf, putMid}
 use Rattle.lists.specs.Rows.{over}
-use Rattle.lists.specs.Select.{has, place, without, keep, ascending}
-use Rattle.lists.proofs.Rows.{drop-front, over-part, length-over, store-before, drop-take}
+use Rattle.lists.specs.Select.{has, place, without, ascending}
 use Rattle.lists.proofs.Place.{length-place}
 use Rattle.lists.proofs.Select.{length-keep}
 use Rattle.store.proofs.Lists.{list-room, list-put}
-use Rattle.tables.specs.View.{word, idsAt}
+use Rattle.tables.specs.View.{word}
 use Rattle.row_tests.specs.Returned.{searchable, laneAt}
-use Rattle.row_tests.proofs.Lanes.{lane-room, word-at, ids-at, links-within, row-formed}
+use Rattle.row_tests.proofs.Lanes.{word-at, ids-at, links-within, row-formed}
 use Rattle.row_tests.proofs.Formed.{lane-before, lane-after}
 use Rattle.topology.specs.Topology.{linksAt, linkWords, Open}
 use Rattle.topology.proofs.Table.{links-room}

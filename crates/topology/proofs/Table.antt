@@ -1,26 +1,23 @@
 -- The lane table with its rows changed one by one. Assumes nothing.
 use mathlib.Core.Path.{_≡_, refl, sym, ap, _∙_}
-use Prim.Native.Nat.{ℕ, zero, suc, _+_, _-_, _*_, _≤_, _<_}
+use Prim.Native.Nat.{ℕ, suc, _+_, _*_, _≤_, _<_}
 use native.Mathlib.Nat.{add-zero}
 use native.Mathlib.Omega.{arith}
 use mathlib.Core.Logic.{_⊎_, ⊎-elim}
-use mathlib.Core.Bool.{Bool, true, false, cond, _&&_}
-use mathlib.Core.List.{List, [], _∷_, _++_, append-assoc}
-use lib.ListN.{length, getD, take, drop, length-append, length-drop, take-append-drop}
-use lib.Seq.{drop-drop, drop-cons, length-take-le, getD-take, getD-drop}
-use lib.Dec.{eqb, leb, ltb}
-use borrow.Author.Tests.{le-leb, ltb-true, ltb-false}
-use Rattle.lists.specs.Every.{all}
+use mathlib.Core.Bool.{Bool, true, false}
+use mathlib.Core.List.{List, [], _∷_, _++_}
+use lib.ListN.{length, getD, take, drop, length-drop, take-append-drop}
+use lib.Seq.{drop-drop, drop-cons, length-take-le, getD-drop}
+use lib.Dec.{ltb}
+use borrow.Author.Tests.{ltb-true, ltb-false}
 use Rattle.lists.specs.Rows.{reads, over, keys}
-use Rattle.lists.specs.Select.{ascending}
-use Rattle.lists.proofs.Booleans.{and-both, and-fst, and-snd}
-use Rattle.lists.proofs.Rows.{getD-reads, length-reads, key-at, length-keys, over-part, over-in, length-over}
+use Rattle.lists.proofs.Rows.{getD-reads, key-at, length-keys, over-part, over-in, length-over}
 use Rattle.lists.proofs.Select.{ascending-places}
 use Rattle.entities.specs.Records.{Lane}
 use Rattle.tables.specs.View.{word, rows, laneOf}
-use Rattle.tables.specs.Formed.{counted, laneFormed}
+use Rattle.tables.specs.Formed.{laneFormed}
 use Rattle.row_tests.specs.Returned.{searchable, laneAt}
-use Rattle.row_tests.proofs.Lanes.{lanes-counted, lanes-ascend, lanes-some, lanes-few, lanes-room, lanes-formed, lane-room, row-formed, id-at}
+use Rattle.row_tests.proofs.Lanes.{lanes-ascend, lanes-some, lanes-room, lanes-formed, lane-room, id-at}
 use Rattle.store.specs.Store.{laneOnto}
 use Rattle.store.specs.Rows.{mapRows, onRows, keyed}
 use Rattle.store.proofs.Rows.{front-over, passing, rowAt, rows-agree, rows-agree-at, rows-stay, rows-twice, rows-read, rows-length, one-keyed}

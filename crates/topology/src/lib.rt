@@ -2,7 +2,6 @@
 ghost use mathlib.Core.Path.{_≡_};
 ghost use mathlib.Core.Bool.{true};
 ghost use Prim.Native.Nat.{_+_, _*_, _<_};
-ghost use Rattle.lists.specs.Select.{place};
 ghost use mathlib.Core.Option.{none, some};
 ghost use Rattle.rules.specs.Edit.{slotAfter, reslotted};
 ghost use Rattle.store.specs.Store.{directionMark};

@@ -2,7 +2,6 @@
 ghost use mathlib.Core.Path.{_≡_};
 ghost use Rattle.relink.specs.Parts as P;
 use entities::Refusal;
-use lists::both;
 use report::Answer;
 use tables::LANE;
 

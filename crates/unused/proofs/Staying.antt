@@ -3,15 +3,15 @@ use mathlib.Core.Path.{_≡_, refl, sym, ap, _∙_}
 use Prim.Native.Nat.{ℕ, zero, suc, _+_, _*_, _≤_}
 use native.Mathlib.Nat.{mul-le-mul-right}
 use native.Mathlib.Omega.{arith}
-use mathlib.Core.Bool.{Bool, true, false, not, _&&_, _||_}
+use mathlib.Core.Bool.{Bool, true, false, not, _||_}
 use mathlib.Core.List.{List, [], _∷_}
-use lib.Dec.{eqb, leb}
+use lib.Dec.{eqb}
 use borrow.Author.Tests.{le-leb}
 use lib.ListN.{length, take, drop, length-drop}
 use lib.Seq.{take-nil, drop-cons}
 use Rattle.lists.specs.Every.{all}
 use Rattle.lists.specs.Rows.{reads, over}
-use Rattle.lists.specs.Select.{keep, each, has}
+use Rattle.lists.specs.Select.{each, has}
 use Rattle.lists.proofs.Booleans.{and-fst, and-snd}
 use Rattle.lists.proofs.Rows.{length-reads, over-itself}
 use Rattle.lists.proofs.Select.{keep-all}

@@ -4,7 +4,6 @@ ghost use mathlib.Core.Bool.{true, false};
 ghost use mathlib.Core.List.{[], _∷_};
 ghost use Prim.Native.Nat.{_+_, _*_, _≤_};
 ghost use lib.ListN.{length};
-ghost use Rattle.lists.specs.Select.{place};
 ghost use Rattle.report.specs.declared.Notice.the-variants as N;
 ghost use Rattle.store.specs.Store.{flag};
 ghost use Rattle.report.specs.Report as R;

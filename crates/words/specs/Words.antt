@@ -1,6 +1,6 @@
 -- A command and an answer as a host's numbers. Every row of words is a command: a word past the row's end is 0, and every number means something.
 use Prim.Native.Nat.{ℕ, suc}
-use mathlib.Core.Bool.{Bool, not, cond}
+use mathlib.Core.Bool.{not, cond}
 use mathlib.Core.List.{List}
 use lib.Dec.{eqb}
 use lib.Ieee.{binary64, ofBits}

@@ -1,11 +1,6 @@
 use borrow.Author.Needs.{needs}
 use Rattle.allocator.proofs.applied.Statement.{statement}
 use Rattle.allocator.proofs.applied.Tie as tie
-use Rattle.allocator.proofs.applied.Reads as reads
-use Rattle.allocator.proofs.applied.Lts as lts
-use Rattle.advance.proofs.advance.Reads as advance-reads
-use Rattle.ops.proofs.apply.Reads as apply-reads
-use mathlib.Core.Path.{_≡_, refl, sym, ap, _∙_}
 use native.Mathlib.Omega.{arith}
 use Rattle.step.specs.Step.{Lent, lentOf}
 use Rattle.step.proofs.Counter.{counter-word}

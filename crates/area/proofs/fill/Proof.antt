@@ -1,9 +1,6 @@
 use borrow.Author.Needs.{needs}
 use Rattle.area.proofs.fill.Statement.{statement}
 use Rattle.area.proofs.fill.Tie as tie
-use Rattle.area.proofs.fill.Reads as reads
-use Rattle.area.proofs.fill.Lts as lts
-use Rattle.slots.proofs.copy.Reads as copy-reads
 use native.Mathlib.Omega.{arith}
 use mathlib.Core.Path.{_∙_, sym}
 use lib.Seq.{length-take-le}

@@ -1,9 +1,6 @@
 use borrow.Author.Needs.{needs}
 use Rattle.area.proofs.fits.Statement.{statement}
 use Rattle.area.proofs.fits.Tie as tie
-use Rattle.area.proofs.fits.Reads as reads
-use Rattle.area.proofs.fits.Lts as lts
-use Rattle.lists.proofs.both.Reads as both-reads
 use Rattle.area.specs.Area.{areaFits}
 
 -- src/lib.rt:32:9

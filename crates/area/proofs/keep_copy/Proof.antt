@@ -1,12 +1,8 @@
 use borrow.Author.Needs.{needs}
 use Rattle.area.proofs.keep_copy.Statement.{statement}
 use Rattle.area.proofs.keep_copy.Tie as tie
-use Rattle.area.proofs.keep_copy.Reads as reads
-use Rattle.area.proofs.keep_copy.Lts as lts
-use Rattle.layout.proofs.copy.Reads as copy-reads
-use Rattle.slots.proofs.copy.Reads as copy-reads′
 use native.Mathlib.Omega.{arith}
-use Rattle.area.specs.Area.{areaFits, copied}
+use Rattle.area.specs.Area.{copied}
 use Rattle.area.proofs.Lengths.{fits-of}
 use lib.Seq.{take-length}
 

@@ -1,12 +1,8 @@
 use borrow.Author.Needs.{needs}
 use Rattle.area.proofs.put_back.Statement.{statement}
 use Rattle.area.proofs.put_back.Tie as tie
-use Rattle.area.proofs.put_back.Reads as reads
-use Rattle.area.proofs.put_back.Lts as lts
-use Rattle.area.proofs.fill.Reads as fill-reads
-use Rattle.layout.proofs.copy.Reads as copy-reads
 use native.Mathlib.Omega.{arith}
-use Rattle.area.specs.Area.{areaFits, putBack}
+use Rattle.area.specs.Area.{putBack}
 use Rattle.area.proofs.Lengths.{fits-of}
 use Rattle.area.proofs.Lengths.{over-front-of}
 

@@ -1,5 +1,5 @@
 -- `bits::pattern` meets its contract: what does not equal itself is the NaN. Assumes nothing.
-use mathlib.Core.Path.{_≡_, refl, sym, ap, _∙_}
+use mathlib.Core.Path.{_≡_, refl, ap, _∙_}
 use Prim.Native.Nat.{ℕ}
 use lib.Ieee.{nan, binary64, toBits}
 use borrow.Author.Needs.{needs}

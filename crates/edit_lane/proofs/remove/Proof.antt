@@ -2,13 +2,12 @@
 use borrow.Author.Needs.{needs}
 use Rattle.edit_lane.proofs.remove.Statement.{statement}
 use Rattle.edit_lane.proofs.remove.Tie as tie
-use mathlib.Core.Path.{_≡_, sym, ap, _∙_}
-use mathlib.Core.Bool.{true}
+use mathlib.Core.Path.{sym, _∙_}
 use Prim.Native.Nat.{_+_, _*_}
 use native.Mathlib.Omega.{arith}
 use lib.ListN.{getD}
 use Rattle.lookup.proofs.Laws.{sorted-row}
-use Rattle.unused.specs.Parts.{Left, tables, goneWith, removed}
+use Rattle.unused.specs.Parts.{tables, goneWith}
 use Rattle.edit_lane.proofs.Ending.{orphans-formed, gone-few, named-room, gone-room, warn-room, refused-removal, done-removal, lane-read}
 
 mul-lane : tie.Need-mul-lane

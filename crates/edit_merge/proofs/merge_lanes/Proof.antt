@@ -1,17 +1,9 @@
 use borrow.Author.Needs.{needs}
 use Rattle.edit_merge.proofs.merge_lanes.Statement.{statement}
 use Rattle.edit_merge.proofs.merge_lanes.Tie as tie
-use Rattle.edit_merge.proofs.merge_lanes.Reads as reads
-use Rattle.edit_merge.proofs.merge_lanes.Lts as lts
-use Rattle.merge_made.proofs.merge_found.Reads as merge-found-reads
-use Rattle.lookup.proofs.lane.Reads as lane-reads
-use Rattle.merge_decide.proofs.decide.Reads as decide-reads
-use Rattle.merge_plan.proofs.mergeable.Reads as mergeable-reads
 use native.Mathlib.Omega.{arith}
 use Rattle.step.specs.Step.{tablesOf, lentOf}
-use mathlib.Core.Path.{refl, sym, ap, _∙_}
-use mathlib.Core.List.{[]}
-use Prim.Native.Nat.{_^_}
+use mathlib.Core.Path.{refl, sym, _∙_}
 use Rattle.sound_facts.proofs.Found.{lanes-sorted, found, missing, sound-formed}
 use Rattle.sound_facts.proofs.Facts.{facts}
 use Rattle.soundness.proofs.Back.{formed-parts}

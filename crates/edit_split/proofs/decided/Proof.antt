@@ -1,9 +1,6 @@
 use borrow.Author.Needs.{needs}
 use Rattle.edit_split.proofs.decided.Statement.{statement}
 use Rattle.edit_split.proofs.decided.Tie as tie
-use Rattle.edit_split.proofs.decided.Reads as reads
-use Rattle.edit_split.proofs.decided.Lts as lts
-use Rattle.room.proofs.next_id.Reads as next-id-reads
 
 -- src/lib.rt:57:9
 next-id-requires : tie.Need-next-id-requires

@@ -1,10 +1,5 @@
-use borrow.Author.Needs.{needs}
 use Rattle.edit_split.proofs.split_anchored.Statement.{statement}
 use Rattle.edit_split.proofs.split_anchored.Tie as tie
-use Rattle.edit_split.proofs.split_anchored.Reads as reads
-use Rattle.edit_split.proofs.split_anchored.Lts as lts
-use Rattle.split_made.proofs.fits.Reads as fits-reads
-use Rattle.split_made.proofs.make.Reads as make-reads
 use Rattle.split_made.specs.Made.{cuttingOf, left}
 use Rattle.tables.specs.View.{tablesOf}
 use mathlib.Core.Path.{refl}

@@ -1,11 +1,6 @@
 use borrow.Author.Needs.{needs}
 use Rattle.edit_split.proofs.split_group.Statement.{statement}
 use Rattle.edit_split.proofs.split_group.Tie as tie
-use Rattle.edit_split.proofs.split_group.Reads as reads
-use Rattle.edit_split.proofs.split_group.Lts as lts
-use Rattle.edit_split.proofs.split_stationed.Reads as split-stationed-reads
-use Rattle.split_stations.proofs.choose.Reads as choose-reads
-use Rattle.split_stations.proofs.plan_lanes.Reads as plan-lanes-reads
 use Rattle.step.specs.Step.{tablesOf, lentOf, ended}
 use Rattle.report.specs.Report.{counterBehind}
 use mathlib.Core.Path.{refl}

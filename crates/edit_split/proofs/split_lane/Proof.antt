@@ -1,11 +1,6 @@
 use borrow.Author.Needs.{needs}
 use Rattle.edit_split.proofs.split_lane.Statement.{statement}
 use Rattle.edit_split.proofs.split_lane.Tie as tie
-use Rattle.edit_split.proofs.split_lane.Reads as reads
-use Rattle.edit_split.proofs.split_lane.Lts as lts
-use Rattle.edit_split.proofs.split_group.Reads as split-group-reads
-use Rattle.lookup.proofs.lane.Reads as lane-reads
-use Rattle.split_plan.proofs.place_cut.Reads as place-cut-reads
 use native.Mathlib.Omega.{arith}
 use Rattle.step.specs.Step.{tablesOf, lentOf, ended}
 use Rattle.report.specs.Report.{counterBehind}

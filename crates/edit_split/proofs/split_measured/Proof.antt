@@ -1,10 +1,6 @@
 use borrow.Author.Needs.{needs}
 use Rattle.edit_split.proofs.split_measured.Statement.{statement}
 use Rattle.edit_split.proofs.split_measured.Tie as tie
-use Rattle.edit_split.proofs.split_measured.Reads as reads
-use Rattle.edit_split.proofs.split_measured.Lts as lts
-use Rattle.edit_split.proofs.split_anchored.Reads as split-anchored-reads
-use Rattle.split_rules.proofs.mark_rules.Reads as mark-rules-reads
 use Rattle.split_made.specs.Made.{cuttingOf, left}
 use Rattle.tables.specs.View.{tablesOf}
 use Rattle.edit_split.proofs.Made.{anchors-ask, anchors-made}

@@ -1,13 +1,6 @@
 use borrow.Author.Needs.{needs}
 use Rattle.edit_split.proofs.split_numbered.Statement.{statement}
 use Rattle.edit_split.proofs.split_numbered.Tie as tie
-use Rattle.edit_split.proofs.split_numbered.Reads as reads
-use Rattle.edit_split.proofs.split_numbered.Lts as lts
-use Rattle.edit_split.proofs.split_pieced.Reads as split-pieced-reads
-use Rattle.reach.proofs.lines_reach.Reads as lines-reach-reads
-use Rattle.room.proofs.next_id.Reads as next-id-reads
-use Rattle.split_pieces.proofs.list_pieces.Reads as list-pieces-reads
-use native.Mathlib.Omega.{arith}
 use Rattle.edit_split.proofs.Parts.{pieces-ask, pieced, reach-asks}
 
 -- src/lib.rt:131:9

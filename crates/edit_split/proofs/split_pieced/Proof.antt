@@ -1,11 +1,6 @@
 use borrow.Author.Needs.{needs}
 use Rattle.edit_split.proofs.split_pieced.Statement.{statement}
 use Rattle.edit_split.proofs.split_pieced.Tie as tie
-use Rattle.edit_split.proofs.split_pieced.Reads as reads
-use Rattle.edit_split.proofs.split_pieced.Lts as lts
-use Rattle.edit_split.proofs.decided.Reads as decided-reads
-use Rattle.edit_split.proofs.split_measured.Reads as split-measured-reads
-use Rattle.split_made.proofs.measure.Reads as measure-reads
 use Rattle.tables.specs.View.{tablesOf}
 use Rattle.edit_split.proofs.Made.{measure-asks, decided-asks, measured-asks, pieces-end}
 

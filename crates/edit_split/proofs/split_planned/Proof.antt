@@ -1,17 +1,9 @@
 use borrow.Author.Needs.{needs}
 use Rattle.edit_split.proofs.split_planned.Statement.{statement}
 use Rattle.edit_split.proofs.split_planned.Tie as tie
-use Rattle.edit_split.proofs.split_planned.Reads as reads
-use Rattle.edit_split.proofs.split_planned.Lts as lts
-use Rattle.edit_split.proofs.split_numbered.Reads as split-numbered-reads
-use Rattle.lists.proofs.both.Reads as both-reads
-use Rattle.room.proofs.ids_left.Reads as ids-left-reads
-use Rattle.room.proofs.rows_fit.Reads as rows-fit-reads
-use Rattle.split_pieces.proofs.count_ids.Reads as count-ids-reads
-use Rattle.split_pieces.proofs.mark_cut.Reads as mark-cut-reads
 use native.Mathlib.Omega.{arith}
 use mathlib.Core.Path.{sym, _∙_}
-use Rattle.step.specs.Step.{tablesOf, lentOf}
+use Rattle.step.specs.Step.{lentOf}
 use Rattle.edit_split.proofs.Parts.{mark-asks, count-asks, cut-small, lanes-there, boundaries-there, no-ids, no-rows, off, on}
 use Rattle.edit_split.proofs.Parts.{both-told, numbered}
 

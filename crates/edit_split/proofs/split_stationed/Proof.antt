@@ -1,10 +1,6 @@
 use borrow.Author.Needs.{needs}
 use Rattle.edit_split.proofs.split_stationed.Statement.{statement}
 use Rattle.edit_split.proofs.split_stationed.Tie as tie
-use Rattle.edit_split.proofs.split_stationed.Reads as reads
-use Rattle.edit_split.proofs.split_stationed.Lts as lts
-use Rattle.edit_split.proofs.split_planned.Reads as split-planned-reads
-use Rattle.split_cross.proofs.cross_all.Reads as cross-all-reads
 use Rattle.step.specs.Step.{lentOf, ended}
 use Rattle.report.specs.Report.{counterBehind}
 use mathlib.Core.Path.{refl}

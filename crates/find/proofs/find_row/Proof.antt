@@ -2,7 +2,7 @@
 use borrow.Author.Needs.{needs}
 use Rattle.find.proofs.find_row.Statement.{statement}
 use Rattle.find.proofs.find_row.Tie as tie
-use mathlib.Core.Path.{_≡_, sym}
+use mathlib.Core.Path.{sym}
 use native.Mathlib.Omega.{arith}
 use Rattle.lists.specs.Rows.{keys}
 use Rattle.lists.proofs.Rows.{length-keys, row-none}

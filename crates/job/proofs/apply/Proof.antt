@@ -1,11 +1,6 @@
 use borrow.Author.Needs.{needs}
 use Rattle.job.proofs.apply.Statement.{statement}
 use Rattle.job.proofs.apply.Tie as tie
-use Rattle.job.proofs.apply.Reads as reads
-use Rattle.job.proofs.apply.Lts as lts
-use Rattle.area.proofs.keep_copy.Reads as keep-copy-reads
-use Rattle.job.proofs.first_tests.Reads as first-tests-reads
-use Rattle.job_made.proofs.make.Reads as make-reads
 use mathlib.Core.Path.{_≡_, refl, sym, ap, _∙_}
 use mathlib.Core.Bool.{true}
 use native.Mathlib.Omega.{arith}

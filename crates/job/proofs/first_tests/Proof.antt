@@ -1,9 +1,5 @@
 use Rattle.job.proofs.first_tests.Statement.{statement}
 use Rattle.job.proofs.first_tests.Tie as tie
-use Rattle.job.proofs.first_tests.Reads as reads
-use Rattle.job.proofs.first_tests.Lts as lts
-use Rattle.area.proofs.fits.Reads as fits-reads
-use Rattle.sound_map.proofs.sound.Reads as sound-reads
 use mathlib.Core.Path.{sym, _∙_}
 use borrow.Author.Tests.{le-leb, lt-leb, not-false, not-true}
 use Rattle.tables.specs.View.{Tables, tablesOf}

@@ -7,7 +7,6 @@ use mathlib.Core.List.{[]}
 use native.Mathlib.Omega.{arith}
 use Rattle.rules.specs.Limits.{maxLanes, maxBoundaries, maxRoads, maxJunctions, maxRules, maxStopLines, maxCrosswalks}
 use Rattle.tables.specs.View.{Tables, tablesOf, laneWords, boundaryWords, roadWords, junctionWords, ruleWords, stopLineWords, crosswalkWords}
-use Rattle.job_marks.specs.Marks.{laneMarks, boundaryMarks, roadMarks, junctionMarks, stopLineMarks, crosswalkMarks, ruleMarks}
 use Rattle.job_marks.proofs.Sorted.{lanes-sorted, boundaries-sorted, roads-sorted, junctions-sorted, stop-lines-sorted, crosswalks-sorted, rules-sorted}
 use Rattle.job_marks.proofs.Turns.{may-mark, mark-lane, mark-boundary, mark-road, mark-junction, mark-stop-line, mark-crosswalk, mark-rule, mark-other}
 

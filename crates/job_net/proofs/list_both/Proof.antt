@@ -1,5 +1,4 @@
 -- `job_net::list_both` meets its contract: kind by kind, one list behind the other. Assumes nothing.
-use borrow.Author.Needs.{needs}
 use Rattle.job_net.proofs.list_both.Statement.{statement}
 use Rattle.job_net.proofs.list_both.Tie as tie
 use native.Mathlib.Omega.{arith}

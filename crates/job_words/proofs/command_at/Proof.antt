@@ -1,10 +1,7 @@
 use borrow.Author.Needs.{needs}
 use Rattle.job_words.proofs.command_at.Statement.{statement}
 use Rattle.job_words.proofs.command_at.Tie as tie
-use Rattle.job_words.proofs.command_at.Reads as reads
-use Rattle.job_words.proofs.command_at.Lts as lts
-use Rattle.words.proofs.command_of.Reads as command-of-reads
-use mathlib.Core.Path.{_≡_, refl, sym, ap, _∙_}
+use mathlib.Core.Path.{ap, _∙_}
 use Rattle.words.specs.Words.{commandOf}
 use native.Mathlib.Omega.{arith}
 use Prim.Native.Nat.{_*_, _≤_}

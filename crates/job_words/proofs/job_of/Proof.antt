@@ -1,8 +1,5 @@
 use Rattle.job_words.proofs.job_of.Statement.{statement}
 use Rattle.job_words.proofs.job_of.Tie as tie
-use Rattle.job_words.proofs.job_of.Reads as reads
-use Rattle.job_words.proofs.job_of.Lts as lts
-use Rattle.job_words.proofs.command_at.Reads as command-at-reads
 use mathlib.Core.Path.{_≡_, refl, sym, ap, _∙_}
 use native.Mathlib.Omega.{arith}
 use Prim.Native.Nat.{_-_, _≤_}
@@ -15,7 +12,6 @@ use Prim.Native.Nat.{_+_, _/_, _<_}
 use native.Mathlib.Numerals.{add-one}
 use Rattle.rules.specs.Ops.{Command}
 use Rattle.jobs.specs.declared.Edit.{Edit}
-use Rattle.jobs.specs.declared.Job.{Job}
 
 abbrev Inv-loop : tie.InvT-loop
 Inv-loop rows edits₀ i₀ edits i = (i ≤ 64) × ((length edits ≡ 64) × (take i edits ≡ editsIn i rows))

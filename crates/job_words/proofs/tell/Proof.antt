@@ -1,17 +1,6 @@
 use borrow.Author.Needs.{needs}
 use Rattle.job_words.proofs.tell.Statement.{statement}
 use Rattle.job_words.proofs.tell.Tie as tie
-use Rattle.job_words.proofs.tell.Reads as reads
-use Rattle.job_words.proofs.tell.Lts as lts
-use Rattle.jobs.proofs.JobAnswer.counts.Reads as counts-reads
-use Rattle.jobs.proofs.JobAnswer.entity.Reads as entity-reads
-use Rattle.jobs.proofs.JobAnswer.number.Reads as number-reads
-use Rattle.jobs.proofs.JobAnswer.own_number.Reads as own-number-reads
-use Rattle.jobs.proofs.JobAnswer.place.Reads as place-reads
-use Rattle.words.proofs.id_word.Reads as id-word-reads
-use Rattle.words.proofs.kind_word.Reads as kind-word-reads
-use native.Mathlib.Omega.{arith}
-use mathlib.Core.Path.{_≡_, refl, sym, ap, _∙_}
 
 -- src/lib.rt:68:9
 entity-requires : tie.Need-entity-requires

@@ -2,8 +2,7 @@
 use borrow.Author.Needs.{needs}
 use Rattle.lane_lists.proofs.drop_lane.Statement.{statement}
 use Rattle.lane_lists.proofs.drop_lane.Tie as tie
-use mathlib.Core.Path.{_≡_, ap, subst, sym, _∙_}
-use mathlib.Core.Bool.{true}
+use mathlib.Core.Path.{ap, _∙_}
 use native.Mathlib.Omega.{arith}
 use Rattle.mentions.specs.declared.Rows.the-variants.{Lanes}
 use Rattle.mentions.specs.Naming.{tableFormed, forgets}

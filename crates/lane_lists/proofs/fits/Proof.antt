@@ -2,7 +2,7 @@
 use borrow.Author.Needs.{needs}
 use Rattle.lane_lists.proofs.fits.Statement.{statement}
 use Rattle.lane_lists.proofs.fits.Tie as tie
-use mathlib.Core.Path.{_≡_, ap, _∙_}
+use mathlib.Core.Path.{ap, _∙_}
 use mathlib.Core.Bool.{_&&_}
 use Prim.Native.Nat.{_/_}
 use lib.Dec.{leb}

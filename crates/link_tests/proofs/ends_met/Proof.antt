@@ -2,7 +2,7 @@
 use Rattle.link_tests.proofs.ends_met.Statement.{statement}
 use Rattle.link_tests.proofs.ends_met.Tie as tie
 use mathlib.Core.Path.{_≡_, refl, sym, _∙_}
-use Prim.Native.Nat.{ℕ, _+_, _-_, _*_, _≤_, _<_}
+use Prim.Native.Nat.{_+_, _-_, _*_, _≤_, _<_}
 use native.Mathlib.Omega.{arith}
 use lib.ListN.{length, getD, drop}
 use lib.Dec.{eqb}

@@ -2,11 +2,11 @@
 -- is how many are left. Assumes nothing.
 use Rattle.link_tests.proofs.lane_met.Statement.{statement}
 use Rattle.link_tests.proofs.lane_met.Tie as tie
-use mathlib.Core.Path.{_≡_, refl, sym, ap, _∙_}
+use mathlib.Core.Path.{_≡_, refl, sym, _∙_}
 use mathlib.Core.List.{List}
 use mathlib.Core.Bool.{true, _&&_, true≢false}
 use mathlib.Core.Logic.{inr}
-use Prim.Native.Nat.{ℕ, _+_, _-_, _*_, _≤_, _<_}
+use Prim.Native.Nat.{ℕ, _+_, _-_, _*_, _≤_}
 use native.Mathlib.Omega.{arith}
 use lib.ListN.{length, getD, drop}
 use Rattle.lists.specs.Every.{all}

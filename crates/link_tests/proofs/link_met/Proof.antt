@@ -8,13 +8,13 @@ use mathlib.Core.Bool.{true, true≢false}
 use mathlib.Core.Logic.{inl, inr}
 use Prim.Native.Nat.{ℕ, _+_, _*_, _≤_, _<_}
 use native.Mathlib.Omega.{arith}
-use lib.ListN.{length, getD, set}
+use lib.ListN.{length, getD}
 use Rattle.lists.specs.Rows.{rowWith}
 use Rattle.lists.specs.declared.Found.the-variants.{At}
 use Rattle.tables.specs.View.{word, idsAt}
 use Rattle.row_tests.specs.Returned.{searchable, laneAt}
-use Rattle.row_tests.proofs.Lanes.{lanes-some, lane-room, links-within, lane-found, word-at, id-at}
-use Rattle.link_tests.specs.Met.{laneIds, cursors}
+use Rattle.row_tests.proofs.Lanes.{lane-room, links-within, lane-found, word-at}
+use Rattle.link_tests.specs.Met.{laneIds}
 use Rattle.link_tests.proofs.Steps.{link-at, ids-ready, id-found, cursors-many, link-absent, link-past, link-there, link-moved}
 
 -- the row lies in the table, and its links in the row

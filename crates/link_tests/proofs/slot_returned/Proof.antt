@@ -11,7 +11,7 @@ use lib.ListN.{length, getD}
 use Rattle.lists.specs.Rows.{rowWith}
 use Rattle.lists.specs.declared.Found.the-variants.{At}
 use Rattle.row_tests.specs.Returned.{searchable}
-use Rattle.row_tests.proofs.Lanes.{lanes-some, lane-found, lane-room, slot-within, answer-within, slot-none, slot-absent, slot-there}
+use Rattle.row_tests.proofs.Lanes.{lane-found, lane-room, slot-within, answer-within, slot-none, slot-absent, slot-there}
 use Rattle.link_tests.specs.Met.{laneIds}
 use Rattle.link_tests.proofs.Steps.{ids-ready, id-found}
 

@@ -4,7 +4,6 @@ use Rattle.merge_draw.proofs.join_center.Statement.{statement}
 use Rattle.merge_draw.proofs.join_center.Tie as tie
 use native.Mathlib.Omega.{arith}
 use mathlib.Core.Path.{refl}
-use lib.Ieee.{Float}
 use Rattle.polyline.specs.Polyline.{points}
 use Rattle.tables.specs.View.{lineAt}
 use Rattle.lookup.specs.Lookup.{rowAt}

@@ -1,10 +1,6 @@
 use borrow.Author.Needs.{needs}
 use Rattle.merge_lists.proofs.add_joined.Statement.{statement}
 use Rattle.merge_lists.proofs.add_joined.Tie as tie
-use Rattle.merge_lists.proofs.add_joined.Reads as reads
-use Rattle.merge_lists.proofs.add_joined.Lts as lts
-use Rattle.report.proofs.named.Reads as named-reads
-use native.Mathlib.Omega.{arith}
 use Rattle.merge_lists.proofs.Listed.{kept-none, fresh-none, in-place-put}
 
 -- src/lib.rt:51:25

@@ -1,9 +1,6 @@
 use borrow.Author.Needs.{needs}
 use Rattle.merge_lists.proofs.count_modified.Statement.{statement}
 use Rattle.merge_lists.proofs.count_modified.Tie as tie
-use Rattle.merge_lists.proofs.count_modified.Reads as reads
-use Rattle.merge_lists.proofs.count_modified.Lts as lts
-use Rattle.mentions.proofs.count.Reads as count-reads
 use native.Mathlib.Omega.{arith}
 use Rattle.merge_lists.proofs.Listed.{counts-small, counts-all}
 

@@ -1,9 +1,6 @@
 use borrow.Author.Needs.{needs}
 use Rattle.merge_lists.proofs.joined_ids.Statement.{statement}
 use Rattle.merge_lists.proofs.joined_ids.Tie as tie
-use Rattle.merge_lists.proofs.joined_ids.Reads as reads
-use Rattle.merge_lists.proofs.joined_ids.Lts as lts
-use Rattle.merge_lists.proofs.add_joined.Reads as add-joined-reads
 use Rattle.merge_lists.proofs.Listed.{first-asks, second-asks, both-joined}
 
 -- src/lib.rt:68:9

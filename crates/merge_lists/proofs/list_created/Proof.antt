@@ -1,9 +1,6 @@
 use borrow.Author.Needs.{needs}
 use Rattle.merge_lists.proofs.list_created.Statement.{statement}
 use Rattle.merge_lists.proofs.list_created.Tie as tie
-use Rattle.merge_lists.proofs.list_created.Reads as reads
-use Rattle.merge_lists.proofs.list_created.Lts as lts
-use Rattle.report.proofs.list_up.Reads as list-up-reads
 use Rattle.report.specs.Report.{listed}
 
 -- src/lib.rt:40:5

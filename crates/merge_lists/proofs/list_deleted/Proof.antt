@@ -1,11 +1,6 @@
 use borrow.Author.Needs.{needs}
 use Rattle.merge_lists.proofs.list_deleted.Statement.{statement}
 use Rattle.merge_lists.proofs.list_deleted.Tie as tie
-use Rattle.merge_lists.proofs.list_deleted.Reads as reads
-use Rattle.merge_lists.proofs.list_deleted.Lts as lts
-use Rattle.report.proofs.list_ids.Reads as list-ids-reads
-use mathlib.Core.List.{[], _∷_}
-use native.Mathlib.Omega.{arith}
 use Rattle.merge_lists.proofs.Listed.{lane-room, gone-room, deleted-listed}
 
 -- src/lib.rt:122:36

@@ -1,10 +1,6 @@
 use borrow.Author.Needs.{needs}
 use Rattle.merge_lists.proofs.list_modified.Statement.{statement}
 use Rattle.merge_lists.proofs.list_modified.Tie as tie
-use Rattle.merge_lists.proofs.list_modified.Reads as reads
-use Rattle.merge_lists.proofs.list_modified.Lts as lts
-use Rattle.mentions.proofs.list.Reads as list-reads
-use Rattle.report.proofs.list_ids.Reads as list-ids-reads
 use Rattle.merge_lists.proofs.Listed.{lanes-room, joined-room, roads-room, junctions-room, rules-room, modified-listed}
 
 -- src/lib.rt:105:9

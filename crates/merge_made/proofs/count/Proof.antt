@@ -1,10 +1,6 @@
 use borrow.Author.Needs.{needs}
 use Rattle.merge_made.proofs.count.Statement.{statement}
 use Rattle.merge_made.proofs.count.Tie as tie
-use Rattle.merge_made.proofs.count.Reads as reads
-use Rattle.merge_made.proofs.count.Lts as lts
-use Rattle.merge_lists.proofs.count_modified.Reads as count-modified-reads
-use Rattle.merge_plan.proofs.side_ids.Reads as side-ids-reads
 use native.Mathlib.Omega.{arith}
 use Rattle.merge_made.proofs.Parts.{ids-few, counted}
 

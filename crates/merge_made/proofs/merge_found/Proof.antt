@@ -1,21 +1,12 @@
 use borrow.Author.Needs.{needs}
 use Rattle.merge_made.proofs.merge_found.Statement.{statement}
 use Rattle.merge_made.proofs.merge_found.Tie as tie
-use Rattle.merge_made.proofs.merge_found.Reads as reads
-use Rattle.merge_made.proofs.merge_found.Lts as lts
-use Rattle.merge_made.proofs.merge_with.Reads as merge-with-reads
-use Rattle.lookup.proofs.boundary_ref.Reads as boundary-ref-reads
-use Rattle.merge_lists.proofs.joined_ids.Reads as joined-ids-reads
-use Rattle.merge_plan.proofs.side_ids.Reads as side-ids-reads
-use Rattle.merge_gone.proofs.gone.Reads as gone-reads
-use Rattle.room.proofs.ids_left.Reads as ids-left-reads
 use native.Mathlib.Omega.{arith}
 use Rattle.step.specs.Step.{tablesOf, lentOf}
-use mathlib.Core.Path.{refl, sym, ap, _∙_}
+use mathlib.Core.Path.{sym}
 use Prim.Native.Nat.{ℕ}
 use lib.ListN.{replicate, length-replicate}
 use lib.Seq.{length-take-le}
-use Rattle.merge_gone.specs.Leaving.{goneOf}
 use Rattle.merge_made.specs.Parts.{goneIn, joinedIn}
 use Rattle.merge_made.proofs.Parts.{ids-few, front, no-ids, ids-there, decided-asks, found-made, off, on, both-refs}
 

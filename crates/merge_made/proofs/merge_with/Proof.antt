@@ -1,16 +1,6 @@
 use borrow.Author.Needs.{needs}
 use Rattle.merge_made.proofs.merge_with.Statement.{statement}
 use Rattle.merge_made.proofs.merge_with.Tie as tie
-use Rattle.merge_made.proofs.merge_with.Reads as reads
-use Rattle.merge_made.proofs.merge_with.Lts as lts
-use Rattle.merge_made.proofs.count.Reads as count-reads
-use Rattle.merge_made.proofs.write.Reads as write-reads
-use Rattle.merge_made.proofs.write_lists.Reads as write-lists-reads
-use Rattle.merge_notices.proofs.count_notices.Reads as count-notices-reads
-use Rattle.merge_notices.proofs.notices_of.Reads as notices-of-reads
-use Rattle.merge_room.proofs.fits.Reads as fits-reads
-use Rattle.room.proofs.lists_fit.Reads as lists-fit-reads
-use Rattle.room.proofs.next_id.Reads as next-id-reads
 use native.Mathlib.Omega.{arith}
 use Rattle.step.specs.Step.{tablesOf, lentOf}
 use mathlib.Core.Path.{refl, sym, ap, _∙_}

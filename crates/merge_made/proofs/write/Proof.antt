@@ -3,7 +3,7 @@ use borrow.Author.Needs.{needs}
 use Rattle.merge_made.proofs.write.Statement.{statement}
 use Rattle.merge_made.proofs.write.Tie as tie
 use native.Mathlib.Omega.{arith}
-use Rattle.step.specs.Step.{tablesOf, lentOf}
+use Rattle.step.specs.Step.{tablesOf}
 use Rattle.lookup.proofs.Laws.{sorted-row}
 use Rattle.merge_made.proofs.Parts.{relay-asks, all-written}
 

@@ -1,12 +1,6 @@
 use borrow.Author.Needs.{needs}
 use Rattle.merge_made.proofs.write_lists.Statement.{statement}
 use Rattle.merge_made.proofs.write_lists.Tie as tie
-use Rattle.merge_made.proofs.write_lists.Reads as reads
-use Rattle.merge_made.proofs.write_lists.Lts as lts
-use Rattle.merge_lists.proofs.list_created.Reads as list-created-reads
-use Rattle.merge_lists.proofs.list_deleted.Reads as list-deleted-reads
-use Rattle.merge_lists.proofs.list_modified.Reads as list-modified-reads
-use Rattle.merge_notices.proofs.warn.Reads as warn-reads
 use Rattle.merge_made.proofs.Parts.{four-lists}
 
 -- src/lib.rt:77:5

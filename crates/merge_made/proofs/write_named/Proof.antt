@@ -1,10 +1,6 @@
 use borrow.Author.Needs.{needs}
 use Rattle.merge_made.proofs.write_named.Statement.{statement}
 use Rattle.merge_made.proofs.write_named.Tie as tie
-use Rattle.merge_made.proofs.write_named.Reads as reads
-use Rattle.merge_made.proofs.write_named.Lts as lts
-use Rattle.forgets.proofs.forget.Reads as forget-reads
-use Rattle.replaces.proofs.replace.Reads as replace-reads
 use Rattle.merge_made.proofs.Parts.{three-tables}
 
 -- src/lib.rt:90:5

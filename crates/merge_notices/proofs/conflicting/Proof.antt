@@ -1,10 +1,6 @@
 use borrow.Author.Needs.{needs}
 use Rattle.merge_notices.proofs.conflicting.Statement.{statement}
 use Rattle.merge_notices.proofs.conflicting.Tie as tie
-use Rattle.merge_notices.proofs.conflicting.Reads as reads
-use Rattle.merge_notices.proofs.conflicting.Lts as lts
-use Rattle.merge_decide.proofs.conflict.Reads as conflict-reads
-use Rattle.report.proofs.pair_where.Reads as pair-where-reads
 use native.Mathlib.Omega.{arith}
 use Rattle.lookup.proofs.Laws.{sorted-row}
 use Rattle.merge_notices.proofs.Noted.{conflict-noted}

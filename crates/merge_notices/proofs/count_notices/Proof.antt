@@ -1,9 +1,6 @@
 use borrow.Author.Needs.{needs}
 use Rattle.merge_notices.proofs.count_notices.Statement.{statement}
 use Rattle.merge_notices.proofs.count_notices.Tie as tie
-use Rattle.merge_notices.proofs.count_notices.Reads as reads
-use Rattle.merge_notices.proofs.count_notices.Lts as lts
-use Rattle.report.proofs.notice_count.Reads as notice-count-reads
 use native.Mathlib.Omega.{arith}
 use Rattle.merge_notices.proofs.Noted.{issues-count, issues-few}
 

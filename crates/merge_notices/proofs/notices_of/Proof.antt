@@ -1,13 +1,6 @@
 use borrow.Author.Needs.{needs}
 use Rattle.merge_notices.proofs.notices_of.Statement.{statement}
 use Rattle.merge_notices.proofs.notices_of.Tie as tie
-use Rattle.merge_notices.proofs.notices_of.Reads as reads
-use Rattle.merge_notices.proofs.notices_of.Lts as lts
-use Rattle.merge_notices.proofs.conflicting.Reads as conflicting-reads
-use Rattle.merge_notices.proofs.unshared.Reads as unshared-reads
-use Rattle.merge_decide.proofs.dropped.Reads as dropped-reads
-use Rattle.merge_plan.proofs.side_ids.Reads as side-ids-reads
-use mathlib.Core.Path.{_≡_, ap, _∙_}
 use Rattle.merge_notices.proofs.Noted.{all-noted}
 
 -- src/lib.rt:161:25

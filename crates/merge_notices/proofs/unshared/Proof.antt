@@ -1,9 +1,6 @@
 use borrow.Author.Needs.{needs}
 use Rattle.merge_notices.proofs.unshared.Statement.{statement}
 use Rattle.merge_notices.proofs.unshared.Tie as tie
-use Rattle.merge_notices.proofs.unshared.Reads as reads
-use Rattle.merge_notices.proofs.unshared.Lts as lts
-use mathlib.Core.Path.{refl}
 
 -- src/lib.rt:133:25
 enum-told : tie.Need-enum-told

@@ -1,9 +1,6 @@
 use borrow.Author.Needs.{needs}
 use Rattle.merge_notices.proofs.warn.Statement.{statement}
 use Rattle.merge_notices.proofs.warn.Tie as tie
-use Rattle.merge_notices.proofs.warn.Reads as reads
-use Rattle.merge_notices.proofs.warn.Lts as lts
-use Rattle.warnings.proofs.note.Reads as note-reads
 use Rattle.merge_notices.proofs.Noted.{room-1, room-2, room-3, room-4, room-5, all-warned}
 
 -- src/lib.rt:201:9

@@ -2,7 +2,7 @@
 use borrow.Author.Needs.{needs}
 use Rattle.merge_tables.proofs.relink_row.Statement.{statement}
 use Rattle.merge_tables.proofs.relink_row.Tie as tie
-use Rattle.merge_draw.proofs.Lanes.{links-room, forgets-long, place-asks, came, came-not}
+use Rattle.merge_draw.proofs.Lanes.{links-room, place-asks, came, came-not}
 
 lists-lane-requires : tie.Need-lists-lane-requires
 lists-lane-requires c κs = links-room (c .before .before .args .row .now) (c .before .before .args .first) (c .before .before .args .second) (c .before .before .pre)

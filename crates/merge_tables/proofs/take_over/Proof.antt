@@ -2,7 +2,7 @@
 use borrow.Author.Needs.{needs}
 use Rattle.merge_tables.proofs.take_over.Statement.{statement}
 use Rattle.merge_tables.proofs.take_over.Tie as tie
-use Rattle.merge_draw.proofs.Lanes.{left-long, right-long, list-fits, taken-over}
+use Rattle.merge_draw.proofs.Lanes.{list-fits, taken-over}
 
 put-ref-requires : tie.Need-put-ref-requires
 put-ref-requires c κs = search needs

@@ -1,13 +1,9 @@
 use borrow.Author.Needs.{needs}
 use Rattle.ops.proofs.apply.Statement.{statement}
 use Rattle.ops.proofs.apply.Tie as tie
-use Rattle.ops.proofs.apply.Reads as reads
-use Rattle.ops.proofs.apply.Lts as lts
-use Rattle.dispatch.proofs.dispatch.Reads as dispatch-reads
-use Rattle.sound_map.proofs.sound.Reads as sound-reads
 use Rattle.step.specs.Step.{Lent, lentOf}
 use Rattle.step.proofs.Steps.{step-unsound}
-use mathlib.Core.Path.{_≡_, refl, sym, ap, _∙_}
+use mathlib.Core.Path.{refl, sym, _∙_}
 
 -- what is lent
 abbrev lent : tie.Start → Lent

@@ -1,7 +1,7 @@
 -- `polyline::length` meets its contract: the length is what is left added to the sum so far and the segment that is begun. Assumes nothing.
 use Rattle.polyline.proofs.length.Statement.{statement}
 use Rattle.polyline.proofs.length.Tie as tie
-use Prim.Native.Nat.{_≤_, _<_, _+_, _-_}
+use Prim.Native.Nat.{_≤_, _<_, _-_}
 use mathlib.Core.Path.{_≡_, refl, sym, _∙_}
 use native.Mathlib.Omega.{arith}
 use borrow.Author.Needs.{needs}

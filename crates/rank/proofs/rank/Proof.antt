@@ -1,11 +1,7 @@
 use borrow.Author.Needs.{needs}
 use Rattle.rank.proofs.rank.Statement.{statement}
 use Rattle.rank.proofs.rank.Tie as tie
-use Rattle.rank.proofs.rank.Reads as reads
-use Rattle.rank.proofs.rank.Lts as lts
-use Rattle.find.proofs.find_row.Reads as find-row-reads
 use native.Mathlib.Omega.{arith}
-use borrow.Author.Tests.{ltb-true, eqb-true, eqb-false}
 use Rattle.rank.proofs.Ends.{none-there, before-first, behind-last}
 
 -- src/lib.rt:15:9

@@ -3,9 +3,6 @@ use native.Mathlib.Omega.{arith}
 use native.Mathlib.Nat.{lt-of-le-of-lt, mul-le-mul}
 use Rattle.replay.proofs.lent.Statement.{statement}
 use Rattle.replay.proofs.lent.Tie as tie
-use Rattle.replay.proofs.lent.Reads as reads
-use Rattle.replay.proofs.lent.Lts as lts
-use Rattle.stream.proofs.least.Reads as least-reads
 
 -- src/call.rt:24:21
 add-if1 : tie.Need-add-if1

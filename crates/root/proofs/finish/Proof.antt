@@ -1,7 +1,6 @@
 -- `root::finish` meets its contract. Assumes nothing.
 use Rattle.root.proofs.finish.Statement.{statement}
 use Rattle.root.proofs.finish.Tie as tie
-use mathlib.Core.Path.{_≡_}
 use Prim.Native.Nat.{_^_, _<_}
 use native.Mathlib.Omega.{arith}
 use Rattle.root.specs.Begun.{Begins}

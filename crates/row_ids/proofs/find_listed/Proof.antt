@@ -1,10 +1,8 @@
 -- `row_ids::find_listed` meets its contract. The invariant: where the search still looks. The measure is how many places are left. Assumes nothing.
 use Rattle.row_ids.proofs.find_listed.Statement.{statement}
 use Rattle.row_ids.proofs.find_listed.Tie as tie
-use Prim.Native.Nat.{_+_, _-_, _*_, _/_, _≤_, _<_}
-use mathlib.Core.Path.{_≡_, refl}
+use Prim.Native.Nat.{_/_, _≤_}
 use native.Mathlib.Omega.{arith}
-use lib.ListN.{length, take}
 use borrow.Author.Needs.{needs}
 use Rattle.row_ids.proofs.Laws.{Left, search-all, turn-less, search-turn, search-found, search-ends}
 

@@ -1,7 +1,7 @@
 -- `row_ids::list_ids` meets its contract. The invariant: the ids of the rows before i are listed. The measure is how many rows are left. Assumes nothing.
 use Rattle.row_ids.proofs.list_ids.Statement.{statement}
 use Rattle.row_ids.proofs.list_ids.Tie as tie
-use Prim.Native.Nat.{_+_, _-_, _*_, _≤_, _<_}
+use Prim.Native.Nat.{_-_, _≤_}
 use mathlib.Core.Path.{_≡_, refl}
 use native.Mathlib.Omega.{arith}
 use lib.ListN.{length, take, length-set}

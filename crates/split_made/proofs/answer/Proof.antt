@@ -1,9 +1,6 @@
 use borrow.Author.Needs.{needs}
 use Rattle.split_made.proofs.answer.Statement.{statement}
 use Rattle.split_made.proofs.answer.Tie as tie
-use Rattle.split_made.proofs.answer.Reads as reads
-use Rattle.split_made.proofs.answer.Lts as lts
-use Rattle.find.proofs.find_row.Reads as find-row-reads
 use Rattle.split_made.proofs.Parts.{cut-asks, second-fits, answered}
 use Rattle.lists.specs.declared.Found.the-variants.{At, Nothing}
 

@@ -1,10 +1,6 @@
 use borrow.Author.Needs.{needs}
 use Rattle.split_made.proofs.count.Statement.{statement}
 use Rattle.split_made.proofs.count.Tie as tie
-use Rattle.split_made.proofs.count.Reads as reads
-use Rattle.split_made.proofs.count.Lts as lts
-use Rattle.split_lists.proofs.count_warnings.Reads as count-warnings-reads
-use Rattle.split_touched.proofs.count_modified.Reads as count-modified-reads
 use Rattle.split_made.proofs.Parts.{counted}
 use Rattle.split_made.specs.Made.{cuttingOf}
 use Rattle.tables.specs.View.{tablesOf}

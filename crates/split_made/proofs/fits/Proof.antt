@@ -1,14 +1,6 @@
 use borrow.Author.Needs.{needs}
 use Rattle.split_made.proofs.fits.Statement.{statement}
 use Rattle.split_made.proofs.fits.Tie as tie
-use Rattle.split_made.proofs.fits.Reads as reads
-use Rattle.split_made.proofs.fits.Lts as lts
-use Rattle.lists.proofs.both.Reads as both-reads
-use Rattle.room.proofs.points_fit.Reads as points-fit-reads
-use Rattle.split_room.proofs.lists_fit.Reads as lists-fit-reads
-use Rattle.split_room.proofs.pieces_fit.Reads as pieces-fit-reads
-use Rattle.split_room.proofs.points_after.Reads as points-after-reads
-use Rattle.split_room.proofs.rules_fit.Reads as rules-fit-reads
 use Rattle.split_made.proofs.Parts.{all-fit}
 use Rattle.split_made.specs.Made.{cuttingOf}
 use Rattle.tables.specs.View.{tablesOf}

@@ -1,13 +1,6 @@
 use borrow.Author.Needs.{needs}
 use Rattle.split_made.proofs.make.Statement.{statement}
 use Rattle.split_made.proofs.make.Tie as tie
-use Rattle.split_made.proofs.make.Reads as reads
-use Rattle.split_made.proofs.make.Lts as lts
-use Rattle.room.proofs.lists_fit.Reads as lists-fit-reads
-use Rattle.split_made.proofs.answer.Reads as answer-reads
-use Rattle.split_made.proofs.count.Reads as count-reads
-use Rattle.split_made.proofs.write.Reads as write-reads
-use Rattle.split_made.proofs.write_lists.Reads as write-lists-reads
 use Rattle.split_made.proofs.Parts.{off, on, notable-bare, no-list-room, lists-ask, split-made}
 use mathlib.Core.Path.{refl}
 use Rattle.split_made.specs.Made.{cuttingOf}

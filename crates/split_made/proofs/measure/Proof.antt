@@ -1,9 +1,6 @@
 use borrow.Author.Needs.{needs}
 use Rattle.split_made.proofs.measure.Statement.{statement}
 use Rattle.split_made.proofs.measure.Tie as tie
-use Rattle.split_made.proofs.measure.Reads as reads
-use Rattle.split_made.proofs.measure.Lts as lts
-use Rattle.split_lines.proofs.measure.Reads as measure-reads
 use Rattle.split_made.proofs.Parts.{measured-both}
 use Rattle.split_lines.specs.Cut.{chosenLines}
 use Rattle.order.specs.Order.{columnOf}

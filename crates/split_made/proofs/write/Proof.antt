@@ -1,11 +1,5 @@
-use borrow.Author.Needs.{needs}
 use Rattle.split_made.proofs.write.Statement.{statement}
 use Rattle.split_made.proofs.write.Tie as tie
-use Rattle.split_made.proofs.write.Reads as reads
-use Rattle.split_made.proofs.write.Lts as lts
-use Rattle.follows.proofs.follow_rules.Reads as follow-rules-reads
-use Rattle.grows.proofs.grow_rows.Reads as grow-rows-reads
-use Rattle.split_arrays.proofs.relay.Reads as relay-reads
 use Rattle.split_made.proofs.Parts.{all-written}
 use Rattle.split_made.specs.Made.{cuttingOf}
 use Rattle.tables.specs.View.{tablesOf}

@@ -1,11 +1,5 @@
-use borrow.Author.Needs.{needs}
 use Rattle.split_made.proofs.write_lists.Statement.{statement}
 use Rattle.split_made.proofs.write_lists.Tie as tie
-use Rattle.split_made.proofs.write_lists.Reads as reads
-use Rattle.split_made.proofs.write_lists.Lts as lts
-use Rattle.split_lists.proofs.list_created.Reads as list-created-reads
-use Rattle.split_lists.proofs.warn.Reads as warn-reads
-use Rattle.split_touched.proofs.list_modified.Reads as list-modified-reads
 use Rattle.split_made.proofs.Parts.{three-lists}
 
 -- src/lib.rt:188:5

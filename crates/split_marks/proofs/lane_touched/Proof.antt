@@ -2,7 +2,6 @@
 use borrow.Author.Needs.{needs}
 use Rattle.split_marks.proofs.lane_touched.Statement.{statement}
 use Rattle.split_marks.proofs.lane_touched.Tie as tie
-use native.Mathlib.Omega.{arith}
 use Rattle.lists.proofs.Rows.{keys-one}
 use Rattle.split_marks.proofs.Marks.{lane-cut, lane-other}
 

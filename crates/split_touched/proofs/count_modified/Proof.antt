@@ -1,10 +1,6 @@
 use borrow.Author.Needs.{needs}
 use Rattle.split_touched.proofs.count_modified.Statement.{statement}
 use Rattle.split_touched.proofs.count_modified.Tie as tie
-use Rattle.split_touched.proofs.count_modified.Reads as reads
-use Rattle.split_touched.proofs.count_modified.Lts as lts
-use Rattle.split_marks.proofs.count_marks.Reads as count-marks-reads
-use Rattle.split_touched.proofs.touch.Reads as touch-reads
 use native.Mathlib.Omega.{arith}
 use Rattle.row_tests.proofs.Tables.{table-some, table-few}
 use Rattle.split_touched.specs.Modified.{rowsOf, marksOf, told}

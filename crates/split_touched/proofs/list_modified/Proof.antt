@@ -1,12 +1,7 @@
 use borrow.Author.Needs.{needs}
 use Rattle.split_touched.proofs.list_modified.Statement.{statement}
 use Rattle.split_touched.proofs.list_modified.Tie as tie
-use Rattle.split_touched.proofs.list_modified.Reads as reads
-use Rattle.split_touched.proofs.list_modified.Lts as lts
-use Rattle.split_lists.proofs.list_modified.Reads as list-modified-reads
-use Rattle.split_touched.proofs.touch.Reads as touch-reads
-use native.Mathlib.Omega.{arith}
-use mathlib.Core.Path.{sym, _∙_}
+use mathlib.Core.Path.{sym}
 use Rattle.split_touched.specs.Modified.{rowsOf, marksOf, told, blank}
 use Rattle.split_touched.proofs.Counted.{listed-room, listed-told, rows-listed}
 

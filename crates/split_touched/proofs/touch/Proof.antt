@@ -1,12 +1,6 @@
 use borrow.Author.Needs.{needs}
 use Rattle.split_touched.proofs.touch.Statement.{statement}
 use Rattle.split_touched.proofs.touch.Tie as tie
-use Rattle.split_touched.proofs.touch.Reads as reads
-use Rattle.split_touched.proofs.touch.Lts as lts
-use Rattle.follows.proofs.mark_rules.Reads as mark-rules-reads
-use Rattle.split_marks.proofs.mark_alone.Reads as mark-alone-reads
-use Rattle.split_marks.proofs.mark_lanes.Reads as mark-lanes-reads
-use Rattle.split_marks.proofs.mark_rows.Reads as mark-rows-reads
 use native.Mathlib.Omega.{arith}
 use Rattle.row_tests.proofs.Tables.{table-some}
 use Rattle.split_touched.proofs.Counted.{five}

@@ -4,9 +4,9 @@ use Rattle.stations.proofs.put_slice.Statement.{statement}
 use Rattle.stations.proofs.put_slice.Tie as tie
 use Prim.Native.Nat.{_+_, _*_, _≤_, _<_}
 use mathlib.Core.Path.{_≡_, _∙_}
-use mathlib.Core.Bool.{true, false}
+use mathlib.Core.Bool.{true}
 use mathlib.Core.List.{List, _++_}
-use lib.Ieee.{Float, le}
+use lib.Ieee.{le}
 use Rattle.geometry.specs.declared.Point3.{Point3}
 use Rattle.geometry.specs.Float.{clamp, zeroᶠ}
 use native.Mathlib.Omega.{arith}

@@ -1,10 +1,6 @@
 use borrow.Author.Needs.{needs}
 use Rattle.stream.proofs.byte.Statement.{statement}
 use Rattle.stream.proofs.byte.Tie as tie
-use Rattle.stream.proofs.byte.Reads as reads
-use Rattle.stream.proofs.byte.Lts as lts
-use Rattle.stream.proofs.wide.Reads as wide-reads
-use mathlib.Core.Path.{_≡_, refl, sym, ap, _∙_}
 use native.Mathlib.Omega.{arith}
 use Prim.Native.Nat.{_+_}
 use Rattle.stream.proofs.Numbers.{past-end}

@@ -1,12 +1,9 @@
 use Rattle.stream.proofs.fill.Statement.{statement}
 use Rattle.stream.proofs.fill.Tie as tie
-use Rattle.stream.proofs.fill.Reads as reads
-use Rattle.stream.proofs.fill.Lts as lts
-use Rattle.stream.proofs.number.Reads as number-reads
-use mathlib.Core.Path.{_≡_, refl, sym, ap, _∙_}
+use mathlib.Core.Path.{_≡_, refl, ap, _∙_}
 use native.Mathlib.Omega.{arith}
 use borrow.Author.Needs.{needs}
-use Prim.Native.Nat.{ℕ, _+_, _-_, _≤_, _<_}
+use Prim.Native.Nat.{_-_, _≤_}
 use mathlib.Core.List.{_++_}
 use lib.ListN.{length, length-set, take}
 use Rattle.stream.specs.declared.Taken.{Taken}

@@ -1,13 +1,9 @@
 use Rattle.stream.proofs.fill_floats.Statement.{statement}
 use Rattle.stream.proofs.fill_floats.Tie as tie
-use Rattle.stream.proofs.fill_floats.Reads as reads
-use Rattle.stream.proofs.fill_floats.Lts as lts
-use Rattle.bits.proofs.double.Reads as double-reads
-use Rattle.stream.proofs.number.Reads as number-reads
-use mathlib.Core.Path.{_≡_, refl, sym, ap, _∙_}
+use mathlib.Core.Path.{_≡_, refl, ap, _∙_}
 use native.Mathlib.Omega.{arith}
 use borrow.Author.Needs.{needs}
-use Prim.Native.Nat.{ℕ, _+_, _-_, _≤_, _<_}
+use Prim.Native.Nat.{_-_, _≤_}
 use mathlib.Core.List.{_++_}
 use lib.ListN.{length, length-set, take}
 use lib.Ieee.{binary64, ofBits}

@@ -1,7 +1,5 @@
 use Rattle.stream.proofs.least.Statement.{statement}
 use Rattle.stream.proofs.least.Tie as tie
-use Rattle.stream.proofs.least.Reads as reads
-use Rattle.stream.proofs.least.Lts as lts
 use native.Mathlib.Omega.{arith}
 use borrow.Author.Tests.{lt-ltb, le-ltb}
 

@@ -1,12 +1,7 @@
 use borrow.Author.Needs.{needs}
 use Rattle.stream.proofs.read_floats.Statement.{statement}
 use Rattle.stream.proofs.read_floats.Tie as tie
-use Rattle.stream.proofs.read_floats.Reads as reads
-use Rattle.stream.proofs.read_floats.Lts as lts
-use Rattle.stream.proofs.fill_floats.Reads as fill-floats-reads
-use Rattle.stream.proofs.least.Reads as least-reads
-use Rattle.stream.proofs.number.Reads as number-reads
-use mathlib.Core.Path.{_≡_, refl, sym, ap, _∙_}
+use mathlib.Core.Path.{sym}
 use lib.Seq.{length-take-le}
 use lib.Ieee.{binary64, ofBits}
 use Rattle.stream.proofs.Tables.{part-told, part-over, part-counts}

@@ -1,12 +1,7 @@
 use borrow.Author.Needs.{needs}
 use Rattle.stream.proofs.read_words.Statement.{statement}
 use Rattle.stream.proofs.read_words.Tie as tie
-use Rattle.stream.proofs.read_words.Reads as reads
-use Rattle.stream.proofs.read_words.Lts as lts
-use Rattle.stream.proofs.fill.Reads as fill-reads
-use Rattle.stream.proofs.least.Reads as least-reads
-use Rattle.stream.proofs.number.Reads as number-reads
-use mathlib.Core.Path.{_≡_, refl, sym, ap, _∙_}
+use mathlib.Core.Path.{sym}
 use lib.Seq.{length-take-le}
 use Rattle.stream.proofs.Tables.{part-told, part-over, part-counts}
 

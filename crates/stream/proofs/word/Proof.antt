@@ -2,9 +2,6 @@ use borrow.Author.Needs.{needs}
 use Rattle.stream.specs.Numbers.{wordAt}
 use Rattle.stream.proofs.word.Statement.{statement}
 use Rattle.stream.proofs.word.Tie as tie
-use Rattle.stream.proofs.word.Reads as reads
-use Rattle.stream.proofs.word.Lts as lts
-use Rattle.stream.proofs.half.Reads as half-reads
 
 -- src/lib.rt:165:5
 half-requires : tie.Need-half-requires

@@ -4,7 +4,7 @@ use Rattle.unlink.proofs.unlink.Statement.{statement}
 use Rattle.unlink.proofs.unlink.Tie as tie
 use native.Mathlib.Omega.{arith}
 use mathlib.Core.Bool.{not}
-use lib.ListN.{length, getD}
+use lib.ListN.{getD}
 use Prim.Native.Nat.{_+_, _*_}
 use Rattle.row_tests.proofs.Lanes.{lane-room}
 use Rattle.relink.proofs.Reported.{pair-few, unlink-counted, unlink-fits, unlink-done, unlink-full}

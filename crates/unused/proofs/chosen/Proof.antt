@@ -3,7 +3,6 @@ use borrow.Author.Needs.{needs}
 use Rattle.unused.proofs.chosen.Statement.{statement}
 use Rattle.unused.proofs.chosen.Tie as tie
 use Rattle.unused.proofs.Boundaries.{two-chosen, left-chosen, right-chosen, none-chosen}
-use Rattle.unused.specs.Parts.{goneIds}
 
 both-requires : tie.Need-both-requires
 both-requires c κs = search needs

@@ -4,7 +4,6 @@ use Rattle.unused.proofs.own_boundaries.Statement.{statement}
 use Rattle.unused.proofs.own_boundaries.Tie as tie
 use native.Mathlib.Omega.{arith}
 use Rattle.lookup.proofs.Laws.{sorted-row}
-use Rattle.unused.specs.Parts.{goneIds}
 use Rattle.unused.proofs.Boundaries.{own-gone}
 
 mul-at : tie.Need-mul-at

@@ -1,12 +1,6 @@
 use borrow.Author.Needs.{needs}
 use Rattle.voldrekka.proofs.voldrekka_job.Statement.{statement}
 use Rattle.voldrekka.proofs.voldrekka_job.Tie as tie
-use Rattle.voldrekka.proofs.voldrekka_job.Reads as reads
-use Rattle.voldrekka.proofs.voldrekka_job.Lts as lts
-use Rattle.entities.proofs.Tolerance.preset.Reads as preset-reads
-use Rattle.job_words.proofs.job_of.Reads as job-of-reads
-use Rattle.job_words.proofs.tell.Reads as tell-reads
-use Rattle.job.proofs.apply.Reads as apply-reads
 use Rattle.tables.specs.View.{Tables, tablesOf}
 use Rattle.step.specs.Step.{Lent, lentOf}
 use Rattle.job_words.specs.JobWords.{jobOf}

@@ -1,14 +1,7 @@
 use borrow.Author.Needs.{needs}
 use Rattle.words.proofs.command.Statement.{statement}
 use Rattle.words.proofs.command.Tie as tie
-use Rattle.words.proofs.command.Reads as reads
-use Rattle.words.proofs.command.Lts as lts
-use Rattle.words.proofs.neighbor_of.Reads as neighbor-of-reads
-use Rattle.words.proofs.side_of.Reads as side-of-reads
-use Rattle.words.proofs.split_at_of.Reads as split-at-of-reads
-use mathlib.Core.Path.{_≡_, refl, sym, ap, _∙_}
 use borrow.Author.Tests.{eq-eqb, ne-eqb}
-use Rattle.rules.specs.Ops.{SplitLane, SetNeighbor}
 use Rattle.words.specs.Words.{commandBy}
 
 -- src/lib.rt:99:17

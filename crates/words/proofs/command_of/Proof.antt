@@ -1,10 +1,6 @@
 use borrow.Author.Needs.{needs}
 use Rattle.words.proofs.command_of.Statement.{statement}
 use Rattle.words.proofs.command_of.Tie as tie
-use Rattle.words.proofs.command_of.Reads as reads
-use Rattle.words.proofs.command_of.Lts as lts
-use Rattle.words.proofs.command.Reads as command-reads
-use Rattle.words.proofs.word.Reads as word-reads
 
 -- src/lib.rt:130:9
 word-requires : tie.Need-word-requires

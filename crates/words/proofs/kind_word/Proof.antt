@@ -1,13 +1,10 @@
 use borrow.Author.Needs.{needs}
 use Rattle.words.proofs.kind_word.Statement.{statement}
 use Rattle.words.proofs.kind_word.Tie as tie
-use Rattle.words.proofs.kind_word.Reads as reads
-use Rattle.words.proofs.kind_word.Lts as lts
-use Rattle.entities.proofs.EntityKind.number.Reads as number-reads
 use native.Mathlib.Omega.{arith}
-use Prim.Native.Nat.{ℕ, suc, _+_, _≤_}
+use Prim.Native.Nat.{suc}
 use native.Mathlib.Numerals.{add-one}
-use mathlib.Core.Path.{_≡_, refl, sym, ap, _∙_}
+use mathlib.Core.Path.{sym, ap, _∙_}
 use Rattle.words.specs.Words.{kindWord}
 use Rattle.words.proofs.Numbers.{kind-small}
 

@@ -1,11 +1,7 @@
 use borrow.Author.Needs.{needs}
 use Rattle.words.proofs.neighbor_of.Statement.{statement}
 use Rattle.words.proofs.neighbor_of.Tie as tie
-use Rattle.words.proofs.neighbor_of.Reads as reads
-use Rattle.words.proofs.neighbor_of.Lts as lts
-use Rattle.entities.proofs.Neighbor.opposite.Reads as opposite-reads
-use Rattle.entities.proofs.Neighbor.same.Reads as same-reads
-use mathlib.Core.Path.{_≡_, refl, sym, ap, _∙_}
+use mathlib.Core.Path.{ap}
 use borrow.Author.Tests.{eq-eqb, ne-eqb}
 use Rattle.entities.specs.declared.OptionNeighbor.the-variants.{Some as ANeighbor}
 

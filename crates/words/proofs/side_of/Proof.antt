@@ -1,7 +1,5 @@
 use Rattle.words.proofs.side_of.Statement.{statement}
 use Rattle.words.proofs.side_of.Tie as tie
-use Rattle.words.proofs.side_of.Reads as reads
-use Rattle.words.proofs.side_of.Lts as lts
 use borrow.Author.Tests.{eq-eqb, ne-eqb}
 
 -- src/lib.rt:75:9

@@ -1,10 +1,7 @@
 use borrow.Author.Needs.{needs}
 use Rattle.words.proofs.split_at_of.Statement.{statement}
 use Rattle.words.proofs.split_at_of.Tie as tie
-use Rattle.words.proofs.split_at_of.Reads as reads
-use Rattle.words.proofs.split_at_of.Lts as lts
-use Rattle.bits.proofs.double.Reads as double-reads
-use mathlib.Core.Path.{_≡_, refl, sym, ap, _∙_}
+use mathlib.Core.Path.{ap}
 use borrow.Author.Tests.{eq-eqb, ne-eqb}
 use Rattle.entities.specs.declared.SplitAt.the-variants.{Fraction, Station}
 

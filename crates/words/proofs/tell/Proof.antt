@@ -1,16 +1,6 @@
 use borrow.Author.Needs.{needs}
 use Rattle.words.proofs.tell.Statement.{statement}
 use Rattle.words.proofs.tell.Tie as tie
-use Rattle.words.proofs.tell.Reads as reads
-use Rattle.words.proofs.tell.Lts as lts
-use Rattle.report.proofs.Answer.counter.Reads as counter-reads
-use Rattle.report.proofs.Answer.counts.Reads as counts-reads
-use Rattle.report.proofs.Answer.entity.Reads as entity-reads
-use Rattle.report.proofs.Answer.number.Reads as number-reads
-use Rattle.words.proofs.id_word.Reads as id-word-reads
-use Rattle.words.proofs.kind_word.Reads as kind-word-reads
-use Rattle.words.proofs.second_word.Reads as second-word-reads
-use mathlib.Core.Path.{_≡_, refl, sym, ap, _∙_}
 use Rattle.words.proofs.Numbers.{all-told}
 
 -- src/lib.rt:176:9

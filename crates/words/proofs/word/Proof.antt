@@ -1,9 +1,6 @@
 use borrow.Author.Needs.{needs}
 use Rattle.words.proofs.word.Statement.{statement}
 use Rattle.words.proofs.word.Tie as tie
-use Rattle.words.proofs.word.Reads as reads
-use Rattle.words.proofs.word.Lts as lts
-use mathlib.Core.Path.{_≡_, refl, sym, ap, _∙_}
 use Rattle.words.proofs.Numbers.{past-end}
 
 -- src/lib.rt:56:16

@@ -1,15 +1,5 @@
 use Rattle.yard.proofs.each_call.Statement.{statement}
 use Rattle.yard.proofs.each_call.Tie as tie
-use Rattle.yard.proofs.each_call.Reads as reads
-use Rattle.yard.proofs.each_call.Lts as lts
-use Rattle.yard.proofs.after.Reads as after-reads
-use Rattle.yard.proofs.case_of.Reads as case-of-reads
-use Rattle.yard.proofs.end.Reads as end-reads
-use Rattle.yard.proofs.first_counter.Reads as first-counter-reads
-use Rattle.yard.proofs.heading.Reads as heading-reads
-use Rattle.yard.proofs.left.Reads as left-reads
-use Rattle.yard.proofs.listed.Reads as listed-reads
-use Rattle.yard.proofs.make.Reads as make-reads
 use borrow.Author.Needs.{needs}
 use mathlib.Core.Path.{_≡_, refl, _∙_}
 use Prim.Native.Nat.{_≤_, _-_}

@@ -1,17 +1,6 @@
 use borrow.Author.Needs.{needs}
 use Rattle.yard.proofs.make.Statement.{statement}
 use Rattle.yard.proofs.make.Tie as tie
-use Rattle.yard.proofs.make.Reads as reads
-use Rattle.yard.proofs.make.Lts as lts
-use Rattle.entities.proofs.Tolerance.preset.Reads as preset-reads
-use Rattle.ops.proofs.apply.Reads as apply-reads
-use Rattle.report.proofs.Answer.counter.Reads as counter-reads
-use Rattle.report.proofs.Answer.counts.Reads as counts-reads
-use Rattle.words.proofs.command_of.Reads as command-of-reads
-use Rattle.yard.proofs.answer.Reads as answer-reads
-use Rattle.yard.proofs.asked.Reads as asked-reads
-use Rattle.yard.proofs.behind_call.Reads as behind-call-reads
-use Rattle.yard.proofs.least.Reads as least-reads
 use mathlib.Core.Path.{sym}
 use lib.Seq.{length-take-le}
 use native.Mathlib.Omega.{arith}

@@ -1,10 +1,6 @@
 use borrow.Author.Needs.{needs}
 use Rattle.entities.proofs.Refusal.entity.Statement.{statement}
 use Rattle.entities.proofs.Refusal.entity.Tie as tie
-use Rattle.entities.proofs.Refusal.entity.Reads as reads
-use Rattle.entities.proofs.Refusal.entity.Lts as lts
-use Rattle.entities.proofs.boundary_entity.Reads as boundary-entity-reads
-use Rattle.entities.proofs.lane_entity.Reads as lane-entity-reads
 
 -- src/lib.rt:288:33
 enum-known-self : tie.Need-enum-known-self

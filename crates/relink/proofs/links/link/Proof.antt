@@ -3,7 +3,7 @@ use borrow.Author.Needs.{needs}
 use Rattle.relink.proofs.links.link.Statement.{statement}
 use Rattle.relink.proofs.links.link.Tie as tie
 use native.Mathlib.Omega.{arith}
-use lib.ListN.{length, getD}
+use lib.ListN.{getD}
 use Prim.Native.Nat.{_+_, _*_}
 use Rattle.row_tests.proofs.Lanes.{lane-room}
 use Rattle.relink.proofs.Reported.{pair-few, link-counted, link-fits, link-room, link-done, link-full}

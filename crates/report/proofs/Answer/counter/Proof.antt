@@ -1,10 +1,7 @@
 use borrow.Author.Needs.{needs}
 use Rattle.report.proofs.Answer.counter.Statement.{statement}
 use Rattle.report.proofs.Answer.counter.Tie as tie
-use Rattle.report.proofs.Answer.counter.Reads as reads
-use Rattle.report.proofs.Answer.counter.Lts as lts
-use Rattle.report.proofs.Answer.counts.Reads as counts-reads
-use mathlib.Core.Path.{_≡_, refl, sym, ap, _∙_}
+use mathlib.Core.Path.{ap, _∙_}
 use native.Mathlib.Omega.{arith}
 use Rattle.rules.specs.Ops.{counterAfter}
 use Rattle.report.proofs.Counter.{counter-stays, counter-first, counter-next}

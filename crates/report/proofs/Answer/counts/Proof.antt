@@ -1,8 +1,6 @@
 use borrow.Author.Needs.{needs}
 use Rattle.report.proofs.Answer.counts.Statement.{statement}
 use Rattle.report.proofs.Answer.counts.Tie as tie
-use Rattle.report.proofs.Answer.counts.Reads as reads
-use Rattle.report.proofs.Answer.counts.Lts as lts
 
 -- src/lib.rt:86:29
 enum-known-self : tie.Need-enum-known-self

@@ -3,8 +3,6 @@ use borrow.Author.Tests.{eq-eqb, ne-eqb}
 use Rattle.root.specs.Guess.{factorOf}
 use Rattle.root.proofs.guess.factor.Statement.{statement}
 use Rattle.root.proofs.guess.factor.Tie as tie
-use Rattle.root.proofs.guess.factor.Reads as reads
-use Rattle.root.proofs.guess.factor.Lts as lts
 
 returns : tie.Need-returns
 unfolding factorOf

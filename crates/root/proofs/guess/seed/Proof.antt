@@ -3,8 +3,6 @@ use mathlib.Core.Path.{refl}
 use Rattle.root.specs.Guess.{seedOf}
 use Rattle.root.proofs.guess.seed.Statement.{statement}
 use Rattle.root.proofs.guess.seed.Tie as tie
-use Rattle.root.proofs.guess.seed.Reads as reads
-use Rattle.root.proofs.guess.seed.Lts as lts
 
 returns : tie.Need-returns
 unfolding seedOf

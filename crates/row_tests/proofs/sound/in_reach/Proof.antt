@@ -2,10 +2,9 @@
 use borrow.Author.Needs.{needs}
 use Rattle.row_tests.proofs.sound.in_reach.Statement.{statement}
 use Rattle.row_tests.proofs.sound.in_reach.Tie as tie
-use mathlib.Core.Path.{_≡_, ap, _∙_}
+use mathlib.Core.Path.{ap, _∙_}
 use Prim.Native.Nat.{_*_}
 use native.Mathlib.Omega.{arith}
-use lib.ListN.{length}
 use Rattle.polyline.proofs.Points.{length-points}
 use Rattle.row_tests.proofs.Reach.{points-reach}
 

@@ -1,13 +1,9 @@
 use Rattle.stream.proofs.digest.floats.Statement.{statement}
 use Rattle.stream.proofs.digest.floats.Tie as tie
-use Rattle.stream.proofs.digest.floats.Reads as reads
-use Rattle.stream.proofs.digest.floats.Lts as lts
-use Rattle.bits.proofs.pattern.Reads as pattern-reads
-use Rattle.stream.proofs.digest.mix.Reads as mix-reads
 use mathlib.Core.Path.{_≡_, refl, sym, ap, _∙_}
 use native.Mathlib.Omega.{arith}
 use borrow.Author.Needs.{needs}
-use Prim.Native.Nat.{ℕ, _-_, _≤_}
+use Prim.Native.Nat.{_-_, _≤_}
 use lib.ListN.{length, drop}
 use lib.Ieee.{nan, binary64, toBits}
 use Rattle.stream.specs.Digest.{mix, ofFloats}

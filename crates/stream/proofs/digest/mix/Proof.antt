@@ -1,8 +1,6 @@
 use Rattle.stream.proofs.digest.mix.Statement.{statement}
 use Rattle.stream.proofs.digest.mix.Tie as tie
-use Rattle.stream.proofs.digest.mix.Reads as reads
-use Rattle.stream.proofs.digest.mix.Lts as lts
-use mathlib.Core.Path.{_≡_, refl, sym, ap, _∙_}
+use mathlib.Core.Path.{refl}
 use Rattle.stream.specs.Digest.{mix}
 
 -- src/digest.rt:9:1

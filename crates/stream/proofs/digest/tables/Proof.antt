@@ -1,10 +1,6 @@
 use borrow.Author.Needs.{needs}
 use Rattle.stream.proofs.digest.tables.Statement.{statement}
 use Rattle.stream.proofs.digest.tables.Tie as tie
-use Rattle.stream.proofs.digest.tables.Reads as reads
-use Rattle.stream.proofs.digest.tables.Lts as lts
-use Rattle.stream.proofs.digest.floats.Reads as floats-reads
-use Rattle.stream.proofs.digest.words.Reads as words-reads
 
 -- src/digest.rt:57:9
 words-requires : tie.Need-words-requires

@@ -1,12 +1,9 @@
 use Rattle.stream.proofs.digest.words.Statement.{statement}
 use Rattle.stream.proofs.digest.words.Tie as tie
-use Rattle.stream.proofs.digest.words.Reads as reads
-use Rattle.stream.proofs.digest.words.Lts as lts
-use Rattle.stream.proofs.digest.mix.Reads as mix-reads
-use mathlib.Core.Path.{_≡_, refl, sym, ap, _∙_}
+use mathlib.Core.Path.{_≡_, refl, sym, _∙_}
 use native.Mathlib.Omega.{arith}
 use borrow.Author.Needs.{needs}
-use Prim.Native.Nat.{ℕ, _-_, _≤_}
+use Prim.Native.Nat.{_-_, _≤_}
 use lib.ListN.{length, drop}
 use Rattle.stream.specs.Digest.{ofWords}
 use Rattle.stream.proofs.Digests.{taken-in, all-in}

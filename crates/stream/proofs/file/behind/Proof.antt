@@ -1,8 +1,6 @@
 use borrow.Author.Needs.{needs}
 use Rattle.stream.proofs.file.behind.Statement.{statement}
 use Rattle.stream.proofs.file.behind.Tie as tie
-use Rattle.stream.proofs.file.behind.Reads as reads
-use Rattle.stream.proofs.file.behind.Lts as lts
 use borrow.Author.Tests.{lt-ltb, le-ltb}
 
 -- src/file.rt:25:9

@@ -1,12 +1,9 @@
 use Rattle.stream.proofs.text.row.Statement.{statement}
 use Rattle.stream.proofs.text.row.Tie as tie
-use Rattle.stream.proofs.text.row.Reads as reads
-use Rattle.stream.proofs.text.row.Lts as lts
-use Rattle.stream.proofs.text.spaced.Reads as spaced-reads
-use mathlib.Core.Path.{_≡_, refl, sym, ap, _∙_}
+use mathlib.Core.Path.{_≡_, refl, sym, _∙_}
 use native.Mathlib.Omega.{arith}
 use borrow.Author.Needs.{needs}
-use Prim.Native.Nat.{ℕ, _+_, _*_, _-_, _≤_}
+use Prim.Native.Nat.{_*_, _-_, _≤_}
 use lib.ListN.{length, getD}
 use Rattle.stream.proofs.Texts.{Left, row-begins, row-turn, row-ends, short}
 use lib.Seq.{length-take-le}

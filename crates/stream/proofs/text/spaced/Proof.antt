@@ -1,10 +1,7 @@
 use borrow.Author.Needs.{needs}
 use Rattle.stream.proofs.text.spaced.Statement.{statement}
 use Rattle.stream.proofs.text.spaced.Tie as tie
-use Rattle.stream.proofs.text.spaced.Reads as reads
-use Rattle.stream.proofs.text.spaced.Lts as lts
-use Rattle.stream.proofs.text.decimal.Reads as decimal-reads
-use mathlib.Core.Path.{_≡_, refl, sym, ap, _∙_}
+use mathlib.Core.Path.{_∙_}
 use native.Mathlib.Omega.{arith}
 use lib.ListN.{length-set}
 use Rattle.stream.proofs.Texts.{blank}
