@@ -15,6 +15,7 @@ use entities::SplitAt;
 use entities::Tolerance;
 use geometry::Point2;
 use lists::Found;
+use lists::both;
 use report::Answer;
 use split_made::Drawn;
 use split_plan::Crossed;

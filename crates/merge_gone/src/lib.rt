@@ -12,6 +12,7 @@ use entities::Side;
 use lists::Found;
 use lists::both;
 use merge_plan::Joined;
+use merge_plan::is_fresh;
 use tables::LANE;
 
 // Both sides of the first lane: how each is merged, and its boundary.
