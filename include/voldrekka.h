@@ -106,7 +106,7 @@ enum {
 enum {
     VOLDREKKA_ROAD_NAME = 1,              /* handle */
     VOLDREKKA_ROAD_ATTRIBUTES = 2,        /* handle */
-    VOLDREKKA_ROAD_LANES_AT = 3,          /* how many, then their ids */
+    VOLDREKKA_ROAD_LANES_AT = 3,          /* how many, then their ids, none twice */
     VOLDREKKA_ROAD_FIRST_LANE = 4
 };
 
@@ -114,12 +114,12 @@ enum {
     VOLDREKKA_JUNCTION_NAME = 1,          /* handle */
     VOLDREKKA_JUNCTION_OUTLINE = 2,       /* handle */
     VOLDREKKA_JUNCTION_ATTRIBUTES = 3,    /* handle */
-    VOLDREKKA_JUNCTION_LANES_AT = 4,      /* how many, then their ids */
+    VOLDREKKA_JUNCTION_LANES_AT = 4,      /* how many, then their ids, none twice */
     VOLDREKKA_JUNCTION_FIRST_LANE = 5
 };
 
-/* A rule. Each of its five lists is a count and its ids. Priority and yielding are read of a right of way alone, the crosswalk of a
- * crosswalk rule alone, the stop lines of every rule but one of another kind. */
+/* A rule. Each of its five lists is a count and its ids; no lane stands twice in one list. Priority and yielding are read of a right of
+ * way alone, the crosswalk of a crosswalk rule alone, the stop lines of every rule but one of another kind. */
 enum {
     VOLDREKKA_RULE_KIND = 1,              /* voldrekka_rule_kind */
     VOLDREKKA_RULE_CONTENT = 2,           /* handle of signals, sign data or other kind */

@@ -318,7 +318,7 @@ pub struct Road {
     pub name: Handle,
     /// The host's attributes.
     pub attributes: Handle,
-    /// Its lanes.
+    /// Its lanes, none twice.
     pub lanes: Vec<LaneId>,
 }
 
@@ -333,7 +333,7 @@ pub struct Junction {
     pub outline: Handle,
     /// The host's attributes.
     pub attributes: Handle,
-    /// Its lanes.
+    /// Its lanes, none twice.
     pub lanes: Vec<LaneId>,
 }
 
@@ -387,9 +387,9 @@ pub enum Rule {
     },
     /// Right of way between lanes.
     RightOfWay {
-        /// Lanes that have priority.
+        /// Lanes that have priority, none twice.
         priority: Vec<LaneId>,
-        /// Lanes that must yield.
+        /// Lanes that must yield, none twice.
         yielding: Vec<LaneId>,
         /// Where the yielding lanes stop.
         stop_lines: Vec<StopLineId>,
@@ -429,7 +429,7 @@ pub struct RegulatoryElement {
     pub id: RegulatoryElementId,
     /// The rule.
     pub rule: Rule,
-    /// Lanes that it applies to.
+    /// Lanes that it applies to, none twice.
     pub lanes: Vec<LaneId>,
     /// Crosswalks that it controls.
     pub controlled_crosswalks: Vec<CrosswalkId>,
