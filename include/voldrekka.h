@@ -11,7 +11,7 @@
  *  - Slices that one call may write overlap no other slice of that call. Pointers are aligned to 8 bytes and are never null, those of empty slices included.
  *  - During a call nobody else writes what is lent, or reads what the call may write. The library keeps no state of its own: calls on
  *    different maps may run at the same time, in any threads.
- *  - Stack: a call of voldrekka_apply or voldrekka_job wants VOLDREKKA_STACK bytes of the thread that makes it; voldrekka_sound takes 66 kilobytes, the
+ *  - Stack: a call of voldrekka_apply or voldrekka_job wants VOLDREKKA_STACK bytes of the thread that makes it; voldrekka_sound takes 76 kilobytes, the
  *    functions on lines less than one. A thread that has less dies of it. host/c/stack.c measures each.
  *  - x86-64 Linux, System V calling convention.
  *
