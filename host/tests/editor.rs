@@ -135,6 +135,10 @@ fn the_clause_that_fails_is_told_with_its_line() {
         damaged("signals=1 stop-line=201 lanes=1,2", "signals=1 stop-line=201 lanes=2,1,2"),
         "damaged.yard: not sound: a lane stands twice in a road, a junction, or one list of a rule, at regulatory_element:202 on line 26\n"
     );
+    assert_eq!(
+        folder.told("connect damaged.yard 1 4", 9),
+        "connect lane:1 to lane:4: refused, 9 map not sound\n  a lane stands twice in a road, a junction, or one list of a rule, at regulatory_element:202 on line 26\n"
+    );
 }
 
 #[test]

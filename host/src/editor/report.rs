@@ -64,7 +64,13 @@ impl Report {
 
     pub fn refused(&self, document: &Document, command: &Command, refused: &Refused) {
         let line = refused.refusal.entity.and_then(|e| document.line_of(e));
-        self.print(|| refused_json(command, refused, line), || refused_text(command, refused, line));
+        self.print(
+            || refused_json(command, refused, line),
+            || match flaw(document) {
+                Some(flaw) => format!("{}  {flaw}\n", refused_head(command, refused)),
+                None => refused_text(command, refused, line),
+            },
+        );
     }
 
     pub fn job_done(&self, edits: usize, changes: &ChangeSet, next: u64) {
@@ -80,7 +86,10 @@ impl Report {
         });
         self.print(
             || job_refused_json(refused, edit.as_ref()),
-            || job_refused_text(lines.len(), file, refused, edit.as_ref()),
+            || match flaw(document) {
+                Some(flaw) => format!("{}  {flaw}\n", job_refused_head(lines.len(), refused)),
+                None => job_refused_text(lines.len(), file, refused, edit.as_ref()),
+            },
         );
     }
 
@@ -97,7 +106,7 @@ impl Report {
             },
             || match fault {
                 None => format!("{}: sound\n", file.display()),
-                Some(fault) => format!("{}: {}\n", file.display(), fault_text(fault, line)),
+                Some(fault) => format!("{}: not sound: {}\n", file.display(), fault_text(fault, line)),
             },
         );
     }
@@ -127,7 +136,13 @@ impl Report {
 fn fault_text(fault: &Fault, line: Option<usize>) -> String {
     let entity = fault.entity.map_or(String::new(), |e| format!(", at {e}"));
     let line = line.map_or(String::new(), |l| format!(" on line {l}"));
-    format!("not sound: {}{entity}{line}", fault.clause)
+    format!("{}{entity}{line}", fault.clause)
+}
+
+/// Why a map is not sound, which is why everything is refused on it; none of a sound one.
+fn flaw(document: &Document) -> Option<String> {
+    let fault = document.map.fault()?;
+    Some(fault_text(&fault, fault.entity.and_then(|e| document.line_of(e))))
 }
 
 // ---- the answer of an edit, for people
@@ -167,8 +182,12 @@ fn job_done_text(edits: usize, changes: &ChangeSet) -> String {
     format!("{}: made{}\n{}", job_sentence(edits), nothing(changes), changes_text(changes))
 }
 
+fn job_refused_head(edits: usize, refused: &JobRefused) -> String {
+    format!("{}: refused, {} {}\n", job_sentence(edits), refused.number(), refused.name())
+}
+
 fn job_refused_text(edits: usize, file: &Path, refused: &JobRefused, edit: Option<&RefusedEdit>) -> String {
-    let head = format!("{}: refused, {} {}\n", job_sentence(edits), refused.number(), refused.name());
+    let head = job_refused_head(edits, refused);
     let Some(RefusedEdit { place, edit, refused, entity_line }) = edit else {
         return format!("{head}  {refused}\n");
     };
@@ -176,10 +195,14 @@ fn job_refused_text(edits: usize, file: &Path, refused: &JobRefused, edit: Optio
     format!("{head}  {at}: {}", refused_text(&edit.command, refused, *entity_line))
 }
 
-fn refused_text(command: &Command, refused: &Refused, line: Option<usize>) -> String {
+fn refused_head(command: &Command, refused: &Refused) -> String {
     let Refusal { number, .. } = refused.refusal;
+    format!("{}: refused, {number} {}\n", sentence(command), refused.refusal.name())
+}
+
+fn refused_text(command: &Command, refused: &Refused, line: Option<usize>) -> String {
     let line = line.map_or(String::new(), |l| format!(" (line {l})"));
-    format!("{}: refused, {number} {}\n  {}{line}\n", sentence(command), refused.refusal.name(), refused.error)
+    format!("{}  {}{line}\n", refused_head(command, refused), refused.error)
 }
 
 // ---- the answer of an edit, for programs
