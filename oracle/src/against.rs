@@ -9,6 +9,7 @@ use crate::ffi::{Editor, Lent, Raw};
 use crate::generate::{self, Case, Profile};
 use crate::memory::{self, LISTS, Memory, Slice};
 use crate::rng::Rng;
+use crate::sound;
 use crate::step::{Answer, COMMANDS, Call, Room, State, quietly};
 use crate::tables::*;
 use crate::tally::Tally;
@@ -482,6 +483,8 @@ enum Fault {
     ShortListIsEnough,
     Panics,
     CounterLostOnLargeMaps,
+    AdjacentRepeatsAlone,
+    YieldingUnread,
     #[cfg_attr(not(feature = "planted"), allow(dead_code))]
     /// A comparison of the Rust with the other of `>` and `>=`, by its number (core/build.rs).
     Slip(usize),
@@ -489,7 +492,7 @@ enum Fault {
 
 use Fault::*;
 
-const FAULTS: [Fault; 18] = [
+const FAULTS: [Fault; 20] = [
     TenBeforeTrying,
     CreatedEmpty,
     OnlyNamedLanes,
@@ -508,6 +511,8 @@ const FAULTS: [Fault; 18] = [
     ShortListIsEnough,
     Panics,
     CounterLostOnLargeMaps,
+    AdjacentRepeatsAlone,
+    YieldingUnread,
 ];
 
 impl Own {
@@ -613,8 +618,31 @@ fn spoil(fault: Fault, call: &Call, room: &Room, memory: &mut Memory, raw: &mut 
         CounterLostOnLargeMaps if memory.words[LANES].get().len() > 1000 * ROW[LANES] => {
             memory.counter = 0;
         }
+        AdjacentRepeatsAlone | YieldingUnread if raw.number == 9 && unseen(fault, memory) => raw.number = 0,
         _ => {}
     }
+}
+
+/// Whether the map is unsound for a lane that stands twice alone, where the faulty editor does not see it.
+fn unseen(fault: Fault, memory: &Memory) -> bool {
+    let t = memory.tables();
+    if sound::fault(&t, memory.counter) != Some("a lane twice in a list") {
+        return false;
+    }
+    let list = |words: &[u64]| words[1..1 + words[0] as usize].to_vec();
+    let mut lists: Vec<Vec<u64>> = t.rows(ROADS).map(|r| list(&r[3..])).collect();
+    lists.extend(t.rows(JUNCTIONS).map(|r| list(&r[4..])));
+    lists.extend(t.rows(RULES).map(|r| list(&r[rule::LANES..])));
+    for r in t.rows(RULES).filter(|r| r[1] == kind::RIGHT_OF_WAY) {
+        lists.push(list(&r[rule::PRIORITY..]));
+        if fault != YieldingUnread {
+            lists.push(list(&r[rule::YIELDING..]));
+        }
+    }
+    if fault == YieldingUnread {
+        lists.iter_mut().for_each(|l| l.sort_unstable());
+    }
+    lists.iter().all(|l| l.windows(2).all(|w| w[0] != w[1]))
 }
 
 /// The Rust's comparisons as this fault has them, where the build has faults to plant.
