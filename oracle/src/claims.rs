@@ -3,7 +3,7 @@
 
 use std::collections::BTreeSet;
 
-use vectormap_core::{LaneId, Map, Neighbor, NeighborDirection, Rule, Side};
+use vectormap_core::{LaneId, Map, Neighbor, NeighborDirection, Side};
 
 use crate::generate::Turn;
 use crate::step::{Answer, Call, Entity};
@@ -94,25 +94,6 @@ fn paired(before: &Map, after: &Map, group: &[u64], made: &[u64]) -> bool {
     })
 }
 
-/// Does some road, junction or rule name a lane twice in one list?
-fn repeats(m: &Map) -> bool {
-    let twice = |list: &[LaneId]| {
-        let mut seen = BTreeSet::new();
-        !list.iter().all(|l| seen.insert(*l))
-    };
-    m.roads().any(|r| twice(&r.lanes))
-        || m.junctions().any(|j| twice(&j.lanes))
-        || m.regulatory_elements().any(|r| {
-            twice(&r.lanes)
-                || match &r.rule {
-                    Rule::RightOfWay {
-                        priority, yielding, ..
-                    } => twice(priority) || twice(yielding),
-                    _ => false,
-                }
-        })
-}
-
 pub fn hold(t: &Turn) -> Result<(), String> {
     let Answer::Changed {
         created,
@@ -163,9 +144,6 @@ pub fn hold(t: &Turn) -> Result<(), String> {
         .any(|e| !old.contains_key(e) || !new.contains_key(e))
     {
         return Err("modified holds what does not survive".into());
-    }
-    if repeats(n) {
-        return Err("a lane stands twice in a list".into());
     }
     if booked(m, t.call, created, links(m)) != links(n) {
         return Err("the links are not those of the book".into());
