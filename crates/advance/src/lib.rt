@@ -1,4 +1,6 @@
 // id.rs: the counter behind a call, by value.
+#![tactic(auto)]
+
 ghost use Rattle.std.specs.Prelude.{◌≡◌, ◌^◌, ◌<◌};
 ghost use Rattle.report.specs.Report.{counter_behind};
 
@@ -6,7 +8,7 @@ use entities::Counter;
 use report::Answer;
 
 // What a call answers, and the counter that it leaves.
-#[derive(Drop)]
+#[derive(Clone, Copy)]
 pub struct Advanced {
     pub counter: Counter,
     pub answer: Answer,

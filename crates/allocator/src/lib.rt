@@ -1,4 +1,6 @@
 // id.rs: the counter of ids is lent, and advanced in place, last of all.
+#![tactic(auto)]
+
 ghost use Rattle.step.specs.Step as S;
 ghost use Rattle.ops.specs.Calls.{Applied};
 

@@ -1,4 +1,6 @@
 // map.rs: the anchor of a rule, half way along its first stop line or across its crosswalk.
+#![tactic(auto)]
+
 ghost use Rattle.std.specs.Prelude.{◌≡◌, true, ◌+◌, ◌*◌, ◌<◌, []};
 ghost use Rattle.polyline.specs.Polyline.{points};
 ghost use Rattle.rules.specs.Map.{mid, half_way, stop_anchor, cross_anchor, stop_line, crosswalk, rule_anchor};

@@ -1,4 +1,6 @@
 // "no stored point belongs to two lines": marks, one pass over the points.
+#![tactic(auto)]
+
 ghost use Rattle.std.specs.Prelude.{◌≡◌, true, false, ◌+◌, ◌≤◌, ◌<◌, length};
 ghost use Rattle.apart.specs.Marks as G;
 

@@ -1,4 +1,6 @@
 // The second map area of a job: tested, filled with the map's slices as they came, and the way back.
+#![tactic(auto)]
+
 ghost use Rattle.std.specs.Prelude.{◌≡◌, true, ◌≤◌, length, take};
 ghost use Rattle.tables.specs.View.{tables_of};
 ghost use Rattle.area.specs.Area.{area_fits, copied, put_back};

@@ -1,4 +1,6 @@
 // A double and its bit pattern: speed limits and a host's numbers carry doubles as words.
+#![tactic(auto)]
+
 ghost use Rattle.std.specs.Prelude.{◌≡◌};
 ghost use Rattle.std.specs.Float.{binary64};
 ghost use Rattle.std.specs.Float.Ieee.{of_bits, to_bits, nan_bits};

@@ -1,5 +1,7 @@
 // "no stored point belongs to two lines". Lines that lie in the order of a layout, as every split and merge leaves them, share no point, and one look at each row
 // tells; of others the points are marked.
+#![tactic(auto)]
+
 ghost use Rattle.std.specs.Prelude.{◌≡◌, true};
 ghost use Rattle.tables.specs.Formed.{all_clear};
 ghost use Rattle.apart.specs.Marks as G;

@@ -1,4 +1,6 @@
 // ops.rs: a command on a map that is known to be sound, one arm for each edit.
+#![tactic(auto)]
+
 ghost use Rattle.std.specs.Prelude.{◌≡◌, true};
 ghost use Rattle.tables.specs.Formed.{sound_tables};
 ghost use Rattle.report.specs.Report.{counter_behind};

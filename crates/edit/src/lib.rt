@@ -1,5 +1,7 @@
 // edit/mod.rs: connect, disconnect, set_neighbor on lent memory that holds a sound map (`ops::apply` tests that first). Each looks the lanes up, decides,
 // tests the room, and only then writes. None allocates an id, so the counter stays.
+#![tactic(auto)]
+
 ghost use Rattle.std.specs.Prelude.{◌≡◌, true};
 ghost use Rattle.rules.specs.Ops as O;
 ghost use Rattle.tables.specs.Formed.{sound_tables};

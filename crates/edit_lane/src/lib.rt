@@ -1,4 +1,6 @@
 // edit/lane.rs: remove_lane. What goes and what names it is found first; then the lists are written, then the tables.
+#![tactic(auto)]
+
 ghost use Rattle.std.specs.Prelude.{◌≡◌, true, ◌+◌, ◌*◌};
 ghost use Rattle.rules.specs.Ops as O;
 ghost use Rattle.tables.specs.View.{word};

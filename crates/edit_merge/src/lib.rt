@@ -1,4 +1,6 @@
 // edit/merge.rs, Map::merge_lanes: what is refused, and what is left to merge_made.
+#![tactic(auto)]
+
 ghost use Rattle.std.specs.Prelude.{◌≡◌, true};
 ghost use Rattle.rules.specs.Ops as O;
 ghost use Rattle.tables.specs.Formed.{sound_tables};

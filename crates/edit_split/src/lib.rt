@@ -1,4 +1,6 @@
 // edit/split.rs: split_lane. The cut and the plans of the group first, then ids and room, then lists and tables.
+#![tactic(auto)]
+
 ghost use Rattle.std.specs.Prelude.{◌≡◌, true, ◌+◌, ◌^◌, ◌≤◌, ◌<◌};
 ghost use Rattle.rules.specs.Sound.{next_id};
 ghost use Rattle.rules.specs.Ops as O;

@@ -1,12 +1,14 @@
 // id.rs, entities.rs, topology.rs, diagnostics.rs: the types that go by value. The records of a map (lane, boundary, road ..) lie in
 // lent memory; their definitions are in specs/Records.antt.
+#![tactic(auto)]
+
 ghost use Rattle.std.specs.Prelude.{◌≡◌};
 ghost use Rattle.entities.specs.Types as T;
 
 // ---- entities.rs
 
 // Left or right, along the direction of travel.
-#[derive(Drop)]
+#[derive(Clone, Copy)]
 pub enum Side {
     Left,
     Right,
@@ -24,7 +26,7 @@ impl Side {
 }
 
 // A lane's reference to one of its boundaries; reversed where the lane runs against it.
-#[derive(Drop)]
+#[derive(Clone, Copy)]
 pub struct BoundaryRef {
     pub boundary: u64,
     pub reversed: bool,
@@ -43,13 +45,13 @@ impl BoundaryRef {
 
 // ---- topology.rs
 
-#[derive(Drop)]
+#[derive(Clone, Copy)]
 pub enum NeighborDirection {
     Same,
     Opposite,
 }
 
-#[derive(Drop)]
+#[derive(Clone, Copy)]
 pub struct Neighbor {
     pub lane: u64,
     pub direction: NeighborDirection,
@@ -76,7 +78,7 @@ impl Neighbor {
 }
 
 // What a neighbour slot holds.
-#[derive(Drop)]
+#[derive(Clone, Copy)]
 pub enum OptionNeighbor {
     None,
     Some(Neighbor),
@@ -95,7 +97,7 @@ pub fn reciprocal_side(side: Side, direction: NeighborDirection) -> Side
 // ---- edit/split.rs
 
 // Where to split a lane, along its centreline.
-#[derive(Drop)]
+#[derive(Clone, Copy)]
 pub enum SplitAt {
     Fraction(f64),
     Station(f64),
@@ -104,7 +106,7 @@ pub enum SplitAt {
 // ---- ops.rs
 
 // An edit as data: the six commands.
-#[derive(Drop)]
+#[derive(Clone, Copy)]
 pub enum Command {
     SplitLane {
         lane: u64,
@@ -136,7 +138,7 @@ pub enum Command {
 // ---- edit/mod.rs
 
 // The three distances that decide an edit, in metres.
-#[derive(Drop)]
+#[derive(Clone, Copy)]
 pub struct Tolerance {
     pub piece: f64,
     pub gap: f64,
@@ -169,12 +171,12 @@ impl Tolerance {
 
 // The counter of ids: the next to be allocated; 0 counts as 1. A host keeps one beside its tables.
 #[repr(C)]
-#[derive(Drop)]
+#[derive(Clone, Copy)]
 pub struct Counter {
     pub next: u64,
 }
 
-#[derive(Drop)]
+#[derive(Clone, Copy)]
 pub enum EntityKind {
     Lane,
     Boundary,
@@ -205,13 +207,13 @@ impl EntityKind {
 }
 
 // A kind and an id.
-#[derive(Drop)]
+#[derive(Clone, Copy)]
 pub struct EntityRef {
     pub kind: EntityKind,
     pub id: u64,
 }
 
-#[derive(Drop)]
+#[derive(Clone, Copy)]
 pub enum OptionEntity {
     None,
     Some(EntityRef),
@@ -219,7 +221,7 @@ pub enum OptionEntity {
 
 // ---- diagnostics.rs
 
-#[derive(Drop)]
+#[derive(Clone, Copy)]
 pub enum Severity {
     Info,
     Warning,
@@ -239,7 +241,7 @@ impl Severity {
 }
 
 // The codes that the six edits raise.
-#[derive(Drop)]
+#[derive(Clone, Copy)]
 pub enum IssueCode {
     NoOp,
     GeometricGap,
@@ -267,7 +269,7 @@ impl IssueCode {
 
 // ---- refusals, by document 01's numbers 1 to 11
 
-#[derive(Drop)]
+#[derive(Clone, Copy)]
 pub enum Refusal {
     LaneAbsent(u64),
     FractionOutside,

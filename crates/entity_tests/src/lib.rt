@@ -1,4 +1,6 @@
 // The test of soundness, row by row: a lane, a boundary, a road, a junction, a rule, a stop line, a crosswalk. The columns are those of tables' view.
+#![tactic(auto)]
+
 ghost use Rattle.std.specs.Prelude.{◌≡◌, true, ◌||◌, not, ◌+◌, ◌≤◌, leb, eqb, length};
 ghost use Rattle.tables.specs.View.{ids_at, word};
 ghost use Rattle.tables.specs.Formed.{lane_formed, rule_formed};

@@ -1,4 +1,6 @@
 // Which clause of soundness fails first, and at which row. A host asks after a refusal, so nothing here is in a hurry.
+#![tactic(auto)]
+
 ghost use Rattle.std.specs.Prelude.{◌≡◌, true, cond, [], ◌∷◌, ◌≤◌, ◌<◌, ltb};
 ghost use Rattle.tables.specs.View.{rows, tables_of};
 ghost use Rattle.tables.specs.Formed.{counted, all_clear};
@@ -30,7 +32,7 @@ const COORDINATE_TABLE: u64 = 7;
 
 // A clause, a table and a row, counted from 0; a clause of 0 is no fault.
 #[repr(C)]
-#[derive(Drop)]
+#[derive(Clone, Copy)]
 pub struct Fault {
     pub clause: u64,
     pub table: u64,

@@ -1,4 +1,6 @@
 // A row of a table found by its id.
+#![tactic(auto)]
+
 ghost use Rattle.std.specs.Prelude.{◌≡◌, true, ◌*◌, ◌≤◌, ◌<◌, length};
 ghost use Rattle.lists.specs.Select.{ascending};
 ghost use Rattle.lists.specs.Rows.{keys, row_with, Among};

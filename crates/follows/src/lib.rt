@@ -1,5 +1,7 @@
 // edit/split.rs: rules where lanes are cut. A rule's own lanes follow its anchor: the second half takes the place of the first where the anchor lies past the
 // cut; without an anchor it comes behind the first. Those that have priority and those that yield gain the second halves.
+#![tactic(auto)]
+
 ghost use Rattle.std.specs.Prelude.{◌≡◌, true, ◌+◌, ◌≤◌, ◌<◌, length, take};
 ghost use Rattle.lists.specs.Rows.{over};
 ghost use Rattle.lists.specs.Select.{any, ascending, has};

@@ -1,4 +1,6 @@
 // Rows of a table that forget a lane.
+#![tactic(auto)]
+
 ghost use Rattle.std.specs.Prelude.{◌≡◌, true, ◌+◌, ◌*◌, ◌≤◌, length};
 ghost use Rattle.tables.specs.Formed.{lane_formed, rule_formed};
 ghost use Rattle.store.specs.Rows.{on_rows};

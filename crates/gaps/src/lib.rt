@@ -1,4 +1,6 @@
 // The gap between two lanes, of which connect warns.
+#![tactic(auto)]
+
 ghost use Rattle.std.specs.Prelude.{◌≡◌, true, ◌<◌};
 ghost use Rattle.rules.specs.Edit as E;
 ghost use Rattle.tables.specs.View.{word, lane_of};

@@ -1,4 +1,6 @@
 // The layout by way of a copy of the coordinates, in an array of work that is as large as the map asks.
+#![tactic(auto)]
+
 ghost use Rattle.std.specs.Prelude.{◌≡◌, ◌*◌, ◌≤◌, length};
 ghost use Rattle.layout.specs.Layout.{sourced, gathered, line_tables, Gatherable};
 

@@ -1,4 +1,6 @@
 // Lines gathered through an array of work that holds every map's points; `gathers` has the array for small maps.
+#![tactic(auto)]
+
 ghost use Rattle.std.specs.Prelude.{◌≡◌, ◌*◌, ◌≤◌, length};
 ghost use Rattle.layout.specs.Layout.{sourced, gathered, line_tables, Gatherable};
 

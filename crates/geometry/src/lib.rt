@@ -1,4 +1,6 @@
 // geometry/mod.rs: points by value. Every operation is the IEEE one, in the order of the Rust.
+#![tactic(auto)]
+
 ghost use Rattle.std.specs.Prelude.{◌≡◌};
 ghost use Rattle.std.specs.Float.Ieee.{add, sub, mul};
 ghost use Rattle.std.specs.Float.Ieee.Scale.{finite};
@@ -9,14 +11,14 @@ ghost use Rattle.root.specs.Begun.{Unfinished};
 use root::Begun;
 
 // A point or a vector in the plane.
-#[derive(Drop)]
+#[derive(Clone, Copy)]
 pub struct Point2 {
     pub x: f64,
     pub y: f64,
 }
 
 // A point or a vector in space.
-#[derive(Drop)]
+#[derive(Clone, Copy)]
 pub struct Point3 {
     pub x: f64,
     pub y: f64,
@@ -24,7 +26,7 @@ pub struct Point3 {
 }
 
 // A direction: of a zero vector there is none.
-#[derive(Drop)]
+#[derive(Clone, Copy)]
 pub enum Heading {
     Zero,
     Unit(Point2),

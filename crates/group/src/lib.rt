@@ -1,4 +1,6 @@
 // The lateral group: every lane reached from one through neighbour slots.
+#![tactic(auto)]
+
 ghost use Rattle.std.specs.Prelude.{◌≡◌, true, not, map, ◌⊎◌, ◌≤◌, ◌<◌, length};
 ghost use Rattle.lists.specs.Every.{all};
 ghost use Rattle.lists.specs.Select.{has};

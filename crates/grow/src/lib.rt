@@ -1,4 +1,6 @@
 // Lists that grow: each cut lane is followed by its second half.
+#![tactic(auto)]
+
 ghost use Rattle.std.specs.Prelude.{◌≡◌, true, ◌+◌, ◌-◌, ◌^◌, ◌≤◌, ◌<◌, length, get_or, take};
 ghost use Rattle.lists.specs.Select.{keep, has, ascending, with_second, insert_after, numbered, written_behind};
 ghost use Rattle.lists.specs.Rows.{over};
@@ -23,7 +25,7 @@ pub fn count_cut(ids: &[u64], n: usize, cut: &[u64]) -> usize
 }
 
 // Where an id was moved to: the first of its slots, and how many were written.
-#[derive(Drop)]
+#[derive(Clone, Copy)]
 struct Moved {
     to: usize,
     written: usize,
@@ -57,7 +59,7 @@ fn move_up(slots: &mut [u64], i: usize, to: usize, cut: &[u64], next: u64) -> Mo
 }
 
 // What growing a list has left: how many ids it has then, and how many were written.
-#[derive(Drop)]
+#[derive(Clone, Copy)]
 pub struct Grown {
     pub count: usize,
     pub written: usize,

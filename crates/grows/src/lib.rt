@@ -1,5 +1,7 @@
 // edit/split.rs: lists of lanes in rows, that gain each second half after its first: roads, junctions, and of a right of way those that have priority and those
 // that yield.
+#![tactic(auto)]
+
 ghost use Rattle.std.specs.Prelude.{◌≡◌, true, suc, ◌+◌, ◌≤◌, length};
 ghost use Rattle.store.specs.Rows.{on_rows};
 ghost use Rattle.grows.specs.Growing as G;

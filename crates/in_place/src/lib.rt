@@ -1,5 +1,7 @@
 // Lines brought to their places within the coordinates, where they lie in order already, as every split and merge leaves them. What lies behind its place is
 // moved first, from the front on; then what lies before its place and what is drawn anew, from the back on: no line is overwritten before it is moved.
+#![tactic(auto)]
+
 ghost use Rattle.std.specs.Prelude.{◌≡◌, true, ◌+◌, ◌-◌, ◌*◌, ◌/◌, ◌≤◌, ◌<◌, length, take, drop};
 ghost use Rattle.lists.specs.Rows.{over};
 ghost use Rattle.in_place.specs.Settle as D;

@@ -1,4 +1,6 @@
 // A job of several edits (document 02, (a)): either all are made or the map stays as it was.
+#![tactic(auto)]
+
 ghost use Rattle.std.specs.Prelude.{◌≡◌};
 ghost use Rattle.tables.specs.View.{tables_of};
 ghost use Rattle.step.specs.Step as S;
@@ -11,7 +13,7 @@ use job_decided::JobEnd;
 use jobs::{Job, JobAnswer, MAX_EDITS};
 
 // What the tests before the first edit come to.
-#[derive(Drop)]
+#[derive(Clone, Copy)]
 enum First {
     Passed,
     Refused(JobAnswer),

@@ -1,4 +1,6 @@
 // What a job comes to once its edits have run: refused at one of them, made, or refused because its net lists do not fit.
+#![tactic(auto)]
+
 ghost use Rattle.std.specs.Prelude.{◌≡◌, [], length};
 ghost use Rattle.tables.specs.View.{tables_of};
 ghost use Rattle.job_decided.specs.Decided as D;
@@ -7,7 +9,7 @@ use job_run::Ran;
 use jobs::JobAnswer;
 
 // What a job leaves of the counter, and its answer.
-#[derive(Drop)]
+#[derive(Clone, Copy)]
 pub struct JobEnd {
     pub counter: u64,
     pub answer: JobAnswer,

@@ -1,4 +1,6 @@
 // A job that has passed its first tests: its edits made in place, the net lists, and the way back where it is refused.
+#![tactic(auto)]
+
 ghost use Rattle.std.specs.Prelude.{◌≡◌, true, ◌≤◌, length};
 ghost use Rattle.tables.specs.View.{tables_of};
 ghost use Rattle.tables.specs.Formed.{sound_tables};

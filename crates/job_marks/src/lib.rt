@@ -1,4 +1,6 @@
 // What some edit of a job lists as modified, marked by the rows of the old tables.
+#![tactic(auto)]
+
 ghost use Rattle.std.specs.Prelude.{◌≡◌, true, [], ◌+◌, ◌*◌, ◌≤◌, ◌<◌, length};
 ghost use Rattle.tables.specs.View.{tables_of, word};
 ghost use Rattle.lookup.specs.Lookup.{sorted_table};

@@ -1,4 +1,6 @@
 // The net lists of a job, read off the tables of its two ends. Ids ascend in both, so that one walk through the two finds what only one of them has.
+#![tactic(auto)]
+
 ghost use Rattle.std.specs.Prelude.{◌≡◌, true, [], ◌∷◌, ◌+◌, ◌*◌, ◌≤◌, ◌<◌, eqb, ltb, length, drop, get_or, ◌&&◌};
 ghost use Rattle.lists.specs.Rows.{keys, over};
 ghost use Rattle.lists.specs.Select.{each};

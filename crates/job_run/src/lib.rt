@@ -1,4 +1,6 @@
 // The edits of a job one after the other on lent memory.
+#![tactic(auto)]
+
 ghost use Rattle.std.specs.Prelude.{◌≡◌, true, [], ◌≤◌, length};
 ghost use Rattle.tables.specs.View.{tables_of};
 ghost use Rattle.tables.specs.Formed.{sound_tables};
@@ -12,7 +14,7 @@ use job_turn::Turn;
 use jobs::Job;
 
 // What a run comes to: the edit that was refused, its place counted from 1, or the counter behind all edits and how many warnings there are.
-#[derive(Drop)]
+#[derive(Clone, Copy)]
 pub enum Ran {
     Stopped { place: u64, refusal: Refusal },
     Done { counter: u64, warnings: usize },

@@ -1,1 +1,2 @@
 // A job on lent memory: definitions and theorems, no code.
+#![tactic(auto)]

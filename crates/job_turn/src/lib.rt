@@ -1,4 +1,6 @@
 // One edit of a job on a sound map. The lists that it is lent are not the host's: they are long enough for every edit (crate `list_limits`).
+#![tactic(auto)]
+
 ghost use Rattle.std.specs.Prelude.{◌≡◌, true, [], ◌+◌, ◌*◌, ◌^◌, ◌≤◌, ◌<◌, length};
 ghost use Rattle.report.specs.Report.{counter_behind};
 ghost use Rattle.tables.specs.View.{tables_of};
@@ -16,7 +18,7 @@ pub const ENTITY_LIST: usize = 13568;
 pub const MOST_WARNINGS: usize = 2048;
 
 // What an edit answers: its refusal, or the counter behind it and how many warnings it has.
-#[derive(Drop)]
+#[derive(Clone, Copy)]
 pub enum Turn {
     Stopped(Refusal),
     Done { counter: u64, warnings: usize },

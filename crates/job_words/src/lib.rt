@@ -1,4 +1,6 @@
 // A job and its answer as a host's numbers.
+#![tactic(auto)]
+
 ghost use Rattle.std.specs.Prelude.{◌≡◌, ◌*◌, ◌<◌, drop};
 ghost use Rattle.words.specs.Words.{command_of};
 ghost use Rattle.job_words.specs.JobWords as W;
@@ -13,7 +15,7 @@ const EDITS: usize = 64;
 // An answer: the papers' number, the place of a refused edit, counted from 1, and its own number, the entity that it names (kind + 1 and id, or 0 and 0), the
 // four counts, and the counter behind the call.
 #[repr(C)]
-#[derive(Drop)]
+#[derive(Clone, Copy)]
 pub struct ToldJob {
     pub number: u64,
     pub place: u64,

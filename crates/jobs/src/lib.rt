@@ -1,4 +1,6 @@
 // A job of several edits (document 02, (a)): the job itself and its answer, by value.
+#![tactic(auto)]
+
 ghost use Rattle.std.specs.Prelude.{◌≡◌};
 ghost use Rattle.jobs.specs.Answers as J;
 
@@ -8,20 +10,20 @@ use report::Counts;
 // "up to 64 edits"
 pub const MAX_EDITS: u64 = 64;
 
-#[derive(Drop)]
+#[derive(Clone, Copy)]
 pub struct Edit {
     pub command: Command,
 }
 
 // The first `count` of the edits, in order. A count above 64 is refused.
-#[derive(Drop)]
+#[derive(Clone, Copy)]
 pub struct Job {
     pub count: u64,
     pub edits: [Edit; 64],
 }
 
 // What a job answers: the counts of its net lists, or why it was not made. A refused edit has its place in the job, counted from 1.
-#[derive(Drop)]
+#[derive(Clone, Copy)]
 pub enum JobAnswer {
     Made(Counts),
     TooManyEdits,

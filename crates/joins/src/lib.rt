@@ -1,4 +1,6 @@
 // geometry/polyline.rs: lines turned round and joined. Each is written to the front of a lent part, as `polyline` says.
+#![tactic(auto)]
+
 ghost use Rattle.std.specs.Prelude.{◌≡◌, ◌+◌, ◌*◌, ◌≤◌, ◌<◌, ◌^◌, length, drop, reverse};
 ghost use Rattle.lists.specs.Rows.{over};
 ghost use Rattle.polyline.specs.Polyline as L;

@@ -1,4 +1,6 @@
 // map.rs: the lines of a lane. A boundary is read along it or written, and so is the centreline, each to the front of a lent part.
+#![tactic(auto)]
+
 ghost use Rattle.std.specs.Prelude.{◌≡◌, true, cond, ◌+◌, ◌*◌, ◌≤◌, ◌<◌, reverse, length};
 ghost use Rattle.lists.specs.Rows.{over};
 ghost use Rattle.polyline.specs.Polyline.{points, flat};

@@ -1,4 +1,6 @@
 // edit/lane.rs: the parts of remove_lane: what names a lane and what goes with it listed, its warnings, and the tables without it.
+#![tactic(auto)]
+
 ghost use Rattle.std.specs.Prelude.{◌≡◌, true, map, ◌+◌, ◌*◌, ◌≤◌, ◌<◌, length};
 ghost use Rattle.rules.specs.Edit.{when};
 ghost use Rattle.lookup.specs.Lookup.{sorted_table};

@@ -1,4 +1,6 @@
 // Every line of a map brought to its place in the order of a layout, whichever way is quickest.
+#![tactic(auto)]
+
 ghost use Rattle.std.specs.Prelude.{◌≡◌};
 ghost use Rattle.layout.specs.Layout as L;
 ghost use Rattle.in_place.specs.Settle.{Layable};

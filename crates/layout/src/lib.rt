@@ -1,5 +1,7 @@
 // Where lines lie after a split or a merge: all lines are laid out anew, one after another. They are taken from a copy of the coordinates, so that no line is
 // overwritten before it is copied, and from the lines that the edit has drawn: the rows point to those as if they lay behind the copy.
+#![tactic(auto)]
+
 ghost use Rattle.std.specs.Prelude.{◌≡◌, true, suc, ◌+◌, ◌-◌, ◌*◌, ◌/◌, ◌≤◌, ◌<◌, min, length, set, take, drop};
 ghost use Rattle.lists.specs.Rows.{over};
 ghost use Rattle.tables.specs.View.{word, part};

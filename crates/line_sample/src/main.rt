@@ -1,5 +1,7 @@
 // Replays the oracle's calls of the line functions, a stored stream of which is in data/lines.bin (oracle/FORMAT.md, "Lines"): makes each call
 // and compares the answer bit by bit, a NaN with any NaN. It writes for each function how many calls agreed and how many differ.
+#![tactic(auto)]
+
 ghost use Rattle.std.specs.Prelude.{◌<◌, ◌^◌, ◌≤◌, ◌≡◌, length};
 ghost use Rattle.io.specs.Counts.{IsPrefixLen};
 ghost use Rattle.std.specs.Float.{binary64};
@@ -12,20 +14,20 @@ use polyline::{Located, NearestPoint, OptionNearest, OptionPoint3};
 // ---- the stream (oracle/FORMAT.md, "Lines"), read front to back, and its answers compared with ours. Past the end all bytes are 0, and the place stays at the end.
 
 // The place in the stream, and whether all that was compared of a call agreed.
-#[derive(Drop)]
+#[derive(Clone, Copy)]
 struct Cursor {
     at: usize,
     same: bool,
 }
 
-#[derive(Drop)]
+#[derive(Clone, Copy)]
 struct Taken {
     value: usize,
     next: Cursor,
 }
 
 // How many floats were read, and the place behind them.
-#[derive(Drop)]
+#[derive(Clone, Copy)]
 struct Part {
     floats: usize,
     at: usize,
@@ -703,7 +705,7 @@ fn report(counts: &[u64]) {
 }
 
 // What stands before the groups.
-#[derive(Drop)]
+#[derive(Clone, Copy)]
 struct Opening {
     form: usize,
     groups: usize,

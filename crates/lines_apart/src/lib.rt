@@ -1,4 +1,6 @@
 // Whether no two lines of the tables share points.
+#![tactic(auto)]
+
 ghost use Rattle.std.specs.Prelude.{◌≡◌, true, false, ◌+◌, ◌*◌, ◌≤◌, ◌<◌, length};
 ghost use Rattle.lists.specs.Every.{all};
 ghost use Rattle.lists.specs.Select.{each};

@@ -2,6 +2,8 @@
 //
 // Links are met in one pass over the successors, lanes ascending: a lane then comes to each of its successors' predecessors in their order. A cursor for every
 // lane says how many of its predecessors were met. The next link to it must find its lane there, and at the end every cursor is at its list's end.
+#![tactic(auto)]
+
 ghost use Rattle.std.specs.Prelude.{◌≡◌, true, ◌&&◌, ◌⊎◌, ◌+◌, ◌<◌, length, get_or};
 ghost use Rattle.lists.specs.Every.{all};
 ghost use Rattle.lists.specs.Select.{same_numbers};

@@ -1,4 +1,6 @@
 // Lists and rows in lent words. A list is a slice whole; a table's rows are cut from it by their length.
+#![tactic(auto)]
+
 ghost use Rattle.std.specs.Prelude.{◌≡◌, true, false, ◌&&◌, ◌-◌, ◌*◌, ◌≤◌, ◌<◌, leb, eqb, length, take};
 ghost use Rattle.lists.specs.Every.{all};
 ghost use Rattle.lists.specs.Select.{keep, has, ascending};
@@ -69,7 +71,7 @@ pub fn keys_ascend(rows: &[u64], s: usize, n: usize) -> bool
 }
 
 // A row's place among the rows of a table.
-#[derive(Drop)]
+#[derive(Clone, Copy)]
 pub enum Found {
     At(usize),
     Nothing,

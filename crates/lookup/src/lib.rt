@@ -1,5 +1,7 @@
 // map.rs: look-ups by id, stored lines and the links of a lane, in lent tables. `lane_lines` has the lines along a lane, `uses` the lanes that use a
 // boundary, `anchors` the anchors of rules.
+#![tactic(auto)]
+
 ghost use Rattle.std.specs.Prelude.{◌≡◌, true, ◌+◌, ◌*◌, ◌≤◌, ◌<◌, length, get_or, drop};
 ghost use Rattle.lists.specs.Rows.{keys};
 ghost use Rattle.lists.specs.Select.{ascending};
@@ -17,20 +19,20 @@ use tables::{
 };
 
 // How many points a line has, where there is one.
-#[derive(Drop)]
+#[derive(Clone, Copy)]
 pub enum OptionCount {
     None,
     Some(usize),
 }
 
 // The length of a line, where there is one.
-#[derive(Drop)]
+#[derive(Clone, Copy)]
 pub enum OptionLength {
     None,
     Some(f64),
 }
 
-#[derive(Drop)]
+#[derive(Clone, Copy)]
 pub enum OptionPoint2 {
     None,
     Some(Point2),

@@ -1,4 +1,6 @@
 // Rows of a table that name a lane: how many there are, and their list. `forgets` and `replaces` have what they become when the lane goes or reads as another.
+#![tactic(auto)]
+
 ghost use Rattle.std.specs.Prelude.{◌≡◌, true, [], ◌∷◌, ◌+◌, ◌*◌, ◌≤◌, length};
 ghost use Rattle.lists.specs.Rows.{over};
 ghost use Rattle.lists.specs.Select.{has, each};
@@ -18,7 +20,7 @@ use tables::{
 };
 
 // The tables whose rows name lanes; of rules also those alone that a lane's going leaves with no lane.
-#[derive(Drop)]
+#[derive(Clone, Copy)]
 pub enum Rows {
     Lanes,
     Roads,

@@ -1,4 +1,6 @@
 // edit/merge.rs: what a merge decides before anything is written: how each side and the centreline are joined, and what is told of what two lanes have apart. Lines are not drawn here: a joined line's points are counted from the two lines' own.
+#![tactic(auto)]
+
 ghost use Rattle.std.specs.Prelude.{◌≡◌, true, [], ◌<◌};
 ghost use Rattle.rules.specs.Map.{neighbor_on};
 ghost use Rattle.rules.specs.Merge as M;

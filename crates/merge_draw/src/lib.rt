@@ -1,5 +1,7 @@
 // edit/merge.rs: the lines, boundaries and lanes of a merge, written once all is decided. New lines are drawn into an array of work behind a copy of the
 // coordinates, the rows point there, and the layout brings every line to its place.
+#![tactic(auto)]
+
 ghost use Rattle.std.specs.Prelude.{◌≡◌, ◌+◌, ◌*◌, ◌≤◌, length};
 ghost use Rattle.lists.specs.Rows.{over};
 ghost use Rattle.polyline.specs.Polyline.{flat};
@@ -16,7 +18,7 @@ const JOINED_FLOATS: usize = 1536;
 
 // What the first lane takes over, each where there is one: a new boundary on the left and another on the right, and the joined centreline, which lies at a
 // point of the work array.
-#[derive(Drop)]
+#[derive(Clone, Copy)]
 pub struct Taken {
     pub left: bool,
     pub boundary: u64,

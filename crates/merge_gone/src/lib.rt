@@ -1,4 +1,6 @@
 // edit/merge.rs: the boundaries that a merge leaves unused. Nothing lent is written.
+#![tactic(auto)]
+
 ghost use Rattle.std.specs.Prelude.{◌≡◌, true, ◌||◌, ◌+◌, ◌*◌, ◌≤◌, ◌<◌, length, take};
 ghost use Rattle.lists.specs.Rows.{over};
 ghost use Rattle.lists.specs.Select.{ascending};
@@ -12,7 +14,7 @@ use merge_plan::{Joined, is_fresh};
 use tables::LANE;
 
 // Both sides of the first lane: how each is merged, and its boundary.
-#[derive(Drop)]
+#[derive(Clone, Copy)]
 pub struct Sides {
     pub left: Joined,
     pub left_id: u64,

@@ -1,4 +1,6 @@
 // edit/merge.rs: the change set of a merge, in the lists that are lent for it.
+#![tactic(auto)]
+
 ghost use Rattle.std.specs.Prelude.{◌≡◌, true, ◌+◌, ◌*◌, ◌^◌, ◌≤◌, ◌<◌, length, take};
 ghost use Rattle.lists.specs.Rows.{over};
 ghost use Rattle.lists.specs.Select.{ascending};
@@ -13,7 +15,7 @@ use merge_plan::Joined;
 use report::Notice;
 
 // What a merge warns of, in the order raised: attributes that differ, the neighbours that are dropped left and right, the new boundaries left and right.
-#[derive(Drop)]
+#[derive(Clone, Copy)]
 pub struct Notices {
     pub conflict: Notice,
     pub left: Notice,

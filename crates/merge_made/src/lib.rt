@@ -1,4 +1,6 @@
 // edit/merge.rs: a merge whose sides are planned: ids and room, then the lists are written, then the tables.
+#![tactic(auto)]
+
 ghost use Rattle.std.specs.Prelude.{◌≡◌, ◌+◌, ◌*◌, ◌≤◌, length};
 ghost use Rattle.report.specs.Report.{counter_behind};
 ghost use Rattle.step.specs.Step as S;

@@ -1,4 +1,6 @@
 // edit/merge.rs: what a merge warns of.
+#![tactic(auto)]
+
 ghost use Rattle.std.specs.Prelude.{◌≡◌, ◌+◌, ◌*◌, ◌^◌, ◌≤◌, ◌<◌, length};
 ghost use Rattle.report.specs.Report.{issues, warned};
 ghost use Rattle.merge_plan.specs.Sides.{side_ids};

@@ -1,4 +1,6 @@
 // edit/merge.rs: what a merge decides before anything is written. Lines are not drawn here: a joined line's points are counted from the two lines' own.
+#![tactic(auto)]
+
 ghost use Rattle.std.specs.Prelude.{◌≡◌, true, [], ◌<◌};
 ghost use Rattle.tables.specs.View.{word};
 ghost use Rattle.lookup.specs.Lookup as K;
@@ -11,28 +13,28 @@ use lookup::OptionCount;
 use tables::LANE;
 
 // How a side of two lanes is merged; of a joined line, the number of its points.
-#[derive(Drop)]
+#[derive(Clone, Copy)]
 pub enum Joined {
     Kept,
     InPlace(usize),
     Fresh(usize),
 }
 
-#[derive(Drop)]
+#[derive(Clone, Copy)]
 pub enum SidePlanned {
     Refused(Refusal),
     Joins(Joined),
 }
 
 // Both sides, and how many points the joined explicit centreline has, where there is one.
-#[derive(Drop)]
+#[derive(Clone, Copy)]
 pub struct Plan {
     pub left: Joined,
     pub right: Joined,
     pub center: OptionCount,
 }
 
-#[derive(Drop)]
+#[derive(Clone, Copy)]
 pub enum Planned {
     Refused(Refusal),
     Merges(Plan),

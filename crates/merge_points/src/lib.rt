@@ -1,4 +1,6 @@
 // How many points the map has after a merge. The Rust counts none: room is lent here.
+#![tactic(auto)]
+
 ghost use Rattle.std.specs.Prelude.{◌≡◌, true, ◌+◌, ◌*◌, ◌≤◌, ◌<◌, length};
 ghost use Rattle.lookup.specs.Lookup as K;
 ghost use Rattle.merge_plan.specs.Sides.{side_points, center_points};

@@ -1,5 +1,7 @@
 // edit/merge.rs: the lines of a merge. Joined lines are drawn into an array of work; `merge_rows` has the rows point there, and `merge_relay` has the layout bring
 // every line to its place.
+#![tactic(auto)]
+
 ghost use Rattle.std.specs.Prelude.{◌≡◌, true, ◌+◌, ◌*◌, ◌≤◌, ◌<◌, length};
 ghost use Rattle.lists.specs.Rows.{over};
 ghost use Rattle.tables.specs.View.{word};
@@ -12,7 +14,7 @@ use merge_plan::{Joined, Plan, is_some, side_points};
 use tables::POINT;
 
 // What a side does to the table of boundaries: the boundary of the first lane, and of a new one the id, and kind and attributes of the first lane's.
-#[derive(Drop)]
+#[derive(Clone, Copy)]
 pub struct Redrawn {
     pub plan: Joined,
     pub boundary: u64,

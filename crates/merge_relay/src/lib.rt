@@ -1,4 +1,6 @@
 // edit/merge.rs: the tables with lines after a merge: lines drawn by `merge_redraw`, rows written by `merge_rows`, all brought to their places by `lay_out`.
+#![tactic(auto)]
+
 ghost use Rattle.std.specs.Prelude.{◌≡◌, length};
 ghost use Rattle.layout.specs.Layout as L;
 ghost use Rattle.merge_redraw.specs.Relaying as W;

@@ -1,4 +1,6 @@
 // Whether the map after a merge keeps the limits and the lent lengths. The Rust asks for none of it: its memory grows.
+#![tactic(auto)]
+
 ghost use Rattle.std.specs.Prelude.{◌≡◌, true, ◌+◌, ◌<◌};
 ghost use Rattle.lists.specs.Rows.{over};
 ghost use Rattle.tables.specs.View.{word};

@@ -1,4 +1,6 @@
 // edit/merge.rs: the rows of boundaries and lanes after a merge: those that go, those that point to a joined line, and the new ones.
+#![tactic(auto)]
+
 ghost use Rattle.std.specs.Prelude.{◌≡◌, true, ◌+◌, ◌*◌, ◌^◌, ◌≤◌, ◌<◌, length};
 ghost use Rattle.tables.specs.View.{word, ids_at};
 ghost use Rattle.tables.specs.Formed.{counted};

@@ -1,4 +1,6 @@
 // edit/merge.rs: the rows of boundaries and lanes after a merge.
+#![tactic(auto)]
+
 ghost use Rattle.std.specs.Prelude.{◌≡◌, true, [], ◌∷◌, ◌+◌, ◌*◌, ◌≤◌, length};
 ghost use Rattle.tables.specs.View.{word};
 ghost use Rattle.tables.specs.Formed.{counted};

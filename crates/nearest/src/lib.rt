@@ -1,4 +1,6 @@
 // geometry/polyline.rs: the nearest point of a line, in two dimensions.
+#![tactic(auto)]
+
 ghost use Rattle.std.specs.Prelude.{◌≡◌, ◌+◌, ◌*◌, ◌<◌, true, false};
 ghost use Rattle.polyline.specs.Polyline as L;
 ghost use Rattle.polyline.specs.Polyline.{points};

@@ -1,4 +1,6 @@
 // topology.rs: a neighbour set, with its answer.
+#![tactic(auto)]
+
 ghost use Rattle.std.specs.Prelude.{◌≡◌, true, ◌+◌, ◌*◌, ◌<◌};
 ghost use Rattle.std.proofs.Math.Option.{some};
 ghost use Rattle.entities.specs.Types.{reciprocal_side};

@@ -1,4 +1,6 @@
 // The report of connect, disconnect and set_neighbor: the lanes that they name as modified, and two notices at most.
+#![tactic(auto)]
+
 ghost use Rattle.std.specs.Prelude.{◌≡◌, true, ◌++◌, ◌+◌, length};
 ghost use Rattle.rules.specs.Names.{LaneKind};
 ghost use Rattle.rules.specs.Edit as E;

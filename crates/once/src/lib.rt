@@ -1,4 +1,6 @@
 // Whether no id stands twice in a list, in any order and whether its lanes are there or not.
+#![tactic(auto)]
+
 ghost use Rattle.std.specs.Prelude.{◌≡◌, ◌&&◌, leb};
 ghost use Rattle.lists.specs.Every.{all};
 ghost use Rattle.lists.specs.Select.{distinct};

@@ -1,4 +1,6 @@
 // ops.rs: a command made on lent memory. The map is tested once, whatever the command; then the edit is made.
+#![tactic(auto)]
+
 ghost use Rattle.report.specs.Report.{counter_behind};
 ghost use Rattle.step.specs.Step as S;
 ghost use Rattle.ops.specs.Calls.{Applied};

@@ -1,5 +1,7 @@
 // Whether the lines of a map lie in the order of a layout, as every split and merge leaves them: boundaries, centrelines, stop lines, crosswalks' left edges,
 // their right edges. Rows may point to lines that are drawn anew, behind point `reach`; those have no part in it.
+#![tactic(auto)]
+
 ghost use Rattle.std.specs.Prelude.{◌≡◌, true, [], ◌+◌, ◌*◌, ◌≤◌, length};
 ghost use Rattle.lists.specs.Every.{all};
 ghost use Rattle.tables.specs.Formed.{spans, counted};

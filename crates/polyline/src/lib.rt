@@ -1,6 +1,8 @@
 // geometry/polyline.rs: the line functions that the edits reach. A line is a part of the coordinates, three floats a point. Here a line is read;
 // `nearest`, `stations` and `joins` have the rest. A function that makes a line writes it to the front of a lent part and answers how many points it
 // wrote; its `_points` tells that number beforehand. What lies past the written points stays.
+#![tactic(auto)]
+
 ghost use Rattle.std.specs.Prelude.{◌≡◌, ◌+◌, ◌*◌, ◌≤◌, ◌<◌, length, get_or, [], ◌∷◌};
 ghost use Rattle.lists.specs.Rows.{over};
 ghost use Rattle.polyline.specs.Polyline as L;
@@ -11,20 +13,20 @@ use geometry::Point3;
 // Floats in a point.
 const POINT: usize = 3;
 
-#[derive(Drop)]
+#[derive(Clone, Copy)]
 pub enum OptionPoint3 {
     None,
     Some(Point3),
 }
 
 // A place on a line: a segment, and how far along it from 0 to 1.
-#[derive(Drop)]
+#[derive(Clone, Copy)]
 pub enum Located {
     Nothing,
     At(usize, f64),
 }
 
-#[derive(Drop)]
+#[derive(Clone, Copy)]
 pub struct NearestPoint {
     pub point: Point3,
     pub distance: f64,
@@ -32,7 +34,7 @@ pub struct NearestPoint {
     pub segment: usize,
 }
 
-#[derive(Drop)]
+#[derive(Clone, Copy)]
 pub enum OptionNearest {
     None,
     Some(NearestPoint),

@@ -1,4 +1,6 @@
 // Where an id stands in an ascending list of ids. Most that are looked for lie outside the list, so its ends are tried first.
+#![tactic(auto)]
+
 ghost use Rattle.std.specs.Prelude.{◌≡◌, true, length};
 ghost use Rattle.lists.specs.Rows.{keys, row_with};
 ghost use Rattle.lists.specs.Select.{ascending};

@@ -1,4 +1,6 @@
 // Up to where the lines of a map reach, in points.
+#![tactic(auto)]
+
 ghost use Rattle.std.specs.Prelude.{◌≡◌, true, [], ◌+◌, ◌*◌, ◌≤◌, max, length, take, drop};
 ghost use Rattle.lists.specs.Every.{all};
 ghost use Rattle.tables.specs.Formed.{spans, counted};

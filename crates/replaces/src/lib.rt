@@ -1,4 +1,6 @@
 // Rules that name one lane in place of another.
+#![tactic(auto)]
+
 ghost use Rattle.std.specs.Prelude.{◌≡◌, true, ◌+◌, ◌*◌, ◌≤◌, length};
 ghost use Rattle.tables.specs.View.{word};
 ghost use Rattle.tables.specs.Formed.{rule_formed};

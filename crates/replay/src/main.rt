@@ -1,5 +1,7 @@
 // Replays stored calls and jobs on stored maps (data/calls.bin and data/jobs.bin; oracle/FORMAT.md), and writes for each the answer's numbers and a digest of
 // all that was lent. What it must write, `stdout`, is the oracle's, made of the Rust's answers.
+#![tactic(auto)]
+
 ghost use Rattle.std.specs.Prelude.{◌≤◌};
 
 use entities::{Counter, Tolerance};
@@ -15,7 +17,7 @@ use words::{COMMAND, Told};
 const PATTERN: u64 = 0xA5A5_5A5A_A5A5_5A5A;
 
 // The counter and the place behind a call.
-#[derive(Drop)]
+#[derive(Clone, Copy)]
 struct Behind {
     counter: u64,
     next: usize,
@@ -37,7 +39,7 @@ fn lent(row: &[u64], k: usize, words: usize, most: usize) -> usize
 }
 
 // The words lent for the four lists.
-#[derive(Drop)]
+#[derive(Clone, Copy)]
 struct Lists {
     created: usize,
     modified: usize,

@@ -1,4 +1,6 @@
 // diagnostics.rs and the change set of edit/mod.rs: what an accepted edit writes into the lists that are lent for its answer.
+#![tactic(auto)]
+
 ghost use Rattle.std.specs.Prelude.{◌≡◌, true, cond, ◌+◌, ◌*◌, ◌^◌, ◌≤◌, ◌<◌, length, take};
 ghost use Rattle.lists.specs.Rows.{over};
 ghost use Rattle.lists.specs.Select.{each, place, ascending};
@@ -14,7 +16,7 @@ pub const ENTITY: usize = 2;
 pub const WARNING: usize = 10;
 
 // How many places of each lent list an accepted call has filled: pairs of words, and rows of ten for warnings.
-#[derive(Drop)]
+#[derive(Clone, Copy)]
 pub struct Counts {
     pub created: usize,
     pub modified: usize,
@@ -23,7 +25,7 @@ pub struct Counts {
 }
 
 // What a call answers: a change, a change by a split with the second half of its lane, or a refusal.
-#[derive(Drop)]
+#[derive(Clone, Copy)]
 pub enum Answer {
     Changed(Counts),
     Split(Counts, u64),
@@ -136,7 +138,7 @@ pub fn list_up(kind: EntityKind, from: u64, n: usize, out: &mut [u64], at: usize
 // ---- warnings
 
 // A warning of one lane or of two, of one boundary, or of one and the two pieces that cut lanes have in its place; or none.
-#[derive(Drop)]
+#[derive(Clone, Copy)]
 pub enum Notice {
     Nothing,
     NoOp(u64),

@@ -1,4 +1,6 @@
 // edit/mod.rs: the two ends of set_neighbor, a slot freed and a slot set.
+#![tactic(auto)]
+
 ghost use Rattle.std.specs.Prelude.{◌≡◌, true, ◌<◌};
 ghost use Rattle.tables.specs.View.{word};
 ghost use Rattle.row_tests.specs.Returned.{searchable};

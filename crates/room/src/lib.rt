@@ -1,4 +1,6 @@
 // The room that an edit asks for: ids, rows, points and places in the lists, each tested on numbers before anything lent is written.
+#![tactic(auto)]
+
 ghost use Rattle.std.specs.Prelude.{◌≡◌, true, ◌+◌, ◌*◌, ◌≤◌, ◌<◌, length};
 ghost use Rattle.rules.specs.Sound.{next_id};
 ghost use Rattle.tables.specs.Formed.{counted};

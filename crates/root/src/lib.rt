@@ -1,5 +1,7 @@
 // The square root of a double: the double nearest the exact root, for every double.
 // A guess in float arithmetic is settled by exact integers, so nothing that is proved rests on the guess.
+#![tactic(auto)]
+
 ghost use Rattle.std.specs.Prelude.{◌≡◌, true, from_bits, Float};
 ghost use Rattle.std.specs.Float.{binary64};
 ghost use Rattle.std.specs.Float.Ieee.{lt, le};
@@ -33,7 +35,7 @@ pub fn sqrt(x: f64) -> f64
 
 // A root that is begun, for a caller that begins the next before it finishes this one: the processor then works on both. Where `a` is below 2 ^ 52
 // the root is known, and is `guess`; else it is the double of the bits `top` and the whole number nearest the root of a * 2 ^ 52.
-#[derive(Drop)]
+#[derive(Clone, Copy)]
 pub struct Begun {
     pub a: u64,
     pub top: u64,

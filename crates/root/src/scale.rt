@@ -8,7 +8,7 @@ use super::HIDDEN;
 const PLACES: u64 = 1074;
 
 // digits * 2 ^ odd * 2 ^ 52 * 4 ^ half.
-#[derive(Drop)]
+#[derive(Clone, Copy)]
 pub struct Parts {
     pub digits: u64,
     pub odd: u64,

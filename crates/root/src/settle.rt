@@ -75,7 +75,7 @@ fn reaches(a: u64, q: u64) -> bool
 }
 
 // high * 2 ^ 52 + low.
-#[derive(Drop)]
+#[derive(Clone, Copy)]
 struct Product {
     high: u64,
     low: u64,

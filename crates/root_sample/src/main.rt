@@ -1,5 +1,7 @@
 // Compares the square root with the processor's own answers, a stored list of which is in data/roots: rows of the bits of x and the bits of
 // its root, eight bytes each, least first. bench/README.md says how the list was made.
+#![tactic(auto)]
+
 ghost use Rattle.std.specs.Prelude.{◌≡◌, true, ◌+◌, ◌*◌, ◌≤◌, ◌<◌, ◌^◌, length};
 ghost use Rattle.std.specs.Float.{binary64};
 ghost use Rattle.std.specs.Float.Ieee.{of_bits, nan_bits};

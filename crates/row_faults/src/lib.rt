@@ -1,4 +1,6 @@
 // Which row of a table fails a clause of soundness first. Clauses and tables are numbered as in specs/Clauses.antt.
+#![tactic(auto)]
+
 ghost use Rattle.std.specs.Prelude.{◌≡◌, true, ◌+◌, ◌<◌, ◌≤◌, length, drop, get_or};
 ghost use Rattle.lists.specs.Rows.{keys};
 ghost use Rattle.tables.specs.View.{rows, word};

@@ -1,5 +1,7 @@
 // The ids of a table's rows, side by side in an array, and the row with an id. They lie close together there, and no step of the search is a jump that the
 // processor could guess wrong: a search does not wait for the one before it.
+#![tactic(auto)]
+
 ghost use Rattle.std.specs.Prelude.{◌≡◌, cond, ◌*◌, ◌≤◌, ◌<◌, ltb, length, take};
 ghost use Rattle.lists.specs.Rows.{keys, row_with};
 ghost use Rattle.row_ids.specs.Listed.{Spare, Listed, Ready};

@@ -1,4 +1,6 @@
 // map.rs: a list of ids in a row: an id taken out or put in its place, or the list written anew.
+#![tactic(auto)]
+
 ghost use Rattle.std.specs.Prelude.{◌≡◌, true, false, ◌+◌, ◌≤◌, ◌<◌, length};
 ghost use Rattle.lists.specs.Select as L;
 ghost use Rattle.lists.specs.Select.{without, has, ascending};

@@ -1,4 +1,6 @@
 // The first lane whose links, or whose neighbours, do not name it back: a search for each.
+#![tactic(auto)]
+
 ghost use Rattle.std.specs.Prelude.{◌≡◌, true, ◌⊎◌, ◌+◌, ◌*◌, ◌<◌};
 ghost use Rattle.lists.specs.Every.{all};
 ghost use Rattle.tables.specs.View.{word, rows};

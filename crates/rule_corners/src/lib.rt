@@ -1,1 +1,2 @@
 // The corners of document 01, computed by the rules.
+#![tactic(auto)]

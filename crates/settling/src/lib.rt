@@ -1,4 +1,6 @@
 // Lines brought to their places within the coordinates, table by table.
+#![tactic(auto)]
+
 ghost use Rattle.std.specs.Prelude.{◌≡◌, true, [], ◌+◌, ◌-◌, ◌*◌, ◌/◌, ◌^◌, ◌≤◌, ◌<◌, length};
 ghost use Rattle.tables.specs.Formed.{spans, counted};
 ghost use Rattle.layout.specs.Layout as L;

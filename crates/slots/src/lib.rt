@@ -1,4 +1,6 @@
 // Lists in lent words written: ids put in, taken out, replaced and moved.
+#![tactic(auto)]
+
 ghost use Rattle.std.specs.Prelude.{◌≡◌, true, false, cond, [], ◌∷◌, ◌++◌, map, ◌+◌, ◌-◌, ◌≤◌, ◌<◌, eqb, length, take, drop};
 ghost use Rattle.lists.specs.Select.{has, ascending, place, without};
 ghost use Rattle.lists.specs.Rows.{over};

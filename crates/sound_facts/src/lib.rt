@@ -1,1 +1,2 @@
 // What edits know of a sound map: theorems, no code.
+#![tactic(auto)]

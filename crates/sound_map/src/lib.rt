@@ -1,4 +1,6 @@
 // Map soundness, decided: whether lent tables hold a sound map.
+#![tactic(auto)]
+
 ghost use Rattle.std.specs.Prelude.{◌≡◌, true};
 ghost use Rattle.tables.specs.Formed.{sound_tables};
 ghost use Rattle.tables.specs.View.{tables_of};

@@ -1,4 +1,6 @@
 // The test of soundness: the counts, the rows, the ids, the points, the links and neighbours.
+#![tactic(auto)]
+
 ghost use Rattle.std.specs.Prelude.{◌≡◌, true, ◌<◌};
 ghost use Rattle.tables.specs.Formed.{counted};
 ghost use Rattle.tables.specs.View.{tables_of};

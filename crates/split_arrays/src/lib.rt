@@ -1,4 +1,6 @@
 // edit/split.rs: the arrays in which a split draws its lines, as large as these ask.
+#![tactic(auto)]
+
 ghost use Rattle.std.specs.Prelude.{◌≡◌, ◌≤◌, length};
 ghost use Rattle.layout.specs.Layout as L;
 ghost use Rattle.split_relay.specs.Relaying as W;

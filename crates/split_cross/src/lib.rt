@@ -1,4 +1,6 @@
 // edit/split.rs: whether every boundary of the lanes that are cut crosses the cut.
+#![tactic(auto)]
+
 ghost use Rattle.std.specs.Prelude.{◌≡◌, true, ◌≤◌, ◌<◌, length};
 ghost use Rattle.tables.specs.View.{word};
 ghost use Rattle.lookup.specs.Lookup as K;

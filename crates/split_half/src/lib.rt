@@ -1,4 +1,6 @@
 // edit/split.rs: the centrelines of a lane's halves, before anything is written, and whether the anchor of a rule lies past the cut on both joined.
+#![tactic(auto)]
+
 ghost use Rattle.std.specs.Prelude.{◌≡◌, ◌*◌, ◌≤◌, length};
 ghost use Rattle.lists.specs.Rows.{over};
 ghost use Rattle.polyline.specs.Polyline.{points, flat};

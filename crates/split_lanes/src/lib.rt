@@ -1,4 +1,6 @@
 // edit/split.rs: the table of lanes after a split.
+#![tactic(auto)]
+
 ghost use Rattle.std.specs.Prelude.{◌≡◌, true, ◌+◌, ◌*◌, ◌≤◌, ◌<◌, length};
 ghost use Rattle.lists.specs.Rows.{over};
 ghost use Rattle.tables.specs.Formed.{counted, lane_formed};

@@ -1,5 +1,7 @@
 // edit/split.rs: the lines of the pieces, of boundaries and of explicit centrelines: each is cut at its nearest station to the split point. First they are
 // measured, so that all is decided before anything lent is written; then they are drawn into an array of work.
+#![tactic(auto)]
+
 ghost use Rattle.std.specs.Prelude.{◌≡◌, ◌+◌, ◌*◌, ◌≤◌, length};
 ghost use Rattle.lists.specs.Rows.{over};
 ghost use Rattle.polyline.specs.Polyline.{points, flat};
@@ -15,7 +17,7 @@ use tables::POINT;
 pub const MEASURE: usize = 3;
 
 // Points of a line's two pieces.
-#[derive(Drop)]
+#[derive(Clone, Copy)]
 pub struct Sizes {
     pub first: usize,
     pub second: usize,

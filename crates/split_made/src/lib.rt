@@ -1,4 +1,6 @@
 // edit/split.rs: a split that is decided: its room by the measures of its lines, then its lists and its tables.
+#![tactic(auto)]
+
 ghost use Rattle.std.specs.Prelude.{◌≡◌, true, false, ◌+◌, ◌^◌, ◌<◌, length, []};
 ghost use Rattle.lists.specs.Rows.{over, row_with};
 ghost use Rattle.lists.specs.Select.{ascending};
@@ -18,7 +20,7 @@ use tables::{
 
 // What is decided: the lane and the point of the cut, how many ids the pieces take and the first of them, the first second half's, the point behind all stored
 // lines, how many points are drawn, and how many boundaries are cut.
-#[derive(Drop)]
+#[derive(Clone, Copy)]
 pub struct Drawn {
     pub own: u64,
     pub point: Point2,

@@ -1,4 +1,6 @@
 // edit/split.rs: on which side of the cut a point is, by its nearest station on the two halves' joined line.
+#![tactic(auto)]
+
 ghost use Rattle.std.specs.Prelude.{◌≡◌, true, ◌*◌, ◌≤◌, length};
 ghost use Rattle.polyline.specs.Polyline.{points};
 ghost use Rattle.lookup.specs.Lookup as K;

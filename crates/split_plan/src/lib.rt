@@ -1,4 +1,6 @@
 // edit/split.rs: where a lane is cut. Refusals come in the order of the Rust; nothing lent is written.
+#![tactic(auto)]
+
 ghost use Rattle.std.specs.Prelude.{◌≡◌, ◌+◌, ◌*◌, ◌≤◌, ◌<◌, length};
 ghost use Rattle.std.proofs.Math.Option.{some};
 ghost use Rattle.polyline.specs.Polyline.{points};
@@ -18,32 +20,32 @@ use tables::{LANE, POINT};
 const LINE_FLOATS: usize = 768;
 
 // The station of the cut on the split lane's line, and the point there.
-#[derive(Drop)]
+#[derive(Clone, Copy)]
 pub struct Cut {
     pub station: f64,
     pub point: Point2,
 }
 
-#[derive(Drop)]
+#[derive(Clone, Copy)]
 pub enum Placed {
     Refused(Refusal),
     At(Cut),
 }
 
-#[derive(Drop)]
+#[derive(Clone, Copy)]
 pub enum Stationed {
     Refused(Refusal),
     At(f64),
 }
 
 // How many lanes have a station, or the first refusal.
-#[derive(Drop)]
+#[derive(Clone, Copy)]
 pub enum Stations {
     Refused(Refusal),
     Of(usize),
 }
 
-#[derive(Drop)]
+#[derive(Clone, Copy)]
 pub enum Crossed {
     Refused(Refusal),
     All,

@@ -1,4 +1,6 @@
 // edit/split.rs: the tables with lines after a split: lines drawn by `split_lines`, rows written by `split_tables` and `split_lanes`, all brought to their places by `lay_out`.
+#![tactic(auto)]
+
 ghost use Rattle.std.specs.Prelude.{◌≡◌};
 ghost use Rattle.layout.specs.Layout as L;
 ghost use Rattle.split_relay.specs.Relaying as W;

@@ -1,4 +1,6 @@
 // edit/split.rs: whether the map after a split has room: points, lines of at most 256 points, lists of at most 64 ids. Nothing lent is written.
+#![tactic(auto)]
+
 ghost use Rattle.std.specs.Prelude.{◌≡◌, true, ◌+◌, ◌*◌, ◌≤◌, ◌<◌, length};
 ghost use Rattle.lists.specs.Select.{ascending};
 ghost use Rattle.tables.specs.View.{word, rows};

@@ -1,4 +1,6 @@
 // edit/split.rs: the rows of the lanes after a split: first halves in place of the cut lanes, second halves, and predecessors that are cut.
+#![tactic(auto)]
+
 ghost use Rattle.std.specs.Prelude.{◌≡◌, true, ◌+◌, ◌*◌, ◌≤◌, ◌<◌, length};
 ghost use Rattle.lists.specs.Rows.{keys};
 ghost use Rattle.lists.specs.Select.{ascending, numbered};

@@ -1,5 +1,7 @@
 // edit/split.rs: the anchors of the rules that name a cut lane, and whether each lies past the cut of each lane that the rule names. Found once, before anything
 // lent is written.
+#![tactic(auto)]
+
 ghost use Rattle.std.specs.Prelude.{◌≡◌, true, map, ◌+◌, ◌*◌, ◌≤◌, ◌<◌, length};
 ghost use Rattle.lists.specs.Rows.{over};
 ghost use Rattle.lists.specs.Select.{ascending};

@@ -1,4 +1,6 @@
 // edit/split.rs: the second half of a cut lane, as a row.
+#![tactic(auto)]
+
 ghost use Rattle.std.specs.Prelude.{◌≡◌, true, ◌+◌, ◌*◌, ◌<◌, length};
 ghost use Rattle.tables.specs.Formed.{lane_formed};
 ghost use Rattle.split_rows.specs.Halves as D;

@@ -1,4 +1,6 @@
 // edit/split.rs: the tables of boundaries and of lanes after a split: rows that point to a piece, new rows behind the last one, and the halves of the lanes.
+#![tactic(auto)]
+
 ghost use Rattle.std.specs.Prelude.{◌≡◌, true, ◌+◌, ◌*◌, ◌≤◌, ◌<◌, leb, length};
 ghost use Rattle.lists.specs.Every.{all};
 ghost use Rattle.lists.specs.Rows.{keys};

@@ -1,4 +1,6 @@
 // edit/split.rs: the entities that a split modifies: rows are marked table by table, then counted or listed.
+#![tactic(auto)]
+
 ghost use Rattle.std.specs.Prelude.{◌≡◌, ◌*◌, ◌≤◌, length};
 ghost use Rattle.report.specs.Report as R;
 ghost use Rattle.split_touched.specs.Modified as M;

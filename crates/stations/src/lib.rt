@@ -1,5 +1,7 @@
 // geometry/polyline.rs: lines made at stations of others: slices, the two pieces of a split, resampled lines and centrelines. Each is written to the front of
 // a lent part, as `polyline` says.
+#![tactic(auto)]
+
 ghost use Rattle.std.specs.Prelude.{◌≡◌, ◌+◌, ◌*◌, ◌≤◌, ◌<◌, max, length, ◌++◌};
 ghost use Rattle.lists.specs.Rows.{over};
 ghost use Rattle.polyline.specs.Polyline as L;
@@ -152,7 +154,7 @@ fn put_slice(
 }
 
 // The two pieces of a split, in points.
-#[derive(Drop)]
+#[derive(Clone, Copy)]
 pub struct Pieces {
     pub first: usize,
     pub second: usize,

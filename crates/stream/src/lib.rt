@@ -1,5 +1,7 @@
 // What the programs share: the numbers of a stored stream (oracle/FORMAT.md) and the tables made of them, digests, lines of numbers. Nothing is asked of
 // the bytes: past the end there is nothing to read.
+#![tactic(auto)]
+
 ghost use Rattle.std.specs.Prelude.{◌≡◌, ◌+◌, ◌≤◌, ◌<◌, ◌^◌, length, take, get_or};
 ghost use Rattle.io.specs.Counts.{IsPrefixLen};
 ghost use Rattle.lists.specs.Rows.{over};
@@ -16,14 +18,14 @@ const BYTES: u64 = 10;
 const CARRIED: u64 = 0x200_0000_0000_0000;
 
 // A number, and the place behind it.
-#[derive(Drop)]
+#[derive(Clone, Copy)]
 pub struct Taken {
     pub value: u64,
     pub next: usize,
 }
 
 // How many places of a table were read, and the place behind them in the stream.
-#[derive(Drop)]
+#[derive(Clone, Copy)]
 pub struct Part {
     pub size: usize,
     pub next: usize,

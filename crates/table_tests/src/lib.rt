@@ -1,4 +1,6 @@
 // The test of soundness, table by table: every row passes.
+#![tactic(auto)]
+
 ghost use Rattle.std.specs.Prelude.{◌≡◌, true, ◌+◌};
 ghost use Rattle.tables.specs.Formed.{counted};
 ghost use Rattle.row_tests.specs.Good as G;

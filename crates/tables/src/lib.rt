@@ -1,4 +1,5 @@
 // The layout of lent memory: a table's word 0 is its count, then come rows of a fixed length. The names are those of the columns of specs/View.antt.
+#![tactic(auto)]
 
 // The most rows of a table.
 pub const LANES: u64 = 1024;

@@ -1,4 +1,6 @@
 // topology.rs: neighbours in the rows of the lane table. `linking` has the links.
+#![tactic(auto)]
+
 ghost use Rattle.std.specs.Prelude.{◌≡◌, true, ◌+◌, ◌*◌, ◌<◌};
 ghost use Rattle.std.proofs.Math.Option.{none, some};
 ghost use Rattle.rules.specs.Edit.{slot_after, reslotted};

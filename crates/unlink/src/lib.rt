@@ -1,4 +1,6 @@
 // The part of disconnect: the link of two rows taken out.
+#![tactic(auto)]
+
 ghost use Rattle.std.specs.Prelude.{◌≡◌};
 ghost use Rattle.relink.specs.Parts as P;
 

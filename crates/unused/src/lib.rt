@@ -1,4 +1,6 @@
 // edit/lane.rs: the boundaries that go with a lane, and a table without them.
+#![tactic(auto)]
+
 ghost use Rattle.std.specs.Prelude.{◌≡◌, true, not, ◌+◌, ◌*◌, ◌<◌};
 ghost use Rattle.lists.specs.Select.{has};
 ghost use Rattle.tables.specs.View.{word};
@@ -10,7 +12,7 @@ use lists::{Found, both};
 use tables::{BOUNDARY, LANE, LANE_LEFT, LANE_RIGHT};
 
 // Boundaries in id order: the first `count` of two.
-#[derive(Drop)]
+#[derive(Clone, Copy)]
 pub struct Gone {
     pub count: usize,
     pub first: u64,

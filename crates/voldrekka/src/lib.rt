@@ -1,5 +1,7 @@
 // What a host in Rust or C may call: `rt staticlib voldrekka`. A line is passed as the place of its coordinates, three a point, and how many
 // coordinates there are.
+#![tactic(auto)]
+
 ghost use Rattle.std.specs.Prelude.{◌≡◌, ◌++◌, cond, leb, length};
 ghost use Rattle.voldrekka.specs.Nearest.{nearest, answered, floats, segment_of};
 ghost use Rattle.voldrekka.specs.Split.{pieces_fit};

@@ -1,4 +1,6 @@
 // diagnostics.rs: warnings written as rows of ten words.
+#![tactic(auto)]
+
 ghost use Rattle.std.specs.Prelude.{◌≡◌, true, false, [], ◌∷◌, ◌+◌, ◌*◌, ◌≤◌, length};
 ghost use Rattle.report.specs.declared.Notice.TheVariants as N;
 ghost use Rattle.store.specs.Store.{flag};

@@ -1,4 +1,6 @@
 // A command and an answer as a host's numbers: what C, the replays and the programs send and read.
+#![tactic(auto)]
+
 ghost use Rattle.std.specs.Prelude.{◌≡◌, ◌^◌, ◌<◌};
 ghost use Rattle.tables.specs.View as View;
 ghost use Rattle.report.specs.Report.{counter_behind};
@@ -30,7 +32,7 @@ pub const REMOVE: u64 = 5;
 // An answer: document 01's number, the entity's kind + 1 and its id, or 0 and 0, the four counts, the second half of a split lane or 0, and the counter
 // behind the call.
 #[repr(C)]
-#[derive(Drop)]
+#[derive(Clone, Copy)]
 pub struct Told {
     pub number: u64,
     pub kind: u64,

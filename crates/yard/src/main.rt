@@ -2,6 +2,8 @@
 // document 01, then calls that meet other answers, then a long list of drawn ones, then jobs of several edits. A call is a line: the command; the answer's number;
 // of a refusal its entity, if it has one, and of a change the created, the modified and the deleted, each an entity's kind and id, and the warnings. A job is a
 // line too: its commands; the answer's number; of a refused command its place, its own number and its entity, and of a change the net lists.
+#![tactic(auto)]
+
 ghost use Rattle.std.specs.Prelude.{◌≡◌, ◌+◌, ◌<◌, ◌≤◌, length};
 
 use entities::{Counter, OptionEntity, Tolerance};
@@ -67,7 +69,7 @@ const TOO_LOW: u64 = 50;
 const ROOM: usize = 128;
 
 // A command's row of words, the counter, and the words that the call lends for the modified and for the deleted.
-#[derive(Drop)]
+#[derive(Clone, Copy)]
 struct Call {
     row: [u64; COMMAND],
     counter: u64,
@@ -357,7 +359,7 @@ fn lane_count(map: usize) -> usize
 }
 
 // A lane with its boundaries and, where they are not 0, its neighbours to the left and to the right, its predecessor and its successor.
-#[derive(Drop)]
+#[derive(Clone, Copy)]
 struct LaneRow {
     id: u64,
     left: u64,
@@ -535,7 +537,7 @@ fn lay_boundaries(boundaries: &mut [u64], map: usize) {
 }
 
 // A line of two points.
-#[derive(Drop)]
+#[derive(Clone, Copy)]
 struct Ends {
     from: f64,
     to: f64,
@@ -1101,7 +1103,7 @@ fn end_jobs(n: usize, lanes: &[u64]) {
 // ---- the yard
 
 // The counter behind a call, and what is worth showing then: lanes where something was modified, lines too where something came or went.
-#[derive(Drop)]
+#[derive(Clone, Copy)]
 struct Made {
     counter: u64,
     relinked: bool,
