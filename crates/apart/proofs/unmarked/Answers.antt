@@ -1,0 +1,38 @@
+-- `apart::unmarked` meets its contract. The invariant: no point of the line is marked where none from the i-th on is.
+use mathlib.Core.Path.{◌≡◌, refl, sym, ◌∙◌}
+use mathlib.Core.Bool.{not}
+use Prim.Native.Nat.{◌-◌, ◌≤◌}
+use native.Mathlib.Omega.{arith}
+use lib.ListN.{take, drop}
+use Rattle.lists.specs.Every.{all}
+use Rattle.apart.specs.Marks.{unmarked}
+use Rattle.apart.proofs.Marks.{points-step, points-end}
+use Rattle.apart.proofs.unmarked.Goals as goal
+
+pub loop-i-init : goal.loop-i-init
+unfolding unmarked
+loop-i-init c = (omega arith, refl)
+
+pub overflow_add-start : goal.overflow_add-start
+overflow_add-start c = omega arith
+
+pub bounds-marks-start : goal.bounds-marks-start
+bounds-marks-start c = omega arith
+
+pub returns-then-marks-start : goal.returns-then-marks-start
+unfolding unmarked
+returns-then-marks-start c = sym (c.loop-i.invariant.1 ∙ points-step c.args.marks.now c.args.start c.args.size c.loop-i.i c.requires c.loop-i-test.true ∙ rw c.if-marks-start.true)
+
+pub overflow_add-i : goal.overflow_add-i
+overflow_add-i c = omega arith
+
+pub loop-i-smaller : goal.loop-i-smaller
+loop-i-smaller c = omega arith
+
+pub loop-i-preserved : goal.loop-i-preserved
+unfolding unmarked
+loop-i-preserved c = (omega arith, c.loop-i.invariant.1 ∙ points-step c.args.marks.now c.args.start c.args.size c.loop-i.i c.requires c.loop-i-test.true ∙ rw c.if-marks-start.false)
+
+pub returns : goal.returns
+unfolding unmarked
+returns c = sym (c.loop-i.invariant.1 ∙ points-end c.args.marks.now c.args.start c.args.size c.loop-i.i c.requires c.loop-i-test.false)

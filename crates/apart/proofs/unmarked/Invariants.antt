@@ -1,0 +1,17 @@
+-- `apart::unmarked` meets its contract. The invariant: no point of the line is marked where none from the i-th on is.
+-- The measure is how many are left. Assumes nothing.
+use mathlib.Core.Path.{◌≡◌, refl, sym, ◌∙◌}
+use mathlib.Core.Bool.{not}
+use Prim.Native.Nat.{◌-◌, ◌≤◌}
+use native.Mathlib.Omega.{arith}
+use lib.ListN.{take, drop}
+use Rattle.lists.specs.Every.{all}
+use Rattle.apart.specs.Marks.{unmarked}
+use Rattle.apart.proofs.Marks.{points-step, points-end}
+use Rattle.apart.proofs.unmarked.Given as goal
+
+abbrev pub invariant-loop-i : goal.invariant-loop-i
+invariant-loop-i l = (l.i ≤ l.size) × (unmarked l.marks (record { l.start = l.start; l.size = l.size }) ≡ all not (drop l.i (take l.size (drop l.start l.marks))))
+
+abbrev pub decreases-loop-i : goal.decreases-loop-i
+decreases-loop-i l = l.size - l.i

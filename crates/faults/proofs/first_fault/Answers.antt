@@ -1,0 +1,58 @@
+-- `faults::first_fault` meets its contract. The three ends, each by its law; where the counts and rows pass, lines and links may be looked at. Assumes nothing.
+use borrow.Author.Rules.{rules}
+use mathlib.Core.Path.{sym, ap, ◌∙◌}
+use Prim.Native.Nat.{◌≤◌}
+use native.Mathlib.Omega.{arith}
+use Rattle.lists.proofs.Booleans.{and-fst}
+use Rattle.rules.specs.Sound.{last_counter}
+use Rattle.tables.specs.View.{tables_of}
+use Rattle.row_tests.specs.Good.{largest_id}
+use Rattle.soundness.specs.Parts.{all_good, all_ascend}
+use Rattle.soundness.proofs.Ends.{words_of, may-take, may-search}
+use Rattle.faults.proofs.Sound.{none-counted, rows-found}
+use Rattle.faults.proofs.Whole.{rowed, at-counts, at_rows, at-ties}
+use Rattle.faults.proofs.first_fault.Goals as goal
+
+pub returns-then-counts-ne0 : goal.returns-then-counts-ne0
+returns-then-counts-ne0 c = at-counts c.args.counter (tables_of c.args.lanes.now c.args.boundaries.now c.args.roads.now c.args.junctions.now c.args.rules.now c.args.stop_lines.now c.args.crosswalks.now c.args.coordinates.now) c.counts_fault-counts.result c.counts_fault-counts.ensures c.if-counts-ne0.true
+
+pub form_faults-rows-requires : goal.form_faults-rows-requires
+form_faults-rows-requires c =
+    let t = (tables_of c.args.lanes.now c.args.boundaries.now c.args.roads.now c.args.junctions.now c.args.rules.now c.args.stop_lines.now c.args.crosswalks.now c.args.coordinates.now) in
+    (none-counted t (ap (λ f. f.clause) (sym c.counts_fault-counts.ensures) ∙ c.if-counts-ne0.false))
+
+pub returns-then-rows-ne0 : goal.returns-then-rows-ne0
+returns-then-rows-ne0 c =
+    let t = (tables_of c.args.lanes.now c.args.boundaries.now c.args.roads.now c.args.junctions.now c.args.rules.now c.args.stop_lines.now c.args.crosswalks.now c.args.coordinates.now) in
+    let k = c.args.counter in
+    at_rows k t c.counts_fault-counts.result c.form_faults-rows.result c.counts_fault-counts.ensures c.if-counts-ne0.false (rowed k t c.largest_id.result c.form_faults-rows.result c.largest_id.ensures c.form_faults-rows.ensures) c.if-rows-ne0.true
+
+pub points_fault-points-requires : goal.points_fault-points-requires
+points_fault-points-requires c =
+    let t = (tables_of c.args.lanes.now c.args.boundaries.now c.args.roads.now c.args.junctions.now c.args.rules.now c.args.stop_lines.now c.args.crosswalks.now c.args.coordinates.now) in
+    let k = c.args.counter in
+    let small : k ≤ last_counter = omega (arith, c.well-formed.0.1) in
+    let w = words_of t c.shared_slice_known-1.given c.shared_slice_known-2-1.given c.shared_slice_known-3-1.given c.shared_slice_known-4-1.given c.shared_slice_known-5-1.given c.shared_slice_known-6-1.given c.shared_slice_known-7-1.given in
+    may-take k t small w (none-counted t (ap (λ f. f.clause) (sym c.counts_fault-counts.ensures) ∙ c.if-counts-ne0.false)) (and-fst (all_good (largest_id k) t) (all_ascend t) (rows-found t (largest_id k) (ap (λ f. f.clause) (sym (rowed k t c.largest_id.result c.form_faults-rows.result c.largest_id.ensures c.form_faults-rows.ensures)) ∙ c.if-rows-ne0.false)))
+
+pub back_fault-links-requires : goal.back_fault-links-requires
+back_fault-links-requires c =
+    let t = (tables_of c.args.lanes.now c.args.boundaries.now c.args.roads.now c.args.junctions.now c.args.rules.now c.args.stop_lines.now c.args.crosswalks.now c.args.coordinates.now) in
+    let k = c.args.counter in
+    let small : k ≤ last_counter = omega (arith, c.well-formed.0.1) in
+    let w = words_of t c.shared_slice_known-1.given c.shared_slice_known-2-1.given c.shared_slice_known-3-1.given c.shared_slice_known-4-1.given c.shared_slice_known-5-1.given c.shared_slice_known-6-1.given c.shared_slice_known-7-1.given in
+    may-search k t small w (none-counted t (ap (λ f. f.clause) (sym c.counts_fault-counts.ensures) ∙ c.if-counts-ne0.false)) (rows-found t (largest_id k) (ap (λ f. f.clause) (sym (rowed k t c.largest_id.result c.form_faults-rows.result c.largest_id.ensures c.form_faults-rows.ensures)) ∙ c.if-rows-ne0.false))
+
+pub back_fault-requires : goal.back_fault-requires
+back_fault-requires c =
+    let t = (tables_of c.args.lanes.now c.args.boundaries.now c.args.roads.now c.args.junctions.now c.args.rules.now c.args.stop_lines.now c.args.crosswalks.now c.args.coordinates.now) in
+    let k = c.args.counter in
+    let small : k ≤ last_counter = omega (arith, c.well-formed.0.1) in
+    let w = words_of t c.shared_slice_known-1.given c.shared_slice_known-2-1.given c.shared_slice_known-3-1.given c.shared_slice_known-4-1.given c.shared_slice_known-5-1.given c.shared_slice_known-6-1.given c.shared_slice_known-7-1.given in
+    may-search k t small w (none-counted t (ap (λ f. f.clause) (sym c.counts_fault-counts.ensures) ∙ c.if-counts-ne0.false)) (rows-found t (largest_id k) (ap (λ f. f.clause) (sym (rowed k t c.largest_id.result c.form_faults-rows.result c.largest_id.ensures c.form_faults-rows.ensures)) ∙ c.if-rows-ne0.false))
+
+pub returns : goal.returns
+returns c =
+    let t = (tables_of c.args.lanes.now c.args.boundaries.now c.args.roads.now c.args.junctions.now c.args.rules.now c.args.stop_lines.now c.args.crosswalks.now c.args.coordinates.now) in
+    let k = c.args.counter in
+    at-ties k t c.counts_fault-counts.result c.form_faults-rows.result c.points_fault-points.result c.back_fault-links.result c.back_fault.result c.earlier.result c.earlier-2.result c.counts_fault-counts.ensures c.if-counts-ne0.false (rowed k t c.largest_id.result c.form_faults-rows.result c.largest_id.ensures c.form_faults-rows.ensures) c.if-rows-ne0.false c.points_fault-points.ensures c.back_fault-links.ensures c.back_fault.ensures c.earlier.ensures c.earlier-2.ensures

@@ -1,0 +1,15 @@
+-- `in_place::shift_up` meets its contract. The invariant: the floats from i on are moved, and nothing else has changed. The measure is i. Assumes nothing.
+use mathlib.Core.Path.{◌≡◌, refl}
+use native.Mathlib.Omega.{arith}
+use Prim.Native.Nat.{◌+◌, ◌-◌, ◌≤◌}
+use lib.ListN.{length, take, drop, length-set}
+use lib.Ieee.{nan}
+use Rattle.lists.specs.Rows.{over}
+use Rattle.in_place.proofs.Shifts.{up_step, up_start, up-end}
+use Rattle.in_place.proofs.shift_up.Given as goal
+
+abbrev pub invariant-loop-i : goal.invariant-loop-i
+invariant-loop-i l = (l.i ≤ l.n) × ((length l.c ≡ length l.initial.c) × (l.c ≡ over l.initial.c (l.at + l.i) (take (l.n - l.i) (drop (l.start + l.i) l.initial.c))))
+
+abbrev pub decreases-loop-i : goal.decreases-loop-i
+decreases-loop-i l = l.i

@@ -1,0 +1,330 @@
+use borrow.Author.Rules.{rules}
+use mathlib.Core.Path.{◌≡◌, refl, sym, ap, ◌∙◌}
+use mathlib.Core.Bool.{true}
+use native.Mathlib.Omega.{arith}
+use lib.Dec.{leb}
+use lib.ListN.{length, take}
+use lib.Seq.{length-take-le}
+use borrow.Author.Tests.{leb-true}
+use Rattle.tables.specs.View.{Tables, tables_of}
+use Rattle.tables.specs.Formed.{sound_tables}
+use Rattle.step.specs.Step.{Lent, lent_of}
+use Rattle.step.specs.Run.{Held}
+use Rattle.jobs.specs.Job.{commands, max_edits, Run}
+use Rattle.area.specs.Area.{area_fits}
+use Rattle.area.proofs.Lengths.{Fits, fits-of}
+use Rattle.job_step.specs.Job.{ending, job_lent, table_edits}
+use Rattle.job_step.proofs.Ends.{job-runs}
+use Rattle.job.proofs.Ends.{front_same, other-area, tests-passed, tests-refused}
+use Rattle.job.proofs.apply.Goals as goal
+use Rattle.job.proofs.apply.Lts as lts
+use Rattle.job.proofs.apply.Reads as reads
+
+abbrev AtStart : Type 0
+AtStart = lts.Start reads.Pre reads.Post
+
+abbrev AtInDefault : Type 0
+AtInDefault = lts.After-enum_told reads.Pre reads.Post
+
+abbrev AtAfterKeepCopy : Type 0
+AtAfterKeepCopy = lts.After-keep_copy reads.Pre reads.Post
+
+abbrev AtAfterMake : Type 0
+AtAfterMake = lts.After-make reads.Pre reads.Post
+
+-- what is lent
+abbrev mapOf : AtStart → Tables
+mapOf s =
+    tables_of s.args.lanes.now s.args.boundaries.now s.args.roads.now s.args.junctions.now s.args.rules.now s.args.stop_lines.now s.args.crosswalks.now s.args.coordinates.now
+
+abbrev old_of : AtStart → Tables
+old_of s =
+    tables_of s.args.old-lanes.now s.args.old-boundaries.now s.args.old-roads.now s.args.old-junctions.now s.args.old-rules.now s.args.old-stop-lines.now s.args.old-crosswalks.now s.args.old-coordinates.now
+
+abbrev lentOn : AtStart → Tables → Lent
+lentOn s z =
+    record {
+      counter = s.args.counter;
+      tables = z;
+      created = s.args.created.now;
+      modified = s.args.modified.now;
+      deleted = s.args.deleted.now;
+      warnings = s.args.warnings.now;
+    }
+
+abbrev runOn : AtStart → Run Held
+runOn s = table_edits s.args.tolerance 1 (commands s.args.job) (record { counter = s.args.counter; tables = mapOf s })
+
+-- where the function started, from where the tests are passed and from where the copy is kept
+abbrev start_of : AtInDefault → AtStart
+start_of e = e.before.before.before.before.before.before.before.before.before.before.before.before.before.before.before.before.before.before.before.before.before.before.before.before.before.before.before.before.before.before.before.before.before.before.before.before.before.before.before
+
+abbrev told_of : AtAfterKeepCopy → AtInDefault
+told_of k = k.before.before.before.before.before.before.before.before.before.before.before.before.before.before.before.before.before
+
+-- the second area with the copy, and its front, which the edits read
+abbrev areaOf : AtAfterKeepCopy → Tables
+areaOf k =
+    tables_of k.keep-copy.new.1.1.1.1.1.1.1.1.0 k.keep-copy.new.1.1.1.1.1.1.1.1.1.0 k.keep-copy.new.1.1.1.1.1.1.1.1.1.1.0 k.keep-copy.new.1.1.1.1.1.1.1.1.1.1.1.0 k.keep-copy.new.1.1.1.1.1.1.1.1.1.1.1.1.0 k.keep-copy.new.1.1.1.1.1.1.1.1.1.1.1.1.1.0 k.keep-copy.new.1.1.1.1.1.1.1.1.1.1.1.1.1.1.0 k.keep-copy.new.1.1.1.1.1.1.1.1.1.1.1.1.1.1.1.0
+
+abbrev frontOf : AtAfterKeepCopy → Tables
+frontOf k =
+    let t = mapOf (start_of (told_of k)) in
+    tables_of (take (length t.lanes) k.keep-copy.new.1.1.1.1.1.1.1.1.0) (take (length t.boundaries) k.keep-copy.new.1.1.1.1.1.1.1.1.1.0) (take (length t.roads) k.keep-copy.new.1.1.1.1.1.1.1.1.1.1.0) (take (length t.junctions) k.keep-copy.new.1.1.1.1.1.1.1.1.1.1.1.0) (take (length t.rules) k.keep-copy.new.1.1.1.1.1.1.1.1.1.1.1.1.0) (take (length t.stop_lines) k.keep-copy.new.1.1.1.1.1.1.1.1.1.1.1.1.1.0) (take (length t.crosswalks) k.keep-copy.new.1.1.1.1.1.1.1.1.1.1.1.1.1.1.0) (take (length t.coordinates) k.keep-copy.new.1.1.1.1.1.1.1.1.1.1.1.1.1.1.1.0)
+
+-- what the edits leave
+abbrev left_by : AtAfterMake → Lent
+left_by m =
+    lent_of m.make.result.counter m.make.new.1.1.0 m.make.new.1.1.1.0 m.make.new.1.1.1.1.0 m.make.new.1.1.1.1.1.0 m.make.new.1.1.1.1.1.1.0 m.make.new.1.1.1.1.1.1.1.0 m.make.new.1.1.1.1.1.1.1.1.0 m.make.new.1.1.1.1.1.1.1.1.1.0 m.make.new.1.1.1.1.1.1.1.1.1.1.1.1.1.1.1.1.1.1.1.0 m.make.new.1.1.1.1.1.1.1.1.1.1.1.1.1.1.1.1.1.1.1.1.0 m.make.new.1.1.1.1.1.1.1.1.1.1.1.1.1.1.1.1.1.1.1.1.1.0 m.make.new.1.1.1.1.1.1.1.1.1.1.1.1.1.1.1.1.1.1.1.1.1.1.0
+
+-- the three tests
+passes : (e : AtInDefault)
+    → (leb (start_of e).args.job.count max_edits ≡ true)
+    × ((sound_tables (start_of e).args.counter (mapOf (start_of e)) ≡ true) × (area_fits (mapOf (start_of e)) (old_of (start_of e)) ≡ true))
+passes e =
+    let s = start_of e in
+    tests-passed (job_lent (lentOn s (mapOf s)) (old_of s)) s.args.job e.first_tests-first.result e.first_tests-first.ensures e.in_default.is
+
+-- the copy's slices are as long as the area's were
+room : (k : AtAfterKeepCopy) → Fits (mapOf (start_of (told_of k))) (areaOf k)
+room k =
+    let s = start_of (told_of k) in
+    let f = fits-of (mapOf s) (old_of s) (passes (told_of k)).1.1 in
+    record {
+      lanes_fit = let a = f.lanes_fit in let b = k.keep_copy.auto.1.1.1.1.1.1.1.1.0 in omega (arith, a, b);
+      boundaries_fit = let a = f.boundaries_fit in let b = k.keep_copy.auto.1.1.1.1.1.1.1.1.1.0 in omega (arith, a, b);
+      roads-fit = let a = f.roads-fit in let b = k.keep_copy.auto.1.1.1.1.1.1.1.1.1.1.0 in omega (arith, a, b);
+      junctions-fit = let a = f.junctions-fit in let b = k.keep_copy.auto.1.1.1.1.1.1.1.1.1.1.1.0 in omega (arith, a, b);
+      rules-fit = let a = f.rules-fit in let b = k.keep_copy.auto.1.1.1.1.1.1.1.1.1.1.1.1.0 in omega (arith, a, b);
+      stop-lines-fit = let a = f.stop-lines-fit in let b = k.keep_copy.auto.1.1.1.1.1.1.1.1.1.1.1.1.1.0 in omega (arith, a, b);
+      crosswalks-fit = let a = f.crosswalks-fit in let b = k.keep_copy.auto.1.1.1.1.1.1.1.1.1.1.1.1.1.1.0 in omega (arith, a, b);
+      coordinates-fit = let a = f.coordinates-fit in let b = k.keep_copy.auto.1.1.1.1.1.1.1.1.1.1.1.1.1.1.1.0 in omega (arith, a, b);
+    }
+
+-- src/lib.rt:111:9
+pub first_tests-first-requires : goal.first_tests-first-requires
+first_tests-first-requires c = tt
+
+-- src/lib.rt:132:9
+pub shape_of-lanes-in-Refused : goal.shape_of-lanes-in-Refused
+shape_of-lanes-in-Refused c = refl
+
+-- src/lib.rt:132:9
+pub shape_of-boundaries-in-Refused : goal.shape_of-boundaries-in-Refused
+shape_of-boundaries-in-Refused c = refl
+
+-- src/lib.rt:132:9
+pub shape_of-roads-in-Refused : goal.shape_of-roads-in-Refused
+shape_of-roads-in-Refused c = refl
+
+-- src/lib.rt:132:9
+pub shape_of-junctions-in-Refused : goal.shape_of-junctions-in-Refused
+shape_of-junctions-in-Refused c = refl
+
+-- src/lib.rt:132:9
+pub shape_of-rules-in-Refused : goal.shape_of-rules-in-Refused
+shape_of-rules-in-Refused c = refl
+
+-- src/lib.rt:132:9
+pub shape_of-stop_lines-in-Refused : goal.shape_of-stop_lines-in-Refused
+shape_of-stop_lines-in-Refused c = refl
+
+-- src/lib.rt:132:9
+pub shape_of-crosswalks-in-Refused : goal.shape_of-crosswalks-in-Refused
+shape_of-crosswalks-in-Refused c = refl
+
+-- src/lib.rt:132:9
+pub shape_of-coordinates-in-Refused : goal.shape_of-coordinates-in-Refused
+shape_of-coordinates-in-Refused c = refl
+
+-- src/lib.rt:132:9
+pub shape_of-old_lanes-in-Refused : goal.shape_of-old_lanes-in-Refused
+shape_of-old_lanes-in-Refused c = refl
+
+-- src/lib.rt:132:9
+pub shape_of-old_boundaries-in-Refused : goal.shape_of-old_boundaries-in-Refused
+shape_of-old_boundaries-in-Refused c = refl
+
+-- src/lib.rt:132:9
+pub shape_of-old_roads-in-Refused : goal.shape_of-old_roads-in-Refused
+shape_of-old_roads-in-Refused c = refl
+
+-- src/lib.rt:132:9
+pub shape_of-old_junctions-in-Refused : goal.shape_of-old_junctions-in-Refused
+shape_of-old_junctions-in-Refused c = refl
+
+-- src/lib.rt:132:9
+pub shape_of-old_rules-in-Refused : goal.shape_of-old_rules-in-Refused
+shape_of-old_rules-in-Refused c = refl
+
+-- src/lib.rt:132:9
+pub shape_of-old_stop_lines-in-Refused : goal.shape_of-old_stop_lines-in-Refused
+shape_of-old_stop_lines-in-Refused c = refl
+
+-- src/lib.rt:132:9
+pub shape_of-old_crosswalks-in-Refused : goal.shape_of-old_crosswalks-in-Refused
+shape_of-old_crosswalks-in-Refused c = refl
+
+-- src/lib.rt:132:9
+pub shape_of-old_coordinates-in-Refused : goal.shape_of-old_coordinates-in-Refused
+shape_of-old_coordinates-in-Refused c = refl
+
+-- src/lib.rt:132:9
+pub returns-in-Refused : goal.returns-in-Refused
+returns-in-Refused c = sym (tests-refused (job_lent (lentOn c.before.before.before.before.before.before.before.before.before.before.before.before.before.before.before.before.before.before.before.before.before.before.before.before.before.before.before.before.before.before.before.before.before.before.before.before.before.before.before.before.before (mapOf c.before.before.before.before.before.before.before.before.before.before.before.before.before.before.before.before.before.before.before.before.before.before.before.before.before.before.before.before.before.before.before.before.before.before.before.before.before.before.before.before.before)) (old_of c.before.before.before.before.before.before.before.before.before.before.before.before.before.before.before.before.before.before.before.before.before.before.before.before.before.before.before.before.before.before.before.before.before.before.before.before.before.before.before.before.before)) c.args.job c.args.tolerance c.first_tests-first.result c.in-Refused.answer c.first_tests-first.ensures c.in-Refused.is)
+
+-- src/lib.rt:134:5
+pub keep_copy-requires : goal.keep_copy-requires
+keep_copy-requires c = (passes c.before.before.before.before.before.before.before.before.before.before.before.before.before.before.before.before.before).1.1
+
+-- src/lib.rt:164:9
+pub slice_bounds-make-end : goal.slice_bounds-make-end
+slice_bounds-make-end c = (room c.before.before.before.before.before.before.before.before.before.before.before.before.before.before.before.before.before.before.before.before.before.before.before.before.before).lanes_fit
+
+-- src/lib.rt:164:9
+pub slice_bounds-make-end-2 : goal.slice_bounds-make-end-2
+slice_bounds-make-end-2 c = sym (length-take-le (length c.args.lanes.now) c.keep_copy.new.1.1.1.1.1.1.1.1.0 (room c.before.before.before.before.before.before.before.before.before.before.before.before.before.before.before.before.before.before.before.before.before.before.before.before.before.before).lanes_fit)
+
+-- src/lib.rt:165:9
+pub slice_bounds-make-end-3 : goal.slice_bounds-make-end-3
+slice_bounds-make-end-3 c = (room c.before.before.before.before.before.before.before.before.before.before.before.before.before.before.before.before.before.before.before.before.before.before.before.before.before.before).boundaries_fit
+
+-- src/lib.rt:165:9
+pub slice_bounds-make-end-4 : goal.slice_bounds-make-end-4
+slice_bounds-make-end-4 c = sym (length-take-le (length c.args.boundaries.now) c.keep_copy.new.1.1.1.1.1.1.1.1.1.0 (room c.before.before.before.before.before.before.before.before.before.before.before.before.before.before.before.before.before.before.before.before.before.before.before.before.before.before.before).boundaries_fit)
+
+-- src/lib.rt:166:9
+pub slice_bounds-make-end-5 : goal.slice_bounds-make-end-5
+slice_bounds-make-end-5 c = (room c.before.before.before.before.before.before.before.before.before.before.before.before.before.before.before.before.before.before.before.before.before.before.before.before.before.before.before).roads-fit
+
+-- src/lib.rt:166:9
+pub slice_bounds-make-end-6 : goal.slice_bounds-make-end-6
+slice_bounds-make-end-6 c = sym (length-take-le (length c.args.roads.now) c.keep_copy.new.1.1.1.1.1.1.1.1.1.1.0 (room c.before.before.before.before.before.before.before.before.before.before.before.before.before.before.before.before.before.before.before.before.before.before.before.before.before.before.before.before).roads-fit)
+
+-- src/lib.rt:167:9
+pub slice_bounds-make-end-7 : goal.slice_bounds-make-end-7
+slice_bounds-make-end-7 c = (room c.before.before.before.before.before.before.before.before.before.before.before.before.before.before.before.before.before.before.before.before.before.before.before.before.before.before.before.before).junctions-fit
+
+-- src/lib.rt:167:9
+pub slice_bounds-make-end-8 : goal.slice_bounds-make-end-8
+slice_bounds-make-end-8 c = sym (length-take-le (length c.args.junctions.now) c.keep_copy.new.1.1.1.1.1.1.1.1.1.1.1.0 (room c.before.before.before.before.before.before.before.before.before.before.before.before.before.before.before.before.before.before.before.before.before.before.before.before.before.before.before.before.before).junctions-fit)
+
+-- src/lib.rt:168:9
+pub slice_bounds-make-end-9 : goal.slice_bounds-make-end-9
+slice_bounds-make-end-9 c = (room c.before.before.before.before.before.before.before.before.before.before.before.before.before.before.before.before.before.before.before.before.before.before.before.before.before.before.before.before.before).rules-fit
+
+-- src/lib.rt:168:9
+pub slice_bounds-make-end-10 : goal.slice_bounds-make-end-10
+slice_bounds-make-end-10 c = sym (length-take-le (length c.args.rules.now) c.keep_copy.new.1.1.1.1.1.1.1.1.1.1.1.1.0 (room c.before.before.before.before.before.before.before.before.before.before.before.before.before.before.before.before.before.before.before.before.before.before.before.before.before.before.before.before.before.before).rules-fit)
+
+-- src/lib.rt:169:9
+pub slice_bounds-make-end-11 : goal.slice_bounds-make-end-11
+slice_bounds-make-end-11 c = (room c.before.before.before.before.before.before.before.before.before.before.before.before.before.before.before.before.before.before.before.before.before.before.before.before.before.before.before.before.before.before).stop-lines-fit
+
+-- src/lib.rt:169:9
+pub slice_bounds-make-end-12 : goal.slice_bounds-make-end-12
+slice_bounds-make-end-12 c = sym (length-take-le (length c.args.stop_lines.now) c.keep_copy.new.1.1.1.1.1.1.1.1.1.1.1.1.1.0 (room c.before.before.before.before.before.before.before.before.before.before.before.before.before.before.before.before.before.before.before.before.before.before.before.before.before.before.before.before.before.before.before).stop-lines-fit)
+
+-- src/lib.rt:170:9
+pub slice_bounds-make-end-13 : goal.slice_bounds-make-end-13
+slice_bounds-make-end-13 c = (room c.before.before.before.before.before.before.before.before.before.before.before.before.before.before.before.before.before.before.before.before.before.before.before.before.before.before.before.before.before.before.before).crosswalks-fit
+
+-- src/lib.rt:170:9
+pub slice_bounds-make-end-14 : goal.slice_bounds-make-end-14
+slice_bounds-make-end-14 c = sym (length-take-le (length c.args.crosswalks.now) c.keep_copy.new.1.1.1.1.1.1.1.1.1.1.1.1.1.1.0 (room c.before.before.before.before.before.before.before.before.before.before.before.before.before.before.before.before.before.before.before.before.before.before.before.before.before.before.before.before.before.before.before.before).crosswalks-fit)
+
+-- src/lib.rt:171:9
+pub slice_bounds-make-end-15 : goal.slice_bounds-make-end-15
+slice_bounds-make-end-15 c = (room c.before.before.before.before.before.before.before.before.before.before.before.before.before.before.before.before.before.before.before.before.before.before.before.before.before.before.before.before.before.before.before.before).coordinates-fit
+
+-- src/lib.rt:171:9
+pub slice_bounds-make-end-16 : goal.slice_bounds-make-end-16
+slice_bounds-make-end-16 c = sym (length-take-le (length c.args.coordinates.now) c.keep_copy.new.1.1.1.1.1.1.1.1.1.1.1.1.1.1.1.0 (room c.before.before.before.before.before.before.before.before.before.before.before.before.before.before.before.before.before.before.before.before.before.before.before.before.before.before.before.before.before.before.before.before.before).coordinates-fit)
+
+-- src/lib.rt:152:5
+pub make-requires : goal.make-requires
+make-requires c = ((passes c.before.before.before.before.before.before.before.before.before.before.before.before.before.before.before.before.before.before.before.before.before.before.before.before.before.before.before.before.before.before.before.before.before.before.before.before.before.before.before.before.before.before.before.before.before.before.before.before.before.before.before.before.before.before).1.0, (leb-true c.args.job.count 64 (passes c.before.before.before.before.before.before.before.before.before.before.before.before.before.before.before.before.before.before.before.before.before.before.before.before.before.before.before.before.before.before.before.before.before.before.before.before.before.before.before.before.before.before.before.before.before.before.before.before.before.before.before.before.before.before).0, front_same (mapOf c.before.before.before.before.before.before.before.before.before.before.before.before.before.before.before.before.before.before.before.before.before.before.before.before.before.before.before.before.before.before.before.before.before.before.before.before.before.before.before.before.before.before.before.before.before.before.before.before.before.before.before.before.before.before.before.before.before.before.before.before.before.before.before.before.before.before.before.before.before.before.before.before.before.before.before.before.before.before.before.before.before.before.before.before.before.before.before.before.before.before.before.before.before) (old_of c.before.before.before.before.before.before.before.before.before.before.before.before.before.before.before.before.before.before.before.before.before.before.before.before.before.before.before.before.before.before.before.before.before.before.before.before.before.before.before.before.before.before.before.before.before.before.before.before.before.before.before.before.before.before.before.before.before.before.before.before.before.before.before.before.before.before.before.before.before.before.before.before.before.before.before.before.before.before.before.before.before.before.before.before.before.before.before.before.before.before.before.before.before) (areaOf c.before.before.before.before.before.before.before.before.before.before.before.before.before.before.before.before.before.before.before.before.before.before.before.before.before.before.before.before.before.before.before.before.before.before.before.before.before) c.keep_copy.ensures))
+
+-- src/lib.rt:84:1
+pub shape_of-lanes : goal.shape_of-lanes
+shape_of-lanes c = c.make.auto.1.1.0
+
+-- src/lib.rt:84:1
+pub shape_of-boundaries : goal.shape_of-boundaries
+shape_of-boundaries c = c.make.auto.1.1.1.0
+
+-- src/lib.rt:84:1
+pub shape_of-roads : goal.shape_of-roads
+shape_of-roads c = c.make.auto.1.1.1.1.0
+
+-- src/lib.rt:84:1
+pub shape_of-junctions : goal.shape_of-junctions
+shape_of-junctions c = c.make.auto.1.1.1.1.1.0
+
+-- src/lib.rt:84:1
+pub shape_of-rules : goal.shape_of-rules
+shape_of-rules c = c.make.auto.1.1.1.1.1.1.0
+
+-- src/lib.rt:84:1
+pub shape_of-stop_lines : goal.shape_of-stop_lines
+shape_of-stop_lines c = c.make.auto.1.1.1.1.1.1.1.0
+
+-- src/lib.rt:84:1
+pub shape_of-crosswalks : goal.shape_of-crosswalks
+shape_of-crosswalks c = c.make.auto.1.1.1.1.1.1.1.1.0
+
+-- src/lib.rt:84:1
+pub shape_of-coordinates : goal.shape_of-coordinates
+shape_of-coordinates c = c.make.auto.1.1.1.1.1.1.1.1.1.0
+
+-- src/lib.rt:84:1
+pub shape_of-old_lanes : goal.shape_of-old_lanes
+shape_of-old_lanes c = c.keep_copy.auto.1.1.1.1.1.1.1.1.0
+
+-- src/lib.rt:84:1
+pub shape_of-old_boundaries : goal.shape_of-old_boundaries
+shape_of-old_boundaries c = c.keep_copy.auto.1.1.1.1.1.1.1.1.1.0
+
+-- src/lib.rt:84:1
+pub shape_of-old_roads : goal.shape_of-old_roads
+shape_of-old_roads c = c.keep_copy.auto.1.1.1.1.1.1.1.1.1.1.0
+
+-- src/lib.rt:84:1
+pub shape_of-old_junctions : goal.shape_of-old_junctions
+shape_of-old_junctions c = c.keep_copy.auto.1.1.1.1.1.1.1.1.1.1.1.0
+
+-- src/lib.rt:84:1
+pub shape_of-old_rules : goal.shape_of-old_rules
+shape_of-old_rules c = c.keep_copy.auto.1.1.1.1.1.1.1.1.1.1.1.1.0
+
+-- src/lib.rt:84:1
+pub shape_of-old_stop_lines : goal.shape_of-old_stop_lines
+shape_of-old_stop_lines c = c.keep_copy.auto.1.1.1.1.1.1.1.1.1.1.1.1.1.0
+
+-- src/lib.rt:84:1
+pub shape_of-old_crosswalks : goal.shape_of-old_crosswalks
+shape_of-old_crosswalks c = c.keep_copy.auto.1.1.1.1.1.1.1.1.1.1.1.1.1.1.0
+
+-- src/lib.rt:84:1
+pub shape_of-old_coordinates : goal.shape_of-old_coordinates
+shape_of-old_coordinates c = c.keep_copy.auto.1.1.1.1.1.1.1.1.1.1.1.1.1.1.1.0
+
+-- src/lib.rt:84:1
+pub shape_of-created : goal.shape_of-created
+shape_of-created c = c.make.auto.1.1.1.1.1.1.1.1.1.1.1.1.1.1.1.1.1.1.1.0
+
+-- src/lib.rt:84:1
+pub shape_of-modified : goal.shape_of-modified
+shape_of-modified c = c.make.auto.1.1.1.1.1.1.1.1.1.1.1.1.1.1.1.1.1.1.1.1.0
+
+-- src/lib.rt:84:1
+pub shape_of-deleted : goal.shape_of-deleted
+shape_of-deleted c = c.make.auto.1.1.1.1.1.1.1.1.1.1.1.1.1.1.1.1.1.1.1.1.1.0
+
+-- src/lib.rt:84:1
+pub shape_of-warnings : goal.shape_of-warnings
+shape_of-warnings c = c.make.auto.1.1.1.1.1.1.1.1.1.1.1.1.1.1.1.1.1.1.1.1.1.1.0
+
+-- src/lib.rt:84:1
+pub returns : goal.returns
+returns c = other-area (lentOn c.before.before.before.before.before.before.before.before.before.before.before.before.before.before.before.before.before.before.before.before.before.before.before.before.before.before.before.before.before.before.before.before.before.before.before.before.before.before.before.before.before.before.before.before.before.before.before.before.before.before.before.before.before.before.before.before.before.before.before.before.before.before.before.before.before.before.before.before.before.before.before.before.before.before.before.before.before.before.before.before.before.before.before.before.before.before.before.before.before.before.before.before.before.before.before.before.before.before.before.before.before.before.before.before.before.before.before.before.before.before.before.before.before.before.before.before.before.before (mapOf c.before.before.before.before.before.before.before.before.before.before.before.before.before.before.before.before.before.before.before.before.before.before.before.before.before.before.before.before.before.before.before.before.before.before.before.before.before.before.before.before.before.before.before.before.before.before.before.before.before.before.before.before.before.before.before.before.before.before.before.before.before.before.before.before.before.before.before.before.before.before.before.before.before.before.before.before.before.before.before.before.before.before.before.before.before.before.before.before.before.before.before.before.before.before.before.before.before.before.before.before.before.before.before.before.before.before.before.before.before.before.before.before.before.before.before.before.before.before)) (left_by c.before.before.before.before.before.before.before.before.before.before.before.before.before.before.before.before.before.before.before.before.before.before.before.before.before) (frontOf c.before.before.before.before.before.before.before.before.before.before.before.before.before.before.before.before.before.before.before.before.before.before.before.before.before.before.before.before.before.before.before.before.before.before.before.before.before.before.before.before.before.before.before.before.before.before.before.before.before.before.before.before.before.before.before.before.before.before.before.before.before.before) (areaOf c.before.before.before.before.before.before.before.before.before.before.before.before.before.before.before.before.before.before.before.before.before.before.before.before.before.before.before.before.before.before.before.before.before.before.before.before.before.before.before.before.before.before.before.before.before.before.before.before.before.before.before.before.before.before.before.before.before.before.before.before.before.before) (runOn c.before.before.before.before.before.before.before.before.before.before.before.before.before.before.before.before.before.before.before.before.before.before.before.before.before.before.before.before.before.before.before.before.before.before.before.before.before.before.before.before.before.before.before.before.before.before.before.before.before.before.before.before.before.before.before.before.before.before.before.before.before.before.before.before.before.before.before.before.before.before.before.before.before.before.before.before.before.before.before.before.before.before.before.before.before.before.before.before.before.before.before.before.before.before.before.before.before.before.before.before.before.before.before.before.before.before.before.before.before.before.before.before.before.before.before.before.before.before) c.make.result.answer c.make.ensures ∙ (ap (λ (z : Tables). ending (lentOn c.before.before.before.before.before.before.before.before.before.before.before.before.before.before.before.before.before.before.before.before.before.before.before.before.before.before.before.before.before.before.before.before.before.before.before.before.before.before.before.before.before.before.before.before.before.before.before.before.before.before.before.before.before.before.before.before.before.before.before.before.before.before.before.before.before.before.before.before.before.before.before.before.before.before.before.before.before.before.before.before.before.before.before.before.before.before.before.before.before.before.before.before.before.before.before.before.before.before.before.before.before.before.before.before.before.before.before.before.before.before.before.before.before.before.before.before.before.before (mapOf c.before.before.before.before.before.before.before.before.before.before.before.before.before.before.before.before.before.before.before.before.before.before.before.before.before.before.before.before.before.before.before.before.before.before.before.before.before.before.before.before.before.before.before.before.before.before.before.before.before.before.before.before.before.before.before.before.before.before.before.before.before.before.before.before.before.before.before.before.before.before.before.before.before.before.before.before.before.before.before.before.before.before.before.before.before.before.before.before.before.before.before.before.before.before.before.before.before.before.before.before.before.before.before.before.before.before.before.before.before.before.before.before.before.before.before.before.before.before)) z (runOn c.before.before.before.before.before.before.before.before.before.before.before.before.before.before.before.before.before.before.before.before.before.before.before.before.before.before.before.before.before.before.before.before.before.before.before.before.before.before.before.before.before.before.before.before.before.before.before.before.before.before.before.before.before.before.before.before.before.before.before.before.before.before.before.before.before.before.before.before.before.before.before.before.before.before.before.before.before.before.before.before.before.before.before.before.before.before.before.before.before.before.before.before.before.before.before.before.before.before.before.before.before.before.before.before.before.before.before.before.before.before.before.before.before.before.before.before.before.before)) c.keep_copy.ensures ∙ sym (job-runs c.args.tolerance c.args.job (job_lent (lentOn c.before.before.before.before.before.before.before.before.before.before.before.before.before.before.before.before.before.before.before.before.before.before.before.before.before.before.before.before.before.before.before.before.before.before.before.before.before.before.before.before.before.before.before.before.before.before.before.before.before.before.before.before.before.before.before.before.before.before.before.before.before.before.before.before.before.before.before.before.before.before.before.before.before.before.before.before.before.before.before.before.before.before.before.before.before.before.before.before.before.before.before.before.before.before.before.before.before.before.before.before.before.before.before.before.before.before.before.before.before.before.before.before.before.before.before.before.before.before (mapOf c.before.before.before.before.before.before.before.before.before.before.before.before.before.before.before.before.before.before.before.before.before.before.before.before.before.before.before.before.before.before.before.before.before.before.before.before.before.before.before.before.before.before.before.before.before.before.before.before.before.before.before.before.before.before.before.before.before.before.before.before.before.before.before.before.before.before.before.before.before.before.before.before.before.before.before.before.before.before.before.before.before.before.before.before.before.before.before.before.before.before.before.before.before.before.before.before.before.before.before.before.before.before.before.before.before.before.before.before.before.before.before.before.before.before.before.before.before.before)) (old_of c.before.before.before.before.before.before.before.before.before.before.before.before.before.before.before.before.before.before.before.before.before.before.before.before.before.before.before.before.before.before.before.before.before.before.before.before.before.before.before.before.before.before.before.before.before.before.before.before.before.before.before.before.before.before.before.before.before.before.before.before.before.before.before.before.before.before.before.before.before.before.before.before.before.before.before.before.before.before.before.before.before.before.before.before.before.before.before.before.before.before.before.before.before.before.before.before.before.before.before.before.before.before.before.before.before.before.before.before.before.before.before.before.before.before.before.before.before.before)) (passes c.before.before.before.before.before.before.before.before.before.before.before.before.before.before.before.before.before.before.before.before.before.before.before.before.before.before.before.before.before.before.before.before.before.before.before.before.before.before.before.before.before.before.before.before.before.before.before.before.before.before.before.before.before.before.before.before.before.before.before.before.before.before.before.before.before.before.before.before.before.before.before.before.before.before.before.before.before.before.before).0 (passes c.before.before.before.before.before.before.before.before.before.before.before.before.before.before.before.before.before.before.before.before.before.before.before.before.before.before.before.before.before.before.before.before.before.before.before.before.before.before.before.before.before.before.before.before.before.before.before.before.before.before.before.before.before.before.before.before.before.before.before.before.before.before.before.before.before.before.before.before.before.before.before.before.before.before.before.before.before.before.before).1.0 (passes c.before.before.before.before.before.before.before.before.before.before.before.before.before.before.before.before.before.before.before.before.before.before.before.before.before.before.before.before.before.before.before.before.before.before.before.before.before.before.before.before.before.before.before.before.before.before.before.before.before.before.before.before.before.before.before.before.before.before.before.before.before.before.before.before.before.before.before.before.before.before.before.before.before.before.before.before.before.before.before).1.1))

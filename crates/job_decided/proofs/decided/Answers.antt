@@ -1,0 +1,53 @@
+use borrow.Author.Rules.{rules}
+use mathlib.Core.Path.{sym, ◌∙◌}
+use mathlib.Core.List.{[]}
+use borrow.Author.Tests.{not-true, not-false}
+use Rattle.tables.specs.View.{Tables, tables_of}
+use Rattle.job_decided.proofs.Decide.{done-sorted, ends-made, ends-refused, ends-short}
+use Rattle.job_decided.proofs.decided.Goals as goal
+use Rattle.job_decided.proofs.decided.Lts as lts
+use Rattle.job_decided.proofs.decided.Reads as reads
+
+abbrev AtStart : Type 0
+AtStart = lts.Start reads.Pre reads.Post
+
+-- the tables at both ends, without coordinates
+abbrev mapOf : AtStart → Tables
+mapOf s =
+    tables_of s.args.lanes.now s.args.boundaries.now s.args.roads.now s.args.junctions.now s.args.rules.now s.args.stop_lines.now
+    s.args.crosswalks.now []
+
+abbrev old_of : AtStart → Tables
+old_of s =
+    tables_of s.args.old-lanes.now s.args.old-boundaries.now s.args.old-roads.now s.args.old-junctions.now s.args.old-rules.now
+    s.args.old-stop-lines.now s.args.old-crosswalks.now []
+
+pub net_lists-n-requires : goal.net_lists-n-requires
+net_lists-n-requires c = let h = done-sorted (mapOf c.before.before.before.before.before.before.before.before.before.before.before.before.before.before.before.before.before.before.before.before.before.before.before.before.before.before.before.before.before) (old_of c.before.before.before.before.before.before.before.before.before.before.before.before.before.before.before.before.before.before.before.before.before.before.before.before.before.before.before.before.before) c.args.ran _ _ c.in-Done.is c.requires.0 in (h.0, (h.1, c.requires.1))
+
+pub shape_of-all_created-then-not-lists_fit : goal.shape_of-all_created-then-not-lists_fit
+shape_of-all_created-then-not-lists_fit c = c.net_lists-n.auto.1.1.1.1.1.1.1.1.1.1.1.1.1.1.1.0
+
+pub shape_of-all_modified-then-not-lists_fit : goal.shape_of-all_modified-then-not-lists_fit
+shape_of-all_modified-then-not-lists_fit c = c.net_lists-n.auto.1.1.1.1.1.1.1.1.1.1.1.1.1.1.1.1.0
+
+pub shape_of-all_deleted-then-not-lists_fit : goal.shape_of-all_deleted-then-not-lists_fit
+shape_of-all_deleted-then-not-lists_fit c = c.net_lists-n.auto.1.1.1.1.1.1.1.1.1.1.1.1.1.1.1.1.1.0
+
+pub returns-then-not-lists_fit : goal.returns-then-not-lists_fit
+returns-then-not-lists_fit c = ends-short c.args.counter (mapOf c.before.before.before.before.before.before.before.before.before.before.before.before.before.before.before.before.before.before.before.before.before.before.before.before.before.before.before.before.before.before.before.before.before.before.before.before.before.before) (old_of c.before.before.before.before.before.before.before.before.before.before.before.before.before.before.before.before.before.before.before.before.before.before.before.before.before.before.before.before.before.before.before.before.before.before.before.before.before.before) c.args.marks.now c.args.all-created.now c.args.all-modified.now c.args.all-deleted.now c.args.created.now c.args.modified.now c.args.deleted.now c.args.warnings.now c.args.ran _ _ c.in-Done.is c.net_lists-n.result c.net_lists-n.new.1.1.1.1.1.1.1.1.1.1.1.1.1.1.1.0 c.net_lists-n.new.1.1.1.1.1.1.1.1.1.1.1.1.1.1.1.1.0 c.net_lists-n.new.1.1.1.1.1.1.1.1.1.1.1.1.1.1.1.1.1.0 c.net_lists-n.ensures (sym c.lists_fit.ensures ∙ not-true c.lists_fit.result c.if-not-lists_fit.true)
+
+pub returns-in-Stopped : goal.returns-in-Stopped
+returns-in-Stopped c = ends-refused c.args.counter (mapOf c.before.before.before.before.before.before.before.before.before.before.before.before.before.before.before.before.before.before.before.before.before.before.before.before.before.before) (old_of c.before.before.before.before.before.before.before.before.before.before.before.before.before.before.before.before.before.before.before.before.before.before.before.before.before.before) c.args.marks.now c.args.all-created.now c.args.all-modified.now c.args.all-deleted.now c.args.created.now c.args.modified.now c.args.deleted.now c.args.warnings.now c.args.ran _ _ c.args.all-created.now c.args.all-modified.now c.args.all-deleted.now c.in-Stopped.is
+
+pub shape_of-all_created : goal.shape_of-all_created
+shape_of-all_created c = c.net_lists-n.auto.1.1.1.1.1.1.1.1.1.1.1.1.1.1.1.0
+
+pub shape_of-all_modified : goal.shape_of-all_modified
+shape_of-all_modified c = c.net_lists-n.auto.1.1.1.1.1.1.1.1.1.1.1.1.1.1.1.1.0
+
+pub shape_of-all_deleted : goal.shape_of-all_deleted
+shape_of-all_deleted c = c.net_lists-n.auto.1.1.1.1.1.1.1.1.1.1.1.1.1.1.1.1.1.0
+
+pub returns-else-not-lists_fit : goal.returns-else-not-lists_fit
+returns-else-not-lists_fit c = ends-made c.args.counter (mapOf c.before.before.before.before.before.before.before.before.before.before.before.before.before.before.before.before.before.before.before.before.before.before.before.before.before.before.before.before.before.before.before.before.before.before.before.before.before.before) (old_of c.before.before.before.before.before.before.before.before.before.before.before.before.before.before.before.before.before.before.before.before.before.before.before.before.before.before.before.before.before.before.before.before.before.before.before.before.before.before) c.args.marks.now c.args.all-created.now c.args.all-modified.now c.args.all-deleted.now c.args.created.now c.args.modified.now c.args.deleted.now c.args.warnings.now c.args.ran _ _ c.in-Done.is c.net_lists-n.result c.net_lists-n.new.1.1.1.1.1.1.1.1.1.1.1.1.1.1.1.0 c.net_lists-n.new.1.1.1.1.1.1.1.1.1.1.1.1.1.1.1.1.0 c.net_lists-n.new.1.1.1.1.1.1.1.1.1.1.1.1.1.1.1.1.1.0 c.net_lists-n.ensures (sym c.lists_fit.ensures ∙ not-false c.lists_fit.result c.if-not-lists_fit.false)

@@ -1,0 +1,109 @@
+use native.Mathlib.Omega.{arith}
+use mathlib.Core.Path.{◌≡◌, sym, ap, ◌∙◌, subst}
+use mathlib.Core.Logic.{inr}
+use mathlib.Core.List.{[]}
+use Prim.Native.Nat.{◌*◌}
+use lib.ListN.{length}
+use lib.Seq.{length-take-le}
+use Rattle.tables.specs.View.{Tables, tables_of}
+use Rattle.tables.specs.Formed.{sound_tables}
+use Rattle.step.specs.Run.{Held, lengths_of}
+use Rattle.jobs.specs.Job.{Run, commands}
+use Rattle.job_step.specs.Job.{table_edits}
+use Rattle.job_run.specs.Runs.{WarningRoom}
+use Rattle.job_told.proofs.Sorted.{sound-sorted}
+use Rattle.job_told.proofs.Ends.{kept-told, made-lengths, made-within, put-back-same, ran-told, same-fits}
+use Rattle.job_told.proofs.tell_warnings.Goals as goal
+use Rattle.job_told.proofs.tell_warnings.Lts as lts
+use Rattle.job_told.proofs.tell_warnings.Reads as reads
+
+abbrev AtStart : Type 0
+AtStart = lts.Start reads.Pre reads.Post
+
+-- what is lent, and the old slices
+abbrev mapOf : AtStart → Tables
+mapOf s =
+    tables_of s.args.lanes.now s.args.boundaries.now s.args.roads.now s.args.junctions.now s.args.rules.now s.args.stop_lines.now
+    s.args.crosswalks.now s.args.coordinates.now
+
+abbrev old_of : AtStart → Tables
+old_of s =
+    tables_of s.args.old-lanes.now s.args.old-boundaries.now s.args.old-roads.now s.args.old-junctions.now s.args.old-rules.now
+    s.args.old-stop-lines.now s.args.old-crosswalks.now s.args.old-coordinates.now
+
+abbrev bareOf : AtStart → Tables
+bareOf s =
+    tables_of s.args.old-lanes.now s.args.old-boundaries.now s.args.old-roads.now s.args.old-junctions.now s.args.old-rules.now
+    s.args.old-stop-lines.now s.args.old-crosswalks.now []
+
+abbrev runOn : AtStart → Tables → Run Held
+runOn s z = table_edits s.args.tolerance 1 (commands s.args.job) (record { counter = s.args.counter; tables = z })
+
+-- the tables that the edits left are as long as the old ones
+long : (s : AtStart) → lengths_of (mapOf s) ≡ lengths_of (old_of s)
+long s = made-lengths s.args.tolerance s.args.job s.args.counter (old_of s) s.requires.0 (mapOf s) s.args.n s.requires.1.1.0
+
+pub overflow_mul-n : goal.overflow_mul-n
+overflow_mul-n c = let l = c.if-n-le-KEPT.true in omega (arith, l)
+
+pub slice_bounds-copy-end : goal.slice_bounds-copy-end
+slice_bounds-copy-end c = sym (length-take-le (c.args.n * 10) c.args.kept.now (let l = c.if-n-le-KEPT.true in let k = c.requires.1.1.1.1.1.0 in omega (arith, l, k)))
+
+pub copy-requires : goal.copy-requires
+copy-requires c = let e = length-take-le (c.args.n * 10) c.args.kept.now (let l = c.if-n-le-KEPT.true in let k = c.requires.1.1.1.1.1.0 in omega (arith, l, k)) in let f = c.requires.1.1.1.1.0 in omega (arith, e, f)
+
+pub shape_of-warnings-then-n-le-KEPT : goal.shape_of-warnings-then-n-le-KEPT
+shape_of-warnings-then-n-le-KEPT c = c.copy.auto.1.0
+
+pub returns-then-n-le-KEPT : goal.returns-then-n-le-KEPT
+returns-then-n-le-KEPT c = kept-told (mapOf c.before.before.before.before.before.before.before.before.before.before.before.before.before.before.before.before.before.before.before.before.before.before.before.before.before.before.before.before.before) c.args.n (runOn c.before.before.before.before.before.before.before.before.before.before.before.before.before.before.before.before.before.before.before.before.before.before.before.before.before.before.before.before.before (old_of c.before.before.before.before.before.before.before.before.before.before.before.before.before.before.before.before.before.before.before.before.before.before.before.before.before.before.before.before.before)) c.args.kept.now c.args.warnings.now c.copy.new.1.0 c.requires.1.1.0 c.requires.1.1.1.0 c.if-n-le-KEPT.true c.requires.1.1.1.1.0 c.copy.ensures
+
+pub put_back-requires : goal.put_back-requires
+put_back-requires c = same-fits (mapOf c.before.before.before.before.before.before.before.before.before.before.before.before.before.before.before.before.before.before.before.before.before.before.before.before.before.before.before.before.before.before.before.before) (old_of c.before.before.before.before.before.before.before.before.before.before.before.before.before.before.before.before.before.before.before.before.before.before.before.before.before.before.before.before.before.before.before.before) (long c.before.before.before.before.before.before.before.before.before.before.before.before.before.before.before.before.before.before.before.before.before.before.before.before.before.before.before.before.before.before.before.before)
+
+pub make_edits-requires : goal.make_edits-requires
+make_edits-requires c =
+    let e = (c.put_back.ensures ∙ put-back-same (mapOf c.before.before.before.before.before.before.before.before.before.before.before.before.before.before.before.before.before.before.before.before.before.before.before.before.before.before.before.before.before.before.before.before.before.before.before.before.before.before.before.before.before.before.before.before.before.before.before.before.before.before.before.before.before.before.before.before.before.before.before.before.before.before) (old_of c.before.before.before.before.before.before.before.before.before.before.before.before.before.before.before.before.before.before.before.before.before.before.before.before.before.before.before.before.before.before.before.before.before.before.before.before.before.before.before.before.before.before.before.before.before.before.before.before.before.before.before.before.before.before.before.before.before.before.before.before.before.before) (long c.before.before.before.before.before.before.before.before.before.before.before.before.before.before.before.before.before.before.before.before.before.before.before.before.before.before.before.before.before.before.before.before.before.before.before.before.before.before.before.before.before.before.before.before.before.before.before.before.before.before.before.before.before.before.before.before.before.before.before.before.before.before)) in
+    (ap (sound_tables c.args.counter) e ∙ c.requires.0, (c.requires.1.0, (sound-sorted c.args.counter (old_of c.before.before.before.before.before.before.before.before.before.before.before.before.before.before.before.before.before.before.before.before.before.before.before.before.before.before.before.before.before.before.before.before.before.before.before.before.before.before.before.before.before.before.before.before.before.before.before.before.before.before.before.before.before.before.before.before.before.before.before.before.before.before) c.requires.0, (c.requires.1.1.1.1.1.1.0, (subst (λ (z : Tables). WarningRoom (runOn c.before.before.before.before.before.before.before.before.before.before.before.before.before.before.before.before.before.before.before.before.before.before.before.before.before.before.before.before.before.before.before.before.before.before.before.before.before.before.before.before.before.before.before.before.before.before.before.before.before.before.before.before.before.before.before.before.before.before.before.before.before.before z) c.args.n (length c.args.warnings.now)) (sym e) (inr (made-within (mapOf c.before.before.before.before.before.before.before.before.before.before.before.before.before.before.before.before.before.before.before.before.before.before.before.before.before.before.before.before.before.before.before.before.before.before.before.before.before.before.before.before.before.before.before.before.before.before.before.before.before.before.before.before.before.before.before.before.before.before.before.before.before.before) c.args.n (runOn c.before.before.before.before.before.before.before.before.before.before.before.before.before.before.before.before.before.before.before.before.before.before.before.before.before.before.before.before.before.before.before.before.before.before.before.before.before.before.before.before.before.before.before.before.before.before.before.before.before.before.before.before.before.before.before.before.before.before.before.before.before.before (old_of c.before.before.before.before.before.before.before.before.before.before.before.before.before.before.before.before.before.before.before.before.before.before.before.before.before.before.before.before.before.before.before.before.before.before.before.before.before.before.before.before.before.before.before.before.before.before.before.before.before.before.before.before.before.before.before.before.before.before.before.before.before.before)) c.requires.1.1.0, c.requires.1.1.1.1.0)), c.requires.1.1.1.1.1.1.1)))))
+
+pub shape_of-lanes : goal.shape_of-lanes
+shape_of-lanes c = c.make_edits.auto.1.1.0 ∙ c.put_back.auto.1.1.1.1.1.1.1.1.0
+
+pub shape_of-boundaries : goal.shape_of-boundaries
+shape_of-boundaries c = c.make_edits.auto.1.1.1.0 ∙ c.put_back.auto.1.1.1.1.1.1.1.1.1.0
+
+pub shape_of-roads : goal.shape_of-roads
+shape_of-roads c = c.make_edits.auto.1.1.1.1.0 ∙ c.put_back.auto.1.1.1.1.1.1.1.1.1.1.0
+
+pub shape_of-junctions : goal.shape_of-junctions
+shape_of-junctions c = c.make_edits.auto.1.1.1.1.1.0 ∙ c.put_back.auto.1.1.1.1.1.1.1.1.1.1.1.0
+
+pub shape_of-rules : goal.shape_of-rules
+shape_of-rules c = c.make_edits.auto.1.1.1.1.1.1.0 ∙ c.put_back.auto.1.1.1.1.1.1.1.1.1.1.1.1.0
+
+pub shape_of-stop_lines : goal.shape_of-stop_lines
+shape_of-stop_lines c = c.make_edits.auto.1.1.1.1.1.1.1.0 ∙ c.put_back.auto.1.1.1.1.1.1.1.1.1.1.1.1.1.0
+
+pub shape_of-crosswalks : goal.shape_of-crosswalks
+shape_of-crosswalks c = c.make_edits.auto.1.1.1.1.1.1.1.1.0 ∙ c.put_back.auto.1.1.1.1.1.1.1.1.1.1.1.1.1.1.0
+
+pub shape_of-coordinates : goal.shape_of-coordinates
+shape_of-coordinates c = c.make_edits.auto.1.1.1.1.1.1.1.1.1.0 ∙ c.put_back.auto.1.1.1.1.1.1.1.1.1.1.1.1.1.1.1.0
+
+pub shape_of-marks : goal.shape_of-marks
+shape_of-marks c = c.make_edits.auto.1.1.1.1.1.1.1.1.1.1.1.1.1.1.1.1.1.1.1.1.1.1.1.0
+
+pub shape_of-all_created : goal.shape_of-all_created
+shape_of-all_created c = c.make_edits.auto.1.1.1.1.1.1.1.1.1.1.1.0
+
+pub shape_of-all_modified : goal.shape_of-all_modified
+shape_of-all_modified c = c.make_edits.auto.1.1.1.1.1.1.1.1.1.1.1.1.0
+
+pub shape_of-all_deleted : goal.shape_of-all_deleted
+shape_of-all_deleted c = c.make_edits.auto.1.1.1.1.1.1.1.1.1.1.1.1.1.0
+
+pub shape_of-warnings : goal.shape_of-warnings
+shape_of-warnings c = c.make_edits.auto.1.1.1.1.1.1.1.1.1.1.1.1.1.1.0
+
+pub returns : goal.returns
+returns c = ran-told (mapOf c.before.before.before.before.before.before.before.before.before.before.before.before.before.before.before.before.before.before.before.before.before.before.before.before.before.before.before.before.before.before.before.before.before.before.before.before.before.before.before.before.before.before.before.before.before.before.before.before.before.before.before.before.before.before.before.before.before.before.before.before.before.before.before.before.before.before.before.before.before.before.before.before.before.before.before.before.before.before.before.before.before.before.before.before.before.before.before.before.before) c.args.n (bareOf c.before.before.before.before.before.before.before.before.before.before.before.before.before.before.before.before.before.before.before.before.before.before.before.before.before.before.before.before.before.before.before.before.before.before.before.before.before.before.before.before.before.before.before.before.before.before.before.before.before.before.before.before.before.before.before.before.before.before.before.before.before.before.before.before.before.before.before.before.before.before.before.before.before.before.before.before.before.before.before.before.before.before.before.before.before.before.before.before.before) (tables_of c.put_back.new.1.1.1.1.1.1.1.1.0 c.put_back.new.1.1.1.1.1.1.1.1.1.0 c.put_back.new.1.1.1.1.1.1.1.1.1.1.0 c.put_back.new.1.1.1.1.1.1.1.1.1.1.1.0 c.put_back.new.1.1.1.1.1.1.1.1.1.1.1.1.0 c.put_back.new.1.1.1.1.1.1.1.1.1.1.1.1.1.0 c.put_back.new.1.1.1.1.1.1.1.1.1.1.1.1.1.1.0 c.put_back.new.1.1.1.1.1.1.1.1.1.1.1.1.1.1.1.0) (tables_of c.make_edits.new.1.1.0 c.make_edits.new.1.1.1.0 c.make_edits.new.1.1.1.1.0 c.make_edits.new.1.1.1.1.1.0 c.make_edits.new.1.1.1.1.1.1.0 c.make_edits.new.1.1.1.1.1.1.1.0 c.make_edits.new.1.1.1.1.1.1.1.1.0 c.make_edits.new.1.1.1.1.1.1.1.1.1.0) c.args.marks.now c.make_edits.new.1.1.1.1.1.1.1.1.1.1.1.1.1.1.1.1.1.1.1.1.1.1.1.0 c.args.warnings.now c.make_edits.new.1.1.1.1.1.1.1.1.1.1.1.1.1.1.0 c.make_edits.result (runOn c.before.before.before.before.before.before.before.before.before.before.before.before.before.before.before.before.before.before.before.before.before.before.before.before.before.before.before.before.before.before.before.before.before.before.before.before.before.before.before.before.before.before.before.before.before.before.before.before.before.before.before.before.before.before.before.before.before.before.before.before.before.before.before.before.before.before.before.before.before.before.before.before.before.before.before.before.before.before.before.before.before.before.before.before.before.before.before.before.before) (old_of c.before.before.before.before.before.before.before.before.before.before.before.before.before.before.before.before.before.before.before.before.before.before.before.before.before.before.before.before.before.before.before.before.before.before.before.before.before.before.before.before.before.before.before.before.before.before.before.before.before.before.before.before.before.before.before.before.before.before.before.before.before.before.before.before.before.before.before.before.before.before.before.before.before.before.before.before.before.before.before.before.before.before.before.before.before.before.before.before.before) (tables_of c.put_back.new.1.1.1.1.1.1.1.1.0 c.put_back.new.1.1.1.1.1.1.1.1.1.0 c.put_back.new.1.1.1.1.1.1.1.1.1.1.0 c.put_back.new.1.1.1.1.1.1.1.1.1.1.1.0 c.put_back.new.1.1.1.1.1.1.1.1.1.1.1.1.0 c.put_back.new.1.1.1.1.1.1.1.1.1.1.1.1.1.0 c.put_back.new.1.1.1.1.1.1.1.1.1.1.1.1.1.1.0 c.put_back.new.1.1.1.1.1.1.1.1.1.1.1.1.1.1.1.0) (c.put_back.ensures ∙ put-back-same (mapOf c.before.before.before.before.before.before.before.before.before.before.before.before.before.before.before.before.before.before.before.before.before.before.before.before.before.before.before.before.before.before.before.before.before.before.before.before.before.before.before.before.before.before.before.before.before.before.before.before.before.before.before.before.before.before.before.before.before.before.before.before.before.before.before.before.before.before.before.before.before.before.before.before.before.before.before.before.before.before.before.before.before.before.before.before.before.before.before.before.before) (old_of c.before.before.before.before.before.before.before.before.before.before.before.before.before.before.before.before.before.before.before.before.before.before.before.before.before.before.before.before.before.before.before.before.before.before.before.before.before.before.before.before.before.before.before.before.before.before.before.before.before.before.before.before.before.before.before.before.before.before.before.before.before.before.before.before.before.before.before.before.before.before.before.before.before.before.before.before.before.before.before.before.before.before.before.before.before.before.before.before.before) (long c.before.before.before.before.before.before.before.before.before.before.before.before.before.before.before.before.before.before.before.before.before.before.before.before.before.before.before.before.before.before.before.before.before.before.before.before.before.before.before.before.before.before.before.before.before.before.before.before.before.before.before.before.before.before.before.before.before.before.before.before.before.before.before.before.before.before.before.before.before.before.before.before.before.before.before.before.before.before.before.before.before.before.before.before.before.before.before.before.before)) c.requires.1.1.0 c.make_edits.ensures

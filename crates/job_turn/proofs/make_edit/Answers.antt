@@ -1,0 +1,115 @@
+-- `job_turn::make_edit` meets its contract: the warnings are lent from row `at` on, and what the call leaves is read off. Assumes nothing.
+use borrow.Author.Rules.{rules}
+use mathlib.Core.Path.{refl}
+use mathlib.Core.List.{[]}
+use Prim.Native.Nat.{◌-◌, ◌*◌, ◌≤◌}
+use native.Mathlib.Omega.{arith}
+use native.Mathlib.Nat.{le_refl}
+use lib.ListN.{length}
+use borrow.Rule.Slice.PartMut.{mid_of, same_len_mid}
+use Rattle.tables.specs.View.{Tables, tables_of}
+use Rattle.step.specs.Step.{Lent, lent_of}
+use Rattle.job_turn.proofs.Ends.{Fits, room_fits, may-mark, made_as}
+use Rattle.step.proofs.Counter.{counter-word}
+use Rattle.job_turn.proofs.make_edit.Goals as goal
+use Rattle.job_turn.proofs.make_edit.Lts as lts
+use Rattle.job_turn.proofs.make_edit.Reads as reads
+
+abbrev AtStart : Type 0
+AtStart = lts.Start reads.Pre reads.Post
+
+-- what is lent
+abbrev lent : AtStart → Lent
+lent s =
+    lent_of s.args.counter s.args.lanes.now s.args.boundaries.now s.args.roads.now s.args.junctions.now s.args.rules.now s.args.stop_lines.now
+    s.args.crosswalks.now s.args.coordinates.now s.args.created.now s.args.modified.now s.args.deleted.now
+    (mid_of (s.args.at * 10) (length s.args.warnings.now - s.args.at * 10) s.args.warnings.now)
+
+-- the tables by whose rows is marked
+abbrev old : AtStart → Tables
+old s =
+    tables_of s.args.old-lanes.now s.args.old-boundaries.now s.args.old-roads.now s.args.old-junctions.now s.args.old-rules.now s.args.old-stop-lines.now
+    s.args.old-crosswalks.now []
+
+fits : (s : AtStart) → Fits s.args.tolerance s.args.command (lent s)
+fits s =
+    room_fits s.args.tolerance s.args.command (lent s) s.requires.0 s.requires.1.1.1.1.0 s.requires.1.1.1.1.1.0 s.requires.1.1.1.1.1.1 s.args.at
+    s.args.warnings.now refl s.requires.1.1.1.0
+
+-- the part begins within the warnings
+begins : (s : AtStart) → s.args.at * 10 ≤ length s.args.warnings.now
+begins s = omega (arith, s.requires.1.1.1.0)
+
+pub overflow_mul-first : goal.overflow_mul-first
+overflow_mul-first c = omega (arith, begins c.before.before.before.before.before.before.before.before.before.before.before.before.before.before.before.before.before.before.before.before.before, c.well-formed)
+
+pub offset_bounds-warnings-first : goal.offset_bounds-warnings-first
+offset_bounds-warnings-first c = omega (arith, begins c.before.before.before.before.before.before.before.before.before.before.before.before.before.before.before.before.before.before.before.before.before.before.before.before.before.before.before.before.before.before.before.before, c.well-formed)
+
+pub slice_bounds-dispatch-count : goal.slice_bounds-dispatch-count
+slice_bounds-dispatch-count c = omega (arith, begins c.before.before.before.before.before.before.before.before.before.before.before.before.before.before.before.before.before.before.before.before.before.before.before.before.before.before.before.before.before.before.before.before)
+
+pub dispatch-answer-requires : goal.dispatch-answer-requires
+dispatch-answer-requires c = c.requires.0
+
+pub mark_all-requires : goal.mark_all-requires
+mark_all-requires c =
+    let s = c.before.before.before.before.before.before.before.before.before.before.before.before.before.before.before.before.before.before.before.before.before.before.before.before.before.before.before.before.before.before.before.before.before.before.before.before.before.before.before.before.before.before.before.before.before.before.before.before.before.before.before.before.before.before.before.before.before.before.before.before.before in
+    let d = c.dispatch-answer in
+    (s.requires.1.0, (s.requires.1.1.0, may-mark s.args.tolerance s.args.command (lent s) _ d.result d.ensures s.requires.0 (fits s) c.counts-n.result c.counts-n.ensures d.auto.1.1.1.1.1.1.1.1.1.1.1.1.0))
+
+pub turn_of-requires : goal.turn_of-requires
+turn_of-requires c =
+    let s = c.before.before.before.before.before.before.before.before.before.before.before.before.before.before.before.before.before.before.before.before.before.before.before.before.before.before.before.before.before.before.before.before.before.before.before.before.before.before.before.before.before.before.before.before.before.before.before.before.before.before.before.before.before.before.before.before.before.before.before.before.before.before.before.before in
+    let d = c.dispatch-answer in
+    counter-word s.args.tolerance s.args.command (lent s) _ d.result d.ensures (omega (arith, s.well-formed))
+
+pub shape_of-lanes : goal.shape_of-lanes
+shape_of-lanes c = c.dispatch-answer.auto.1.1.0
+
+pub shape_of-boundaries : goal.shape_of-boundaries
+shape_of-boundaries c = c.dispatch-answer.auto.1.1.1.0
+
+pub shape_of-roads : goal.shape_of-roads
+shape_of-roads c = c.dispatch-answer.auto.1.1.1.1.0
+
+pub shape_of-junctions : goal.shape_of-junctions
+shape_of-junctions c = c.dispatch-answer.auto.1.1.1.1.1.0
+
+pub shape_of-rules : goal.shape_of-rules
+shape_of-rules c = c.dispatch-answer.auto.1.1.1.1.1.1.0
+
+pub shape_of-stop_lines : goal.shape_of-stop_lines
+shape_of-stop_lines c = c.dispatch-answer.auto.1.1.1.1.1.1.1.0
+
+pub shape_of-crosswalks : goal.shape_of-crosswalks
+shape_of-crosswalks c = c.dispatch-answer.auto.1.1.1.1.1.1.1.1.0
+
+pub shape_of-coordinates : goal.shape_of-coordinates
+shape_of-coordinates c = c.dispatch-answer.auto.1.1.1.1.1.1.1.1.1.0
+
+pub shape_of-created : goal.shape_of-created
+shape_of-created c = c.dispatch-answer.auto.1.1.1.1.1.1.1.1.1.1.1.0
+
+pub shape_of-modified : goal.shape_of-modified
+shape_of-modified c = c.dispatch-answer.auto.1.1.1.1.1.1.1.1.1.1.1.1.0
+
+pub shape_of-deleted : goal.shape_of-deleted
+shape_of-deleted c = c.dispatch-answer.auto.1.1.1.1.1.1.1.1.1.1.1.1.1.0
+
+pub shape_of-warnings : goal.shape_of-warnings
+shape_of-warnings c =
+    let s = c.before.before.before.before.before.before.before.before.before.before.before.before.before.before.before.before.before.before.before.before.before.before.before.before.before.before.before.before.before.before.before.before.before.before.before.before.before.before.before.before.before.before.before.before.before.before.before.before.before.before.before.before.before.before.before.before.before.before.before.before.before.before.before.before.before in
+    let d = c.dispatch-answer in
+    same_len_mid (s.args.at * 10) (length s.args.warnings.now - s.args.at * 10) s.args.warnings.now d.new.1.1.1.1.1.1.1.1.1.1.1.1.1.1.0 d.auto.1.1.1.1.1.1.1.1.1.1.1.1.1.1.0
+
+pub shape_of-marks : goal.shape_of-marks
+shape_of-marks c = c.mark_all.auto.1.1.1.1.1.1.1.1.1.0
+
+pub returns : goal.returns
+returns c =
+    let s = c.before.before.before.before.before.before.before.before.before.before.before.before.before.before.before.before.before.before.before.before.before.before.before.before.before.before.before.before.before.before.before.before.before.before.before.before.before.before.before.before.before.before.before.before.before.before.before.before.before.before.before.before.before.before.before.before.before.before.before.before.before.before.before.before.before in
+    let d = c.dispatch-answer in
+    let m = c.mark_all in
+    let n = c.counts-n in
+    made_as s.args.tolerance s.args.command (lent s) _ d.result d.ensures s.requires.0 (fits s) (old s) s.args.marks.now m.new.1.1.1.1.1.1.1.1.1.0 s.args.at s.args.warnings.now _ n.result c.turn_of.result n.ensures m.ensures (begins s) refl refl c.turn_of.ensures

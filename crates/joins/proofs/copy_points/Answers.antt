@@ -1,0 +1,67 @@
+-- `joins::copy_points` meets its contract: what is left, written behind what was written, makes the whole. Assumes nothing.
+use Prim.Native.Nat.{◌+◌, ◌≤◌, ◌<◌, ◌-◌}
+use mathlib.Core.Path.{refl}
+use mathlib.Core.List.{List, [], ◌∷◌, ◌++◌}
+use native.Mathlib.Omega.{arith}
+use borrow.Author.Rules.{rules}
+use lib.ListN.{length, drop}
+use Rattle.polyline.specs.Polyline.{points}
+use Rattle.polyline.proofs.Walk.{at, left-none, left-more}
+use Rattle.polyline.proofs.Lines.{Left, begins, fits_more, goes_on, ends}
+use Rattle.geometry.specs.declared.Point3.{Point3}
+use Rattle.joins.proofs.copy_points.Goals as goal
+use Rattle.joins.proofs.copy_points.Lts as lts
+use Rattle.joins.proofs.copy_points.Reads as reads
+
+abbrev AtInLoopI : Type 0
+AtInLoopI = lts.In-loop reads.Pre reads.Post goal.the-invariant-loop-i goal.the-decreases-loop-i
+
+-- the line, the points to write, and the next of them with what is left behind it
+abbrev line_of : AtInLoopI → List Point3
+line_of c = points c.args.line.now
+
+abbrev whole : AtInLoopI → List Point3
+whole c = drop c.args.from (line_of c)
+
+next : (c : AtInLoopI) → Left c.args.out.now c.loop-i.out c.args.k c.loop-i.to (whole c)
+    (at (line_of c) c.loop-i.i ∷ [] ++ drop (c.loop-i.i + 1) (line_of c))
+next c =
+    let h : c.loop-i.i < length (line_of c) = omega (arith, c.count-n.ensures) in
+    rw (left-more (line_of c) c.loop-i.i h) at c.loop-i.invariant
+
+pub loop-i-init : goal.loop-i-init
+loop-i-init c = begins c.args.out.now c.args.k (drop c.args.from (points c.args.line.now))
+
+pub point-requires : goal.point-requires
+point-requires c = omega (arith, c.count-n.ensures, c.loop-i-test.true)
+
+pub put_point-requires : goal.put_point-requires
+put_point-requires c =
+    let r = fits_more _ _ _ _ (whole c.before.before.before) (at (line_of c.before.before.before) c.loop-i.i ∷ []) (drop (c.loop-i.i + 1) (line_of c.before.before.before)) c.requires (next c.before.before.before) in
+    omega (arith, r)
+
+pub overflow_add-i : goal.overflow_add-i
+overflow_add-i c = omega (arith, c.count-n.type-inv, c.loop-i-test.true)
+
+pub overflow_add-to : goal.overflow_add-to
+overflow_add-to c =
+    let r = fits_more _ _ _ _ (whole c.before.before.before.before.before.before) (at (line_of c.before.before.before.before.before.before) c.loop-i.i ∷ []) (drop (c.loop-i.i + 1) (line_of c.before.before.before.before.before.before)) c.requires (next c.before.before.before.before.before.before) in
+    omega (arith, r, c.loop-i.invariant.same, c.well-formed.1.1.0.0)
+
+pub loop-i-smaller : goal.loop-i-smaller
+loop-i-smaller c = omega (arith, c.loop-i-test.true)
+
+pub loop-i-preserved : goal.loop-i-preserved
+loop-i-preserved c =
+    rw (c.put_point.ensures, c.point.ensures)
+    (goes_on _ _ _ _ (whole c.before.before.before.before.before.before) (at (line_of c.before.before.before.before.before.before) c.loop-i.i ∷ []) (drop (c.loop-i.i + 1) (line_of c.before.before.before.before.before.before)) c.requires (next c.before.before.before.before.before.before) (c.loop-i.to + 1) refl)
+
+pub shape_of-out : goal.shape_of-out
+shape_of-out c = c.loop-i.invariant.same
+
+pub returns : goal.returns
+returns c =
+    let ps = points c.args.line.now in
+    let l = c.loop-i in
+    let h : length ps ≤ l.i = omega (arith, c.count-n.ensures, c.loop-i-test.false) in
+    ends c.args.out.now l.out c.args.k l.to (drop c.args.from ps) (rw (left-none ps l.i h) at l.invariant)

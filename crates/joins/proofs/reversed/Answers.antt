@@ -1,0 +1,75 @@
+-- `joins::reversed` meets its contract: what is left at i is the first n - i points, backwards. Assumes nothing.
+use Prim.Native.Nat.{◌+◌, ◌*◌, ◌≤◌, ◌<◌, ◌-◌}
+use mathlib.Core.Path.{refl}
+use mathlib.Core.List.{List, [], ◌∷◌, ◌++◌, reverse}
+use native.Mathlib.Omega.{arith}
+use borrow.Author.Rules.{rules}
+use lib.ListN.{length, take, length-reverse}
+use Rattle.polyline.specs.Polyline.{points}
+use Rattle.polyline.proofs.Walk.{at}
+use Rattle.polyline.proofs.Lines.{reverse-begins, reverse-goes, reverse-ends, Left, begins, fits_more, goes_on, ends}
+use Rattle.geometry.specs.declared.Point3.{Point3}
+use Rattle.joins.proofs.reversed.Goals as goal
+use Rattle.joins.proofs.reversed.Lts as lts
+use Rattle.joins.proofs.reversed.Reads as reads
+
+abbrev AtInLoopI : Type 0
+AtInLoopI = lts.In-loop reads.Pre reads.Post goal.the-invariant-loop-i goal.the-decreases-loop-i
+
+-- the line, the next point with what is left behind it, and the room for all
+abbrev line_of : AtInLoopI → List Point3
+line_of c = points c.args.line.now
+
+abbrev rest : AtInLoopI → List Point3
+rest c = reverse (take (length (line_of c) - (c.loop-i.i + 1)) (line_of c))
+
+abbrev point-of : AtInLoopI → Point3
+point-of c = at (line_of c) (length (line_of c) - 1 - c.loop-i.i)
+
+next : (c : AtInLoopI) → Left c.args.out.now c.loop-i.out 0 c.loop-i.i (reverse (line_of c)) (point-of c ∷ [] ++ rest c)
+next c =
+    let h : c.loop-i.i < length (line_of c) = omega (arith, c.count-n.ensures) in
+    rw (reverse-goes (line_of c) c.loop-i.i h) at c.loop-i.invariant.1
+
+room : (c : AtInLoopI) → (0 + length (reverse (line_of c))) * 3 ≤ length c.args.out.now
+room c = omega (arith, length-reverse (line_of c), c.requires)
+
+pub loop-i-init : goal.loop-i-init
+loop-i-init c = (omega arith, rw (reverse-begins (points c.args.line.now)) (begins c.args.out.now 0 (reverse (points c.args.line.now))))
+
+pub overflow_sub-n : goal.overflow_sub-n
+overflow_sub-n c = omega (arith, c.loop-i-test.true)
+
+pub overflow_sub-n-in-loop-i : goal.overflow_sub-n-in-loop-i
+overflow_sub-n-in-loop-i c = omega (arith, c.loop-i-test.true)
+
+pub point-requires : goal.point-requires
+point-requires c = omega (arith, c.count-n.ensures, c.loop-i-test.true)
+
+pub put_point-requires : goal.put_point-requires
+put_point-requires c =
+    let r = fits_more _ _ _ _ (reverse (line_of c.before.before.before)) (point-of c.before.before.before ∷ []) (rest c.before.before.before) (room c.before.before.before) (next c.before.before.before) in
+    omega (arith, r)
+
+pub overflow_add-i : goal.overflow_add-i
+overflow_add-i c = omega (arith, c.count-n.type-inv, c.loop-i-test.true)
+
+pub loop-i-smaller : goal.loop-i-smaller
+loop-i-smaller c = omega (arith, c.loop-i-test.true)
+
+pub loop-i-preserved : goal.loop-i-preserved
+loop-i-preserved c = (
+  omega (arith, c.loop-i-test.true),
+  rw (c.put_point.ensures, c.point.ensures, c.count-n.ensures)
+      (goes_on _ _ _ _ (reverse (line_of c.before.before.before.before.before.before)) (point-of c.before.before.before.before.before.before ∷ []) (rest c.before.before.before.before.before.before) (room c.before.before.before.before.before.before) (next c.before.before.before.before.before.before) (c.loop-i.i + 1) refl),
+)
+
+pub shape_of-out : goal.shape_of-out
+shape_of-out c = c.loop-i.invariant.1.same
+
+pub returns : goal.returns
+returns c =
+    let ps = points c.args.line.now in
+    let l = c.loop-i in
+    let h : length ps ≤ l.i = omega (arith, c.count-n.ensures, c.loop-i-test.false) in
+    (c.count-n.ensures, ends c.args.out.now l.out 0 l.i (reverse ps) (rw (reverse-ends ps l.i h) at l.invariant.1))

@@ -1,0 +1,101 @@
+-- `lane_lines::between_sides` meets its contract: both sides are read back from where they were written. Assumes nothing.
+use mathlib.Core.Path.{◌≡◌, ◌∙◌, sym}
+use mathlib.Core.List.{List}
+use mathlib.Core.Option.{Option, some}
+use Prim.Native.Nat.{ℕ, ◌*◌, ◌≤◌}
+use native.Mathlib.Omega.{arith}
+use lib.Ieee.{Float}
+use lib.ListN.{length, take}
+use lib.Seq.{length-take-le}
+use borrow.Author.Rules.{rules}
+use Rattle.polyline.specs.Polyline.{points}
+use Rattle.entities.specs.Records.{Line}
+use Rattle.rules.specs.Names.{Side, Left, Right}
+use Rattle.rules.specs.Map.{oriented_boundary}
+use Rattle.tables.specs.View.{lane_of}
+use Rattle.lookup.specs.declared.OptionCount.TheVariants as N
+use Rattle.lookup.specs.Lookup.{row_at, drawn, count_of, points_or}
+use Rattle.lookup.proofs.Laws.{written_none}
+use Rattle.lookup.proofs.Center.{count_none, oriented-few, side-length, side-small, side-there, side-few, left-absent, right-absent, center_room, center_empty, center_some}
+use Rattle.lane_lines.proofs.between_sides.Goals as goal
+use Rattle.lane_lines.proofs.between_sides.Lts as lts
+use Rattle.lane_lines.proofs.between_sides.Reads as reads
+
+abbrev AtAfterOrientedBoundaryR : Type 0
+AtAfterOrientedBoundaryR = lts.After-oriented_boundary2 reads.Pre reads.Post
+
+-- a side of the lane, and what was written of both
+abbrev side_of : AtAfterOrientedBoundaryR → Side → Option Line
+side_of c side = oriented_boundary (drawn c.args.coordinates.now c.args.boundaries.now) side (lane_of c.args.coordinates.now (row_at 52 c.args.lanes.now c.args.i))
+
+abbrev leftOut : AtAfterOrientedBoundaryR → List Float
+leftOut c = c.oriented_boundary-l.new.1.1.1.1.1.0
+
+abbrev rightOut : AtAfterOrientedBoundaryR → List Float
+rightOut c = c.oriented-boundary2.new.1.1.1.1.1.0
+
+few : (c : AtAfterOrientedBoundaryR) (side : Side) → length (points_or (side_of c side)) ≤ 256
+few c side = oriented-few c.args.coordinates.now c.args.boundaries.now (row_at 52 c.args.lanes.now c.args.i) side c.requires.0.boundaries_short
+
+left-long : (c : AtAfterOrientedBoundaryR) → length (leftOut c) ≡ length c.args.left.now
+left-long c = side-length (side_of c Left) c.args.left.now (leftOut c) (few c Left) c.requires.1.1.0 c.oriented_boundary-l.ensures.1
+
+right-long : (c : AtAfterOrientedBoundaryR) → length (rightOut c) ≡ length c.args.right.now
+right-long c = side-length (side_of c Right) c.args.right.now (rightOut c) (few c Right) c.requires.1.1.1.0 c.oriented_boundary-r.ensures.1
+
+module _ (c : AtAfterOrientedBoundaryR) (a : ℕ) (n : N.Some a ≡ count_of (side_of c Left)) where
+  left-small : a ≤ 256
+  left-small = side-small (side_of c Left) c.args.left.now (leftOut c) (few c Left) c.requires.1.1.0 c.oriented_boundary-l.ensures.1 a n
+
+  left_there : side_of c Left ≡ some (points (take (a * 3) (leftOut c)))
+  left_there = side-there (side_of c Left) c.args.left.now (leftOut c) (few c Left) c.requires.1.1.0 c.oriented_boundary-l.ensures.1 a n
+
+  left_few : length (points (take (a * 3) (leftOut c))) ≤ 256
+  left_few = side-few (side_of c Left) c.args.left.now (leftOut c) (few c Left) c.requires.1.1.0 c.oriented_boundary-l.ensures.1 a n
+
+module _ (c : AtAfterOrientedBoundaryR) (a : ℕ) (n : N.Some a ≡ count_of (side_of c Right)) where
+  right-small : a ≤ 256
+  right-small = side-small (side_of c Right) c.args.right.now (rightOut c) (few c Right) c.requires.1.1.1.0 c.oriented_boundary-r.ensures.1 a n
+
+  right_there : side_of c Right ≡ some (points (take (a * 3) (rightOut c)))
+  right_there = side-there (side_of c Right) c.args.right.now (rightOut c) (few c Right) c.requires.1.1.1.0 c.oriented_boundary-r.ensures.1 a n
+
+  right_few : length (points (take (a * 3) (rightOut c))) ≤ 256
+  right_few = side-few (side_of c Right) c.args.right.now (rightOut c) (few c Right) c.requires.1.1.1.0 c.oriented_boundary-r.ensures.1 a n
+
+pub returns-in_default : goal.returns-in_default
+returns-in_default c = let x = written_none _ c.args.out.now (left-absent (side_of c.before.before.before.before.before Left) (side_of c.before.before.before.before.before Right) (count_none (side_of c.before.before.before.before.before Left) (sym c.in_default.is ∙ c.oriented_boundary-l.ensures.0))) in
+    (x.0, (x.1, (c.oriented_boundary-l.ensures.1, c.oriented_boundary-r.ensures.1)))
+
+pub returns-in_default-r : goal.returns-in_default-r
+returns-in_default-r c = let x = written_none _ c.args.out.now (right-absent (side_of c.before.before.before.before.before.before.before.before Left) (side_of c.before.before.before.before.before.before.before.before Right) (count_none (side_of c.before.before.before.before.before.before.before.before Right) (sym c.in_default-r.is ∙ c.oriented_boundary-r.ensures.0))) in
+    (x.0, (x.1, (c.oriented_boundary-l.ensures.1, c.oriented_boundary-r.ensures.1)))
+
+pub overflow_mul-left_end : goal.overflow_mul-left_end
+overflow_mul-left_end c = omega (arith, left-small c.before.before.before.before.before.before.before.before.before c.in-Some.a (sym c.in-Some.is ∙ c.oriented_boundary-l.ensures.0))
+
+pub overflow_mul-right_end : goal.overflow_mul-right_end
+overflow_mul-right_end c = omega (arith, right-small c.before.before.before.before.before.before.before.before.before c.in-Some-r.b (sym c.in-Some-r.is ∙ c.oriented_boundary-r.ensures.0))
+
+pub slice_bounds-centerline-end : goal.slice_bounds-centerline-end
+slice_bounds-centerline-end c = omega (arith, left-small c.before.before.before.before.before.before.before.before.before c.in-Some.a (sym c.in-Some.is ∙ c.oriented_boundary-l.ensures.0), left-long c.before.before.before.before.before.before.before.before.before, c.requires.1.1.0)
+
+pub slice_bounds-centerline-end-2 : goal.slice_bounds-centerline-end-2
+slice_bounds-centerline-end-2 c = sym (length-take-le (c.in-Some.a * 3) (leftOut c.before.before.before.before.before.before.before.before.before.before) (omega (arith, left-small c.before.before.before.before.before.before.before.before.before.before c.in-Some.a (sym c.in-Some.is ∙ c.oriented_boundary-l.ensures.0), left-long c.before.before.before.before.before.before.before.before.before.before, c.requires.1.1.0)))
+
+pub slice_bounds-centerline-end-3 : goal.slice_bounds-centerline-end-3
+slice_bounds-centerline-end-3 c = omega (arith, right-small c.before.before.before.before.before.before.before.before.before.before c.in-Some-r.b (sym c.in-Some-r.is ∙ c.oriented_boundary-r.ensures.0), right-long c.before.before.before.before.before.before.before.before.before.before, c.requires.1.1.1.0)
+
+pub slice_bounds-centerline-end-4 : goal.slice_bounds-centerline-end-4
+slice_bounds-centerline-end-4 c = sym (length-take-le (c.in-Some-r.b * 3) (rightOut c.before.before.before.before.before.before.before.before.before.before.before) (omega (arith, right-small c.before.before.before.before.before.before.before.before.before.before.before c.in-Some-r.b (sym c.in-Some-r.is ∙ c.oriented_boundary-r.ensures.0), right-long c.before.before.before.before.before.before.before.before.before.before.before, c.requires.1.1.1.0)))
+
+pub centerline-n-requires : goal.centerline-n-requires
+centerline-n-requires c = center_room (points (take (c.in-Some.a * 3) (leftOut c.before.before.before.before.before.before.before.before.before.before.before.before))) (points (take (c.in-Some-r.b * 3) (rightOut c.before.before.before.before.before.before.before.before.before.before.before.before))) _ (left_few c.before.before.before.before.before.before.before.before.before.before.before.before c.in-Some.a (sym c.in-Some.is ∙ c.oriented_boundary-l.ensures.0)) (right_few c.before.before.before.before.before.before.before.before.before.before.before.before c.in-Some-r.b (sym c.in-Some-r.is ∙ c.oriented_boundary-r.ensures.0)) c.requires.1.1.1.1
+
+pub returns-then-n-eq0 : goal.returns-then-n-eq0
+returns-then-n-eq0 c = let x = center_empty (side_of c.before.before.before.before.before.before.before.before.before.before.before.before.before.before.before.before Left) (side_of c.before.before.before.before.before.before.before.before.before.before.before.before.before.before.before.before Right) (points (take (c.in-Some.a * 3) (leftOut c.before.before.before.before.before.before.before.before.before.before.before.before.before.before.before.before))) (points (take (c.in-Some-r.b * 3) (rightOut c.before.before.before.before.before.before.before.before.before.before.before.before.before.before.before.before))) (left_there c.before.before.before.before.before.before.before.before.before.before.before.before.before.before.before.before c.in-Some.a (sym c.in-Some.is ∙ c.oriented_boundary-l.ensures.0)) (right_there c.before.before.before.before.before.before.before.before.before.before.before.before.before.before.before.before c.in-Some-r.b (sym c.in-Some-r.is ∙ c.oriented_boundary-r.ensures.0)) c.centerline-n.result c.centerline-n.ensures.0 c.args.out.now c.centerline-n.new.1.1.0 c.centerline-n.ensures.1 c.if-n-eq0.true in
+    (x.0, (x.1, (c.oriented_boundary-l.ensures.1, c.oriented_boundary-r.ensures.1)))
+
+pub returns : goal.returns
+returns c = let x = center_some (side_of c.before.before.before.before.before.before.before.before.before.before.before.before.before.before.before.before Left) (side_of c.before.before.before.before.before.before.before.before.before.before.before.before.before.before.before.before Right) (points (take (c.in-Some.a * 3) (leftOut c.before.before.before.before.before.before.before.before.before.before.before.before.before.before.before.before))) (points (take (c.in-Some-r.b * 3) (rightOut c.before.before.before.before.before.before.before.before.before.before.before.before.before.before.before.before))) (left_there c.before.before.before.before.before.before.before.before.before.before.before.before.before.before.before.before c.in-Some.a (sym c.in-Some.is ∙ c.oriented_boundary-l.ensures.0)) (right_there c.before.before.before.before.before.before.before.before.before.before.before.before.before.before.before.before c.in-Some-r.b (sym c.in-Some-r.is ∙ c.oriented_boundary-r.ensures.0)) c.centerline-n.result c.centerline-n.ensures.0 c.args.out.now c.centerline-n.new.1.1.0 c.centerline-n.ensures.1 c.if-n-eq0.false in
+    (x.0, (x.1, (c.oriented_boundary-l.ensures.1, c.oriented_boundary-r.ensures.1)))

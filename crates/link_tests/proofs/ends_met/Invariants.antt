@@ -1,0 +1,19 @@
+-- `link_tests::ends_met` meets its contract. The invariant: the cursors are the counts where those from j on are. The measure is how many are left. Assumes nothing.
+use mathlib.Core.Path.{◌≡◌, refl, sym, ◌∙◌}
+use Prim.Native.Nat.{◌+◌, ◌-◌, ◌*◌, ◌≤◌, ◌<◌}
+use native.Mathlib.Omega.{arith}
+use lib.ListN.{length, get_or, drop}
+use lib.Dec.{eqb}
+use mathlib.Core.Bool.{◌&&◌}
+use borrow.Author.Tests.{eq-eqb, ne_eqb}
+use Rattle.lists.specs.Select.{same_numbers}
+use Rattle.tables.specs.View.{word, rows}
+use Rattle.row_tests.proofs.Lanes.{lane_room}
+use Rattle.link_tests.proofs.Steps.{same_step, same_end, counts-many, count_at}
+use Rattle.link_tests.proofs.ends_met.Given as goal
+
+abbrev pub invariant-loop-j : goal.invariant-loop-j
+invariant-loop-j l = (l.j ≤ length l.met) × (same_numbers l.met (rows 52 (word 18) l.t) ≡ same_numbers (drop l.j l.met) (drop l.j (rows 52 (word 18) l.t)))
+
+abbrev pub decreases-loop-j : goal.decreases-loop-j
+decreases-loop-j l = length l.met - l.j

@@ -1,0 +1,106 @@
+-- `link_tests::lane_met` meets its contract. The invariant: the cursors count the links before k, and the lane's links are met where those from k on are. The measure
+use mathlib.Core.Path.{◌≡◌, refl, sym, ◌∙◌}
+use mathlib.Core.List.{List}
+use mathlib.Core.Bool.{true, ◌&&◌, true≢false}
+use mathlib.Core.Logic.{inr}
+use Prim.Native.Nat.{ℕ, ◌+◌, ◌-◌, ◌*◌, ◌≤◌}
+use native.Mathlib.Omega.{arith}
+use lib.ListN.{length, get_or, drop}
+use Rattle.lists.specs.Every.{all}
+use Rattle.lists.proofs.Every.{all-step, all_end}
+use Rattle.tables.specs.View.{word, ids_at}
+use Rattle.row_tests.specs.Returned.{searchable, lane_at}
+use Rattle.row_tests.proofs.Lanes.{lane_room, links-within, word_at}
+use Rattle.link_tests.specs.Met.{cursors, link_met, lane_met}
+use Rattle.link_tests.proofs.Followed.{length-after}
+use Rattle.link_tests.proofs.Steps.{lane-moved}
+use Rattle.link_tests.proofs.lane_met.Goals as goal
+use Rattle.link_tests.proofs.lane_met.Lts as lts
+use Rattle.link_tests.proofs.lane_met.Reads as reads
+
+abbrev AtStart : Type 0
+AtStart = lts.Start reads.Pre reads.Post goal.the-invariant-loop-k goal.the-decreases-loop-k
+
+abbrev AtInLoopK : Type 0
+AtInLoopK = lts.In-loop reads.Pre reads.Post goal.the-invariant-loop-k goal.the-decreases-loop-k
+
+abbrev words : (c : AtStart) → List ℕ
+words c = c.args.t.now
+
+sorted : (c : AtStart) → searchable (words c) ≡ true
+sorted c = c.requires.0.0.sorted
+
+-- the row lies in the table, and its links in the row
+room : (c : AtStart) → 1 + c.args.i * 52 + 52 ≤ length (words c)
+room c = lane_room (words c) (sorted c) c.args.i c.requires.1.0
+
+count-is : (c : AtStart) → get_or (words c) (1 + c.args.i * 52 + 35) 0 ≡ word 35 (lane_at (words c) c.args.i)
+count-is c = word_at (words c) c.args.i 35 (omega arith)
+
+few : (c : AtStart) → 35 + 1 + get_or (words c) (1 + c.args.i * 52 + 35) 0 ≤ 52
+few c = links-within (words c) (sorted c) c.args.i c.requires.1.0 35 (inr refl)
+
+-- the links from one on, one after the other
+turn : (c : AtInLoopK)
+    → let b = c.before.before.before.before.before.before in
+    let s = ids_at 35 (lane_at (words b) b.args.i) in
+    let k = c.loop-k.k in
+    lane_met (words b) b.args.i ≡ (link_met (words b) b.args.i (get_or s k 0) && all (link_met (words b) b.args.i) (drop (k + 1) s))
+turn c =
+    let b = c.before.before.before.before.before.before in
+    let s = ids_at 35 (lane_at (words b) b.args.i) in
+    c.loop-k.invariant.1.1.1 ∙ all-step (link_met (words b) b.args.i) s c.loop-k.k 0 (rw (length-after (words b) (sorted b) b.args.i b.requires.1.0, ← count-is b) c.loop-k-test.true)
+
+pub overflow_mul-count : goal.overflow_mul-count
+overflow_mul-count c = omega (arith, room c.before.before.before.before)
+
+pub overflow_add-count : goal.overflow_add-count
+overflow_add-count c = omega (arith, room c.before.before.before.before)
+
+pub overflow_add-count-2 : goal.overflow_add-count-2
+overflow_add-count-2 c = omega (arith, room c.before.before.before.before)
+
+pub offset_bounds-t-i : goal.offset_bounds-t-i
+offset_bounds-t-i c = omega (arith, room c.before.before.before.before)
+
+pub bounds-t-i : goal.bounds-t-i
+bounds-t-i c = omega (arith, room c.before.before.before.before.before)
+
+pub loop-k-init : goal.loop-k-init
+unfolding lane_met
+loop-k-init c = (omega arith, (refl, (c.requires.1.1, refl)))
+
+pub link_met-requires : goal.link_met-requires
+link_met-requires c = let b = c.before.before.before.before.before.before.before.before in (b.requires.0, (b.requires.1.0, (rw (← count-is b) c.loop-k-test.true, c.loop-k.invariant.1.1.0)))
+
+pub overflow_add-k : goal.overflow_add-k
+overflow_add-k c = omega (arith, few c.before.before.before.before.before.before.before.before.before.before.before.before, c.loop-k-test.true)
+
+pub loop-k-smaller : goal.loop-k-smaller
+loop-k-smaller c = omega (arith, c.loop-k-test.true)
+
+pub loop-k-preserved : goal.loop-k-preserved
+loop-k-preserved c =
+    let l = c.link_met in
+    (omega (arith, c.loop-k-test.true), (l.auto.1.1.0 ∙ c.loop-k.invariant.1.0, (l.ensures.1 c.if-link_met.true, turn c.before.before.before.before.before.before ∙ rw (← l.ensures.0, c.if-link_met.true))))
+
+pub shape_of-met-else-link_met : goal.shape_of-met-else-link_met
+shape_of-met-else-link_met c = c.link_met.auto.1.1.0 ∙ c.loop-k.invariant.1.0
+
+pub returns-else-link_met : goal.returns-else-link_met
+returns-else-link_met c =
+    let l = c.link_met in
+    (sym (turn c.before.before.before.before.before.before ∙ rw (← l.ensures.0, c.if-link_met.false)), λ z. absurd (true≢false (sym z)))
+
+pub shape_of-met : goal.shape_of-met
+shape_of-met c = c.loop-k.invariant.1.0
+
+pub returns : goal.returns
+returns c =
+    let b = c.before.before.before.before.before.before.before in
+    let l = c.loop-k in
+    let s = ids_at 35 (lane_at (words b) b.args.i) in
+    let m : word 35 (lane_at (words b) b.args.i) ≤ l.k = omega (arith, c.loop-k-test.false, count-is b) in (
+      sym (l.invariant.1.1.1 ∙ all_end (link_met (words b) b.args.i) s l.k (rw (length-after (words b) (sorted b) b.args.i b.requires.1.0) m)),
+      λ z. l.invariant.1.1.0 ∙ lane-moved (words b) (sorted b) b.requires.0.1 b.args.i b.requires.1.0 l.k m,
+    )

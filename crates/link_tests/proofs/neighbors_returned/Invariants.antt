@@ -1,0 +1,17 @@
+-- `link_tests::neighbors_returned` meets its contract. The invariant: every row passes where those from i on do. The measure is how many are left. Assumes nothing.
+use borrow.Author.Rules.{rules}
+use mathlib.Core.Path.{◌≡◌, refl}
+use mathlib.Core.Logic.{inl, inr}
+use Prim.Native.Nat.{◌-◌, ◌≤◌}
+use native.Mathlib.Omega.{arith}
+use Rattle.row_tests.specs.Good.{all_rows}
+use Rattle.row_tests.specs.Returned.{slots_returned}
+use Rattle.row_tests.proofs.Tables.{rest_rows, row_of, pass-begins, pass-goes-on, pass-stops, pass-ends}
+use Rattle.row_tests.proofs.Lanes.{lanes-some, lanes-few, lane_row}
+use Rattle.link_tests.proofs.neighbors_returned.Given as goal
+
+abbrev pub invariant-loop-i : goal.invariant-loop-i
+invariant-loop-i l = (l.i ≤ l.n) × (all_rows 52 (slots_returned l.t) l.t ≡ rest_rows 52 (slots_returned l.t) l.t l.i)
+
+abbrev pub decreases-loop-i : goal.decreases-loop-i
+decreases-loop-i l = l.n - l.i

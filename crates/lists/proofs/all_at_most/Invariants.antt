@@ -1,0 +1,17 @@
+-- `lists::all_at_most` meets its contract. The invariant: the list passes where what is left from i on does.
+-- The measure is how much is left. Assumes nothing.
+use mathlib.Core.Path.{◌≡◌, refl, sym, ◌∙◌}
+use Prim.Native.Nat.{ℕ, ◌-◌, ◌≤◌}
+use native.Mathlib.Omega.{arith}
+use lib.Dec.{leb}
+use lib.ListN.{length, get_or, drop}
+use borrow.Author.Tests.{le-leb, lt-leb}
+use Rattle.lists.specs.Every.{all}
+use Rattle.lists.proofs.Every.{all-step, all_end}
+use Rattle.lists.proofs.all_at_most.Given as goal
+
+abbrev pub invariant-loop-i : goal.invariant-loop-i
+invariant-loop-i l = (l.i ≤ length l.ids) × (all (λ x. leb x l.most) l.ids ≡ all (λ x. leb x l.most) (drop l.i l.ids))
+
+abbrev pub decreases-loop-i : goal.decreases-loop-i
+decreases-loop-i l = length l.ids - l.i

@@ -1,0 +1,8 @@
+-- `lookup::lane` meets its contract: the table is sorted. Assumes nothing.
+use native.Mathlib.Omega.{arith}
+use borrow.Author.Rules.{rules}
+use Rattle.lookup.proofs.Laws.{sorted-search}
+use Rattle.lookup.proofs.lane.Goals as goal
+
+pub row_of-requires : goal.row_of-requires
+row_of-requires c = sorted-search 1024 52 c.args.lanes.now c.requires (omega arith)

@@ -1,0 +1,16 @@
+-- `polyline::locate` meets its contract: the place is the place on what is left. Assumes nothing.
+use Prim.Native.Nat.{◌+◌, ◌≤◌, ◌<◌, ◌-◌}
+use mathlib.Core.Path.{◌≡◌, sym, ◌∙◌}
+use mathlib.Core.Logic.{⊎_elim}
+use native.Mathlib.Omega.{arith}
+use borrow.Author.Rules.{rules}
+use lib.ListN.{length, drop}
+use Rattle.polyline.specs.Polyline.{points, locate, locate_from}
+use Rattle.polyline.proofs.Walk.{locate-none, locate-one, locate-before, locate-begins, locate-found, locate-goes, locate-ends}
+use Rattle.polyline.proofs.locate.Given as goal
+
+abbrev pub invariant-loop-i : goal.invariant-loop-i
+invariant-loop-i l = (l.i + 1 ≤ l.n) × (locate (points l.line) l.station ≡ locate_from l.i l.at l.station l.p (drop (l.i + 1) (points l.line)))
+
+abbrev pub decreases-loop-i : goal.decreases-loop-i
+decreases-loop-i l = l.n - l.i

@@ -1,0 +1,9 @@
+-- `slots::append` meets its contract. Assumes nothing.
+use borrow.Author.Rules.{rules}
+use Rattle.lists.proofs.Rows.{store-end}
+use Rattle.slots.proofs.append.Goals as goal
+
+pub returns : goal.returns
+returns c =
+    let a = c.args in
+    store-end a.slots.now a.n a.id c.requires

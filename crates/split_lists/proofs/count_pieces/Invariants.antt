@@ -1,0 +1,15 @@
+-- `split_lists::count_pieces` meets its contract. The invariant: the warnings of the first j pieces are counted. The measure is how many are left. Assumes nothing.
+use mathlib.Core.Path.{◌≡◌, ◌∙◌, ap}
+use Prim.Native.Nat.{◌-◌, ◌≤◌}
+use native.Mathlib.Omega.{arith}
+use lib.ListN.{length}
+use Rattle.report.proofs.Warnings.{few}
+use Rattle.split_lists.specs.Changes.{pieces_issues}
+use Rattle.split_lists.proofs.Noted.{count-piece, piece-at}
+use Rattle.split_lists.proofs.count_pieces.Given as goal
+
+abbrev pub invariant-loop-j : goal.invariant-loop-j
+invariant-loop-j l = (l.j ≤ l.m) × ((l.count ≤ l.j) × (l.count ≡ length (pieces_issues l.pieces 0 l.j)))
+
+abbrev pub decreases-loop-j : goal.decreases-loop-j
+decreases-loop-j l = l.m - l.j

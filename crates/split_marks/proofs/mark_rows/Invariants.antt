@@ -1,0 +1,14 @@
+-- `split_marks::mark_rows` meets its contract. The invariant: the marks before row i are written. The measure is how many rows are left. Assumes nothing.
+use mathlib.Core.Path.{◌∙◌}
+use Prim.Native.Nat.{◌-◌, ◌≤◌}
+use native.Mathlib.Omega.{arith}
+use Rattle.tables.specs.View.{word}
+use Rattle.split_marks.specs.Touched.{names_cut}
+use Rattle.split_marks.proofs.Marks.{Tested, test-begins, test-more, test-ends, table-there, table-small, row-there, row_list, row_named}
+use Rattle.split_marks.proofs.mark_rows.Given as goal
+
+abbrev pub invariant-loop-i : goal.invariant-loop-i
+invariant-loop-i l = (l.i ≤ word 0 l.t) × Tested l.s (names_cut l.cut l.k) l.t l.initial.marks l.i l.marks
+
+abbrev pub decreases-loop-i : goal.decreases-loop-i
+decreases-loop-i l = word 0 l.t - l.i

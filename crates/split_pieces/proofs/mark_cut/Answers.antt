@@ -1,0 +1,66 @@
+-- `split_pieces::mark_cut` meets its contract. The invariant: the boundaries of the marked lanes before row j are marked. The measure is how
+use mathlib.Core.Path.{◌≡◌, refl, ap, ◌∙◌}
+use mathlib.Core.Logic.{⊎_elim}
+use Prim.Native.Nat.{◌-◌, ◌≤◌}
+use native.Mathlib.Omega.{arith}
+use lib.ListN.{length}
+use Rattle.rules.specs.Names.{Left, Right}
+use Rattle.tables.specs.View.{word}
+use Rattle.lookup.proofs.Laws.{sorted-room, sorted-few}
+use Rattle.split_pieces.proofs.Marks.{Marked, mark-begins, mark-none, mark-one, mark-ends, side-length}
+use Rattle.split_pieces.proofs.mark_cut.Goals as goal
+
+pub bounds-lanes-0 : goal.bounds-lanes-0
+bounds-lanes-0 c = omega (arith, sorted-room 1024 52 c.args.lanes.now c.requires.0.0)
+
+pub loop-j-init : goal.loop-j-init
+loop-j-init c =
+    let u = c.before.before.before.before.before.before in
+    (omega arith, (refl, mark-begins u.args.seen.now u.args.lanes.now u.args.boundaries.now u.args.marks.now u.requires.1.1 u.requires.0.1.1))
+
+pub bounds-seen-j : goal.bounds-seen-j
+bounds-seen-j c = omega (arith, c.loop-j-test.true, c.requires.1.0)
+
+pub mark_side-requires : goal.mark_side-requires
+mark_side-requires c =
+    let u = c.requires.0 in
+    ((u.0, (u.1.0, omega (arith, u.1.1, c.loop-j.invariant.1.0))), c.loop-j-test.true)
+
+pub mark_side-requires-then-seen-j : goal.mark_side-requires-then-seen-j
+mark_side-requires-then-seen-j c =
+    let u = c.requires.0 in
+    let a = c.args in
+    let t = c.loop-j in
+    let e = side-length a.lanes.now t.j Left a.boundaries.now t.marks c.mark_side.new.1.1.1.1.0 c.mark_side.ensures in
+    ((u.0, (u.1.0, omega (arith, u.1.1, t.invariant.1.0, e))), c.loop-j-test.true)
+
+pub overflow_add-j : goal.overflow_add-j
+overflow_add-j c = omega (arith, c.loop-j-test.true, sorted-few 1024 52 c.args.lanes.now c.requires.0.0)
+
+pub loop-j-smaller : goal.loop-j-smaller
+loop-j-smaller c = omega (arith, c.loop-j-test.true)
+
+pub loop-j-preserved : goal.loop-j-preserved
+loop-j-preserved c =
+    let a = c.args in
+    let p = c.requires in
+    let t = c.loop-j in
+    let l = c.loop-j-test.true in
+    ⊎_elim
+    (λ s.
+    let x = s.2.last.1.1.1.1.0 in
+    let y = s.6.last.1.1.1.1.0 in
+    let d = side-length a.lanes.now t.j Left a.boundaries.now t.marks x s.2.ensures in
+    let e = side-length a.lanes.now t.j Right a.boundaries.now x y s.6.ensures in
+    (omega (arith, l), (ap length s.9 ∙ e ∙ d ∙ t.invariant.1.0, s.9 ∙ mark-one a.seen.now a.lanes.now a.boundaries.now a.marks.now t.j t.marks t.invariant.1.1 l p.1.0 p.0.1.0 s.0.taken x y s.2.ensures s.6.ensures)))
+    (λ s. (omega (arith, l), (ap length s.marks-is ∙ t.invariant.1.0, s.marks-is ∙ mark-none a.seen.now a.lanes.now a.boundaries.now a.marks.now t.j t.marks t.invariant.1.1 l p.1.0 s.if-seen-j.false)))
+    c.if-seen-j.branch-raw
+
+pub shape_of-marks : goal.shape_of-marks
+shape_of-marks c = c.loop-j.invariant.1.0
+
+pub returns : goal.returns
+returns c =
+    let a = c.args in
+    let t = c.loop-j in
+    mark-ends a.seen.now a.lanes.now a.boundaries.now a.marks.now t.j t.marks t.invariant.1.1 c.loop-j-test.false

@@ -1,0 +1,29 @@
+-- `split_rules::lane_past` meets its contract: a lane that is not cut, or not there, is not passed. Assumes nothing.
+use borrow.Author.Rules.{rules}
+use mathlib.Core.Path.{sym, ◌∙◌}
+use native.Mathlib.Omega.{arith}
+use Rattle.lists.proofs.Rows.{keys-one}
+use Rattle.lookup.proofs.Laws.{place-within}
+use Rattle.split_rules.proofs.Passing.{lane-uncut, rank-within, lane-absent, lane-there}
+use Rattle.split_rules.proofs.lane_past.Goals as goal
+
+pub rank-ranked-requires : goal.rank-ranked-requires
+rank-ranked-requires c = rw keys-one c.requires.1.0
+
+pub returns-in_default : goal.returns-in_default
+returns-in_default c = let a = c.args in lane-uncut a.join a.coordinates.now a.lanes.now a.boundaries.now a.point a.cut.now a.stations.now a.anchor a.id c.rank-ranked.result c.rank-ranked.ensures c.in_default.is
+
+pub returns-in_default-found : goal.returns-in_default-found
+returns-in_default-found c = let a = c.args in lane-absent a.join a.coordinates.now a.lanes.now a.boundaries.now a.point a.cut.now a.stations.now a.anchor a.id c.rank-ranked.result c.rank-ranked.ensures c.in-At.r c.in-At.is c.lane-found.result c.lane-found.ensures c.in_default-found.is
+
+pub offset_bounds-stations-r : goal.offset_bounds-stations-r
+offset_bounds-stations-r c = let a = c.args in omega (arith, rank-within a.join a.coordinates.now a.lanes.now a.boundaries.now a.point a.cut.now a.stations.now a.anchor a.id c.rank-ranked.result c.rank-ranked.ensures c.in-At.r c.in-At.is, c.requires.1.1)
+
+pub bounds-stations-r : goal.bounds-stations-r
+bounds-stations-r c = let a = c.args in omega (arith, rank-within a.join a.coordinates.now a.lanes.now a.boundaries.now a.point a.cut.now a.stations.now a.anchor a.id c.rank-ranked.result c.rank-ranked.ensures c.in-At.r c.in-At.is, c.requires.1.1)
+
+pub past_cut-requires : goal.past_cut-requires
+past_cut-requires c = record { drawable = c.requires.0; row = place-within 52 c.args.lanes.now c.args.id c.in-At-found.i (sym c.lane-found.ensures ∙ c.in-At-found.is) }
+
+pub returns : goal.returns
+returns c = let a = c.args in lane-there a.join a.coordinates.now a.lanes.now a.boundaries.now a.point a.cut.now a.stations.now a.anchor a.id c.rank-ranked.result c.rank-ranked.ensures c.in-At.r c.in-At.is c.lane-found.result c.lane-found.ensures c.in-At-found.i c.in-At-found.is c.requires.1.1 c.past_cut.result _ c.past_cut.ensures

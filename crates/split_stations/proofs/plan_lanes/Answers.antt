@@ -1,0 +1,89 @@
+-- `split_stations::plan_lanes` meets its contract. The invariant: each marked lane before row j has a station, and ids and stations are written. The
+use mathlib.Core.Path.{◌≡◌, refl, sym, ap, ◌∙◌}
+use mathlib.Core.Logic.{⊎_elim}
+use Prim.Native.Nat.{◌-◌, ◌≤◌, ◌<◌}
+use native.Mathlib.Omega.{arith}
+use borrow.Author.Rules.{rules}
+use lib.ListN.{length, length-set}
+use Rattle.tables.specs.View.{word}
+use Rattle.lookup.specs.Lookup.{row_at}
+use Rattle.lookup.proofs.Laws.{sorted-row, sorted-room}
+use Rattle.split_plan.specs.Placing.{row_station}
+use Rattle.split_plan.proofs.Turns.{Written, written_none, at_told, refused-told, turn-none, turn_one, turn-stops, turn-ends}
+use Rattle.split_stations.proofs.plan_lanes.Goals as goal
+
+pub bounds-lanes-0 : goal.bounds-lanes-0
+bounds-lanes-0 c = omega (arith, sorted-room 1024 52 c.args.lanes.now c.requires.0.lanes_are_sorted)
+
+pub loop-j-init : goal.loop-j-init
+loop-j-init c = (omega arith, (omega arith, (refl, (refl, written_none (row_station c.args.piece c.args.coordinates.now c.args.boundaries.now c.args.own c.args.place) c.args.seen.now c.args.lanes.now c.args.cut.now c.args.stations.now))))
+
+pub bounds-seen-j : goal.bounds-seen-j
+bounds-seen-j c = omega arith
+
+pub lane_station-planned-requires : goal.lane_station-planned-requires
+lane_station-planned-requires c = (c.requires.0, c.loop-j-test.true)
+
+pub shape_of-cut-in-Refused : goal.shape_of-cut-in-Refused
+shape_of-cut-in-Refused c = c.loop-j.invariant.1.1.0
+
+pub shape_of-stations-in-Refused : goal.shape_of-stations-in-Refused
+shape_of-stations-in-Refused c = c.loop-j.invariant.1.1.1.0
+
+pub returns-in-Refused : goal.returns-in-Refused
+returns-in-Refused c = turn-stops (row_station c.args.piece c.args.coordinates.now c.args.boundaries.now c.args.own c.args.place) c.args.seen.now c.args.lanes.now c.args.cut.now c.args.stations.now c.loop-j.cut c.loop-j.stations c.loop-j.count c.loop-j.j c.loop-j.invariant.1.1.1.1 c.loop-j-test.true c.requires.1.0 c.if-seen-j.true c.in-Refused.refusal (refused-told (row_station c.args.piece c.args.coordinates.now c.args.boundaries.now c.args.own c.args.place (row_at 52 c.args.lanes.now c.loop-j.j)) c.in-Refused.refusal (sym c.in-Refused.is ∙ c.lane_station-planned.ensures))
+
+pub overflow_mul-cut : goal.overflow_mul-cut
+overflow_mul-cut c = omega (arith, sorted-row 1024 52 c.args.lanes.now c.requires.0.lanes_are_sorted c.loop-j.j c.loop-j-test.true)
+
+pub overflow_add-cut : goal.overflow_add-cut
+overflow_add-cut c = omega (arith, sorted-row 1024 52 c.args.lanes.now c.requires.0.lanes_are_sorted c.loop-j.j c.loop-j-test.true)
+
+pub offset_bounds-lanes-j : goal.offset_bounds-lanes-j
+offset_bounds-lanes-j c = omega (arith, sorted-row 1024 52 c.args.lanes.now c.requires.0.lanes_are_sorted c.loop-j.j c.loop-j-test.true)
+
+pub bounds-lanes-j : goal.bounds-lanes-j
+bounds-lanes-j c = omega (arith, sorted-row 1024 52 c.args.lanes.now c.requires.0.lanes_are_sorted c.loop-j.j c.loop-j-test.true)
+
+pub offset_bounds-cut-count : goal.offset_bounds-cut-count
+offset_bounds-cut-count c = omega arith
+
+pub bounds-cut-count : goal.bounds-cut-count
+bounds-cut-count c = omega arith
+
+pub offset_bounds-stations-count : goal.offset_bounds-stations-count
+offset_bounds-stations-count c = omega arith
+
+pub bounds-stations-count : goal.bounds-stations-count
+bounds-stations-count c = omega arith
+
+pub overflow_add-count : goal.overflow_add-count
+overflow_add-count c = omega arith
+
+pub overflow_add-j : goal.overflow_add-j
+overflow_add-j c = omega arith
+
+pub loop-j-smaller : goal.loop-j-smaller
+loop-j-smaller c = omega arith
+
+pub loop-j-preserved : goal.loop-j-preserved
+loop-j-preserved c =
+    ⊎_elim
+    (λ s.
+    let d : c.loop-j.count < length c.args.cut.now = omega arith in
+    let e : c.loop-j.count < length c.args.stations.now = omega arith in
+    let w = turn_one (row_station c.args.piece c.args.coordinates.now c.args.boundaries.now c.args.own c.args.place) c.args.seen.now c.args.lanes.now c.args.cut.now c.args.stations.now c.loop-j.cut c.loop-j.stations c.loop-j.count c.loop-j.j c.loop-j.invariant.1.1.1.1 c.loop-j-test.true c.requires.1.0 s.0.taken d e s.3.given.0.0 (at_told (row_station c.args.piece c.args.coordinates.now c.args.boundaries.now c.args.own c.args.place (row_at 52 c.args.lanes.now c.loop-j.j)) s.3.given.0.0 (sym s.3.given.1 ∙ s.1.ensures)) in
+    (omega arith, (omega arith, (ap length s.6 ∙ simp length-set c.loop-j.invariant.1.1.0, (ap length s.7 ∙ simp length-set c.loop-j.invariant.1.1.1.0, rw (s.6, s.7, s.8) w)))))
+    (λ s.
+    let w = turn-none (row_station c.args.piece c.args.coordinates.now c.args.boundaries.now c.args.own c.args.place) c.args.seen.now c.args.lanes.now c.args.cut.now c.args.stations.now c.loop-j.cut c.loop-j.stations c.loop-j.count c.loop-j.j c.loop-j.invariant.1.1.1.1 c.loop-j-test.true c.requires.1.0 s.0.left in
+    (omega arith, (omega arith, (ap length s.1 ∙ c.loop-j.invariant.1.1.0, (ap length s.2 ∙ c.loop-j.invariant.1.1.1.0, rw (s.1, s.2, s.3) w)))))
+    c.if-seen-j.branch-raw
+
+pub shape_of-cut : goal.shape_of-cut
+shape_of-cut c = c.loop-j.invariant.1.1.0
+
+pub shape_of-stations : goal.shape_of-stations
+shape_of-stations c = c.loop-j.invariant.1.1.1.0
+
+pub returns : goal.returns
+returns c = turn-ends (row_station c.args.piece c.args.coordinates.now c.args.boundaries.now c.args.own c.args.place) c.args.seen.now c.args.lanes.now c.args.cut.now c.args.stations.now c.loop-j.cut c.loop-j.stations c.loop-j.count c.loop-j.j c.loop-j.invariant.1.1.1.1 c.loop-j-test.false

@@ -1,0 +1,20 @@
+-- `split_stations::plan_lanes` meets its contract. The invariant: each marked lane before row j has a station, and ids and stations are written. The
+-- measure is how many rows are left. Assumes nothing.
+use mathlib.Core.Path.{◌≡◌, refl, sym, ap, ◌∙◌}
+use mathlib.Core.Logic.{⊎_elim}
+use Prim.Native.Nat.{◌-◌, ◌≤◌, ◌<◌}
+use native.Mathlib.Omega.{arith}
+use borrow.Author.Rules.{rules}
+use lib.ListN.{length, length-set}
+use Rattle.tables.specs.View.{word}
+use Rattle.lookup.specs.Lookup.{row_at}
+use Rattle.lookup.proofs.Laws.{sorted-row, sorted-room}
+use Rattle.split_plan.specs.Placing.{row_station}
+use Rattle.split_plan.proofs.Turns.{Written, written_none, at_told, refused-told, turn-none, turn_one, turn-stops, turn-ends}
+use Rattle.split_stations.proofs.plan_lanes.Given as goal
+
+abbrev pub invariant-loop-j : goal.invariant-loop-j
+invariant-loop-j l = (l.j ≤ word 0 l.lanes) × ((l.count ≤ l.j) × ((length l.cut ≡ length l.initial.cut) × ((length l.stations ≡ length l.initial.stations) × Written (row_station l.piece l.coordinates l.boundaries l.own l.place) l.seen l.lanes l.initial.cut l.initial.stations l.cut l.stations l.count l.j)))
+
+abbrev pub decreases-loop-j : goal.decreases-loop-j
+decreases-loop-j l = word 0 l.lanes - l.j

@@ -1,0 +1,70 @@
+-- `store::keep_rows` meets its contract. Assumes nothing.
+use lib.ListN.{length-set}
+use Prim.Native.Nat.{◌+◌, ◌-◌, ◌*◌}
+use native.Mathlib.Omega.{arith}
+use Rattle.tables.specs.View.{word}
+use lib.Dec.{eqb}
+use borrow.Author.Rules.{rules}
+use Rattle.store.specs.Rows.{stays}
+use Rattle.store.proofs.Turns.{neither, at_least, Moved, moved_none, moved-few, moved_length, next-inside, moved-turn, moved_all}
+use Rattle.lists.proofs.Rows.{row_within}
+use Rattle.store.proofs.keep_rows.Goals as goal
+
+pub bounds-t-0 : goal.bounds-t-0
+bounds-t-0 c = omega (arith, c.requires.1)
+
+pub loop-i-init : goal.loop-i-init
+loop-i-init c = moved_none c.args.s (stays c.args.a c.args.b) c.args.t.now c.requires.1
+
+pub overflow_mul-id : goal.overflow_mul-id
+overflow_mul-id c = omega (arith, row_within c.loop-i.i (word 0 c.args.t.now) c.args.s c.loop-i-test.true, c.requires.1)
+
+pub overflow_add-id : goal.overflow_add-id
+overflow_add-id c = omega (arith, row_within c.loop-i.i (word 0 c.args.t.now) c.args.s c.loop-i-test.true, c.requires.1)
+
+pub offset_bounds-t-i : goal.offset_bounds-t-i
+offset_bounds-t-i c = omega (arith, row_within c.loop-i.i (word 0 c.args.t.now) c.args.s c.loop-i-test.true, c.requires.1)
+
+pub bounds-t-i : goal.bounds-t-i
+bounds-t-i c =
+    let a = c.args in
+    let l = c.loop-i in
+    omega (arith, c.requires.0, next-inside a.s (stays c.args.a c.args.b) a.t.now c.requires.1 l.t l.i l.auto l.invariant c.loop-i-test.true)
+
+pub keep_row-kept-requires : goal.keep_row-kept-requires
+keep_row-kept-requires c =
+    let a = c.args in
+    let l = c.loop-i in
+    (c.requires.0, (next-inside a.s (stays c.args.a c.args.b) a.t.now c.requires.1 l.t l.i l.auto l.invariant c.loop-i-test.true, moved-few a.s (stays c.args.a c.args.b) a.t.now c.requires.1 l.t l.i l.auto l.invariant))
+
+pub overflow_add-i : goal.overflow_add-i
+overflow_add-i c = omega (arith, c.loop-i-test.true, at_least (word 0 c.args.t.now) c.args.s c.requires.0, c.requires.1)
+
+pub loop-i-smaller : goal.loop-i-smaller
+loop-i-smaller c = omega (arith, c.loop-i-test.true)
+
+pub loop-i-preserved : goal.loop-i-preserved
+loop-i-preserved c =
+    let a = c.args in
+    let l = c.loop-i in
+    let k = c.keep_row-kept in
+    let id = word (1 + l.i * a.s) l.t in
+    moved-turn a.s (stays a.a a.b) a.t.now c.requires.1 l.t l.i l.auto l.invariant c.requires.0 c.loop-i-test.true c.both.result (neither (eqb id a.a) (eqb id a.b) c.both.result c.both.ensures) k.new.0 k.result k.ensures.0 k.ensures.1
+
+pub bounds-t-0-2 : goal.bounds-t-0-2
+bounds-t-0-2 c =
+    let a = c.args in
+    let l = c.loop-i in
+    omega (arith, moved_length a.s (stays c.args.a c.args.b) a.t.now c.requires.1 l.t l.i l.auto l.invariant, c.requires.1)
+
+pub shape_of-t : goal.shape_of-t
+shape_of-t c =
+    let a = c.args in
+    let l = c.loop-i in
+    simp length-set (moved_length a.s (stays c.args.a c.args.b) a.t.now c.requires.1 l.t l.i l.auto l.invariant)
+
+pub returns : goal.returns
+returns c =
+    let a = c.args in
+    let l = c.loop-i in
+    moved_all a.s (stays c.args.a c.args.b) a.t.now c.requires.1 l.t l.i l.auto l.invariant (omega (arith, c.loop-i-test.false))

@@ -1,0 +1,15 @@
+use mathlib.Core.Path.{◌≡◌, refl, sym, ap, ◌∙◌}
+use native.Mathlib.Omega.{arith}
+use borrow.Author.Rules.{rules}
+use Prim.Native.Nat.{◌-◌, ◌≤◌}
+use lib.ListN.{length, drop}
+use lib.Ieee.{nan, binary64, to_bits}
+use Rattle.stream.specs.Digest.{mix, of_floats}
+use Rattle.stream.proofs.Digests.{taken_in, all_in}
+use Rattle.stream.proofs.digest.floats.Given as goal
+
+abbrev pub invariant-loop-i : goal.invariant-loop-i
+invariant-loop-i l = (l.i ≤ length l.list) × (of_floats l.state (drop l.i l.list) ≡ of_floats l.start l.list)
+
+abbrev pub decreases-loop-i : goal.decreases-loop-i
+decreases-loop-i l = length l.list - l.i

@@ -1,0 +1,6 @@
+use borrow.Author.Rules.{rules}
+use Rattle.stream.proofs.digest.tables.Goals as goal
+
+-- src/digest.rt:44:1
+pub returns : goal.returns
+returns c = cc

@@ -1,0 +1,17 @@
+use mathlib.Core.Path.{◌≡◌, refl, ap, ◌∙◌}
+use native.Mathlib.Omega.{arith}
+use borrow.Author.Rules.{rules}
+use Prim.Native.Nat.{◌-◌, ◌≤◌}
+use mathlib.Core.List.{◌++◌}
+use lib.ListN.{length, length-set, take}
+use lib.Ieee.{binary64, of_bits}
+use Rattle.stream.specs.declared.Taken.{Taken}
+use Rattle.stream.specs.Numbers.{floats_at, behind_all}
+use Rattle.stream.proofs.Tables.{begins, begins-behind, turn, turn-behind, ends, ends-behind}
+use Rattle.stream.proofs.fill_floats.Given as goal
+
+abbrev pub invariant-loop-i : goal.invariant-loop-i
+invariant-loop-i l = (l.i ≤ length l.table) × ((length l.table ≡ length l.initial.table) × ((take l.i l.table ++ floats_at (length l.initial.table - l.i) l.s l.at ≡ floats_at (length l.initial.table) l.s l.from) × (behind_all (length l.initial.table - l.i) l.s l.at ≡ behind_all (length l.initial.table) l.s l.from)))
+
+abbrev pub decreases-loop-i : goal.decreases-loop-i
+decreases-loop-i l = length l.table - l.i

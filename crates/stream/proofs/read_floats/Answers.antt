@@ -1,0 +1,30 @@
+use borrow.Author.Rules.{rules}
+use mathlib.Core.Path.{sym}
+use lib.Seq.{length-take-le}
+use lib.Ieee.{binary64, of_bits}
+use Rattle.stream.proofs.Tables.{part-told, part-over, part-counts}
+use Rattle.stream.proofs.read_floats.Goals as goal
+
+-- src/lib.rt:132:39
+pub slice_bounds-fill_floats-end : goal.slice_bounds-fill_floats-end
+slice_bounds-fill_floats-end c = c.least-size.ensures.1
+
+-- src/lib.rt:132:39
+pub slice_bounds-fill_floats-end-2 : goal.slice_bounds-fill_floats-end-2
+slice_bounds-fill_floats-end-2 c = sym (length-take-le _ _ c.least-size.ensures.1)
+
+-- src/lib.rt:127:1
+pub returns : goal.returns
+returns c =
+    let s = c.args.s.now in
+    let from = c.args.from in
+    let t = c.args.table.now in
+    let n = c.number-n in
+    let l = c.least-size in
+    let f = c.fill_floats-next in (
+      part-told (of_bits binary64) s from t f.new.1.1.0 n.result l.result f.result n.ensures l.ensures.0 l.ensures.1 f.ensures.0 f.ensures.1,
+      (
+        part-over (of_bits binary64) s from t f.new.1.1.0 n.result l.result f.result n.ensures l.ensures.0 l.ensures.1 f.ensures.0 f.ensures.1,
+        part-counts (of_bits binary64) s from t f.new.1.1.0 n.result l.result f.result n.ensures l.ensures.0 l.ensures.1 f.ensures.0 f.ensures.1,
+      ),
+    )

@@ -1,0 +1,11 @@
+-- `unused::pair` meets its contract. Assumes nothing.
+use mathlib.Core.Path.{refl}
+use native.Mathlib.Omega.{arith}
+use borrow.Author.Tests.{lt-ltb, le-ltb}
+use Rattle.unused.proofs.pair.Goals as goal
+
+pub returns-then-a-b : goal.returns-then-a-b
+returns-then-a-b c = rw (lt-ltb c.args.a c.args.b c.if-a-b.true) (refl, refl)
+
+pub returns : goal.returns
+returns c = rw (le-ltb c.args.a c.args.b (omega (arith, c.if-a-b.false))) (refl, refl)

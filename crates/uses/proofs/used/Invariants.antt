@@ -1,0 +1,13 @@
+-- `uses::used` meets its contract: a row passes where one from i on does. Assumes nothing.
+use mathlib.Core.Path.{◌≡◌}
+use Prim.Native.Nat.{◌≤◌, ◌-◌}
+use native.Mathlib.Omega.{arith}
+use Rattle.lookup.specs.Lookup.{any_row, row_uses}
+use Rattle.lookup.proofs.Laws.{any_from, sorted-room, any-begins, any-goes-on, any-stops, any-ends, sorted-few}
+use Rattle.uses.proofs.used.Given as goal
+
+abbrev pub invariant-loop-i : goal.invariant-loop-i
+invariant-loop-i l = (l.i ≤ l.n) × (any_row 52 (row_uses l.boundary) l.lanes ≡ any_from 52 (row_uses l.boundary) l.lanes l.i)
+
+abbrev pub decreases-loop-i : goal.decreases-loop-i
+decreases-loop-i l = l.n - l.i

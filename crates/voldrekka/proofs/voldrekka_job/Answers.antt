@@ -1,0 +1,116 @@
+use borrow.Author.Rules.{rules}
+use Rattle.tables.specs.View.{Tables, tables_of}
+use Rattle.step.specs.Step.{Lent, lent_of}
+use Rattle.job_words.specs.JobWords.{job_of}
+use Rattle.voldrekka.proofs.Jobs.{all-jobs}
+use Rattle.voldrekka.proofs.voldrekka_job.Goals as goal
+use Rattle.voldrekka.proofs.voldrekka_job.Lts as lts
+use Rattle.voldrekka.proofs.voldrekka_job.Reads as reads
+
+abbrev AtStart : Type 0
+AtStart = lts.Start reads.Pre reads.Post
+
+abbrev AtAfterApplyEnd : Type 0
+AtAfterApplyEnd = lts.After-apply reads.Pre reads.Post
+
+-- what is lent
+abbrev lentOn : AtStart → Lent
+lentOn s =
+    lent_of s.args.counter.now s.args.lanes.now s.args.boundaries.now s.args.roads.now s.args.junctions.now s.args.rules.now s.args.stop_lines.now s.args.crosswalks.now s.args.coordinates.now s.args.created.now s.args.modified.now s.args.deleted.now s.args.warnings.now
+
+abbrev areaOf : AtStart → Tables
+areaOf s =
+    tables_of s.args.old-lanes.now s.args.old-boundaries.now s.args.old-roads.now s.args.old-junctions.now s.args.old-rules.now s.args.old-stop-lines.now s.args.old-crosswalks.now s.args.old-coordinates.now
+
+-- what the job leaves of it
+abbrev left_by : AtAfterApplyEnd → Lent
+left_by a =
+    lent_of a.apply.result.counter a.apply.new.1.1.0 a.apply.new.1.1.1.0 a.apply.new.1.1.1.1.0 a.apply.new.1.1.1.1.1.0 a.apply.new.1.1.1.1.1.1.0 a.apply.new.1.1.1.1.1.1.1.0 a.apply.new.1.1.1.1.1.1.1.1.0 a.apply.new.1.1.1.1.1.1.1.1.1.0 a.apply.new.1.1.1.1.1.1.1.1.1.1.1.1.1.1.1.1.1.1.1.0 a.apply.new.1.1.1.1.1.1.1.1.1.1.1.1.1.1.1.1.1.1.1.1.0 a.apply.new.1.1.1.1.1.1.1.1.1.1.1.1.1.1.1.1.1.1.1.1.1.0 a.apply.new.1.1.1.1.1.1.1.1.1.1.1.1.1.1.1.1.1.1.1.1.1.1.0
+
+abbrev areaLeft : AtAfterApplyEnd → Tables
+areaLeft a =
+    tables_of a.apply.new.1.1.1.1.1.1.1.1.1.1.1.0 a.apply.new.1.1.1.1.1.1.1.1.1.1.1.1.0 a.apply.new.1.1.1.1.1.1.1.1.1.1.1.1.1.0 a.apply.new.1.1.1.1.1.1.1.1.1.1.1.1.1.1.0 a.apply.new.1.1.1.1.1.1.1.1.1.1.1.1.1.1.1.0 a.apply.new.1.1.1.1.1.1.1.1.1.1.1.1.1.1.1.1.0 a.apply.new.1.1.1.1.1.1.1.1.1.1.1.1.1.1.1.1.1.0 a.apply.new.1.1.1.1.1.1.1.1.1.1.1.1.1.1.1.1.1.1.0
+
+-- src/lib.rt:208:1
+pub shape_of-lanes : goal.shape_of-lanes
+shape_of-lanes c = c.apply-end.auto.1.1.0
+
+-- src/lib.rt:208:1
+pub shape_of-boundaries : goal.shape_of-boundaries
+shape_of-boundaries c = c.apply-end.auto.1.1.1.0
+
+-- src/lib.rt:208:1
+pub shape_of-roads : goal.shape_of-roads
+shape_of-roads c = c.apply-end.auto.1.1.1.1.0
+
+-- src/lib.rt:208:1
+pub shape_of-junctions : goal.shape_of-junctions
+shape_of-junctions c = c.apply-end.auto.1.1.1.1.1.0
+
+-- src/lib.rt:208:1
+pub shape_of-rules : goal.shape_of-rules
+shape_of-rules c = c.apply-end.auto.1.1.1.1.1.1.0
+
+-- src/lib.rt:208:1
+pub shape_of-stop_lines : goal.shape_of-stop_lines
+shape_of-stop_lines c = c.apply-end.auto.1.1.1.1.1.1.1.0
+
+-- src/lib.rt:208:1
+pub shape_of-crosswalks : goal.shape_of-crosswalks
+shape_of-crosswalks c = c.apply-end.auto.1.1.1.1.1.1.1.1.0
+
+-- src/lib.rt:208:1
+pub shape_of-coordinates : goal.shape_of-coordinates
+shape_of-coordinates c = c.apply-end.auto.1.1.1.1.1.1.1.1.1.0
+
+-- src/lib.rt:208:1
+pub shape_of-old_lanes : goal.shape_of-old_lanes
+shape_of-old_lanes c = c.apply-end.auto.1.1.1.1.1.1.1.1.1.1.1.0
+
+-- src/lib.rt:208:1
+pub shape_of-old_boundaries : goal.shape_of-old_boundaries
+shape_of-old_boundaries c = c.apply-end.auto.1.1.1.1.1.1.1.1.1.1.1.1.0
+
+-- src/lib.rt:208:1
+pub shape_of-old_roads : goal.shape_of-old_roads
+shape_of-old_roads c = c.apply-end.auto.1.1.1.1.1.1.1.1.1.1.1.1.1.0
+
+-- src/lib.rt:208:1
+pub shape_of-old_junctions : goal.shape_of-old_junctions
+shape_of-old_junctions c = c.apply-end.auto.1.1.1.1.1.1.1.1.1.1.1.1.1.1.0
+
+-- src/lib.rt:208:1
+pub shape_of-old_rules : goal.shape_of-old_rules
+shape_of-old_rules c = c.apply-end.auto.1.1.1.1.1.1.1.1.1.1.1.1.1.1.1.0
+
+-- src/lib.rt:208:1
+pub shape_of-old_stop_lines : goal.shape_of-old_stop_lines
+shape_of-old_stop_lines c = c.apply-end.auto.1.1.1.1.1.1.1.1.1.1.1.1.1.1.1.1.0
+
+-- src/lib.rt:208:1
+pub shape_of-old_crosswalks : goal.shape_of-old_crosswalks
+shape_of-old_crosswalks c = c.apply-end.auto.1.1.1.1.1.1.1.1.1.1.1.1.1.1.1.1.1.0
+
+-- src/lib.rt:208:1
+pub shape_of-old_coordinates : goal.shape_of-old_coordinates
+shape_of-old_coordinates c = c.apply-end.auto.1.1.1.1.1.1.1.1.1.1.1.1.1.1.1.1.1.1.0
+
+-- src/lib.rt:208:1
+pub shape_of-created : goal.shape_of-created
+shape_of-created c = c.apply-end.auto.1.1.1.1.1.1.1.1.1.1.1.1.1.1.1.1.1.1.1.0
+
+-- src/lib.rt:208:1
+pub shape_of-modified : goal.shape_of-modified
+shape_of-modified c = c.apply-end.auto.1.1.1.1.1.1.1.1.1.1.1.1.1.1.1.1.1.1.1.1.0
+
+-- src/lib.rt:208:1
+pub shape_of-deleted : goal.shape_of-deleted
+shape_of-deleted c = c.apply-end.auto.1.1.1.1.1.1.1.1.1.1.1.1.1.1.1.1.1.1.1.1.1.0
+
+-- src/lib.rt:208:1
+pub shape_of-warnings : goal.shape_of-warnings
+shape_of-warnings c = c.apply-end.auto.1.1.1.1.1.1.1.1.1.1.1.1.1.1.1.1.1.1.1.1.1.1.0
+
+-- src/lib.rt:208:1
+pub returns : goal.returns
+returns c = all-jobs (job_of c.args.commands.now) c.Job-of.result c.preset-tolerance.result (lentOn c.before.before.before.before.before.before.before.before.before.before.before.before.before.before.before.before.before.before.before.before.before.before.before.before.before.before.before.before.before.before.before.before.before.before.before.before.before.before.before.before.before.before.before.before.before.before.before.before.before.before.before.before.before.before.before.before.before.before.before.before.before.before.before.before.before.before.before.before.before.before.before.before.before.before.before.before.before.before.before.before.before.before.before.before.before.before.before) (left_by c.before.before.before.before.before.before.before.before.before.before.before.before.before.before.before.before.before.before.before.before.before.before.before.before.before.before.before.before.before.before.before.before.before.before.before.before.before.before.before.before.before.before) (areaOf c.before.before.before.before.before.before.before.before.before.before.before.before.before.before.before.before.before.before.before.before.before.before.before.before.before.before.before.before.before.before.before.before.before.before.before.before.before.before.before.before.before.before.before.before.before.before.before.before.before.before.before.before.before.before.before.before.before.before.before.before.before.before.before.before.before.before.before.before.before.before.before.before.before.before.before.before.before.before.before.before.before.before.before.before.before.before.before) (areaLeft c.before.before.before.before.before.before.before.before.before.before.before.before.before.before.before.before.before.before.before.before.before.before.before.before.before.before.before.before.before.before.before.before.before.before.before.before.before.before.before.before.before.before) c.apply-end.result.answer c.tell.result c.Job-of.ensures c.preset-tolerance.ensures c.apply-end.ensures c.tell.ensures

@@ -1,0 +1,7 @@
+use borrow.Author.Rules.{rules}
+use Rattle.words.proofs.Numbers.{all_told}
+use Rattle.words.proofs.tell.Goals as goal
+
+-- src/lib.rt:172:1
+pub returns : goal.returns
+returns c = all_told c.args.counter c.args.answer c.entity-entity.result c.counts-n.result c.entity-entity.ensures c.counts-n.ensures c.number.ensures c.kind_word.ensures c.id_word.ensures c.second_word.ensures c.counter.ensures
