@@ -3,13 +3,15 @@
 #![tactic(auto)]
 
 ghost use Rattle.std.specs.Prelude.{◌<◌, ◌^◌, ◌≤◌, ◌≡◌, length};
-ghost use Rattle.io.specs.Counts.{IsPrefixLen};
 ghost use Rattle.std.specs.Float.{binary64};
 ghost use Rattle.std.specs.Float.Ieee.{nan_bits};
+ghost use Rattle.std.specs.Io.{ReadsAtMost};
 
 use geometry::{Heading, Point2, Point3};
-use libc::{SEEK_SET, STDOUT_FILENO};
 use polyline::{Located, NearestPoint, OptionNearest, OptionPoint3};
+use std::fs::File;
+use std::io;
+use std::io::{Read, Seek, SeekFrom};
 
 // ---- the stream (oracle/FORMAT.md, "Lines"), read front to back, and its answers compared with ours. Past the end all bytes are 0, and the place stays at the end.
 
@@ -644,11 +646,26 @@ fn group(s: &[u8], counts: &mut [u64]) -> usize {
 }
 
 // The bytes of the file from `at` on, as many as fit.
-fn read(fd: i32, at: u32, bytes: &mut [u8]) -> usize
-    ensures { IsPrefixLen result bytes.new }
+fn read(file: &mut File, at: u32, bytes: &mut [u8]) -> io::Result<usize>
+    ensures { ReadsAtMost result bytes.new }
 {
-    libc::lseek(fd, at as i64, SEEK_SET);
-    io::read_full(fd, bytes)
+    file.seek(SeekFrom::Start(at as u64))?;
+    read_full(file, bytes)
+}
+
+// Reads until `bytes` is full or the file ends, and says how many bytes that were.
+fn read_full(file: &mut File, bytes: &mut [u8]) -> io::Result<usize>
+    ensures { ReadsAtMost result bytes.new }
+{
+    let mut done = 0;
+    while done < bytes.len() {
+        let n = file.read(&mut bytes[done..])?;
+        if n == 0 {
+            break;
+        }
+        done += n;
+    }
+    Ok(done)
 }
 
 // The place n bytes behind `at`; no stream reaches the bounds.
@@ -663,45 +680,46 @@ fn behind(at: u32, n: usize) -> u32 {
 }
 
 // The group at place `at` of the file; the place behind it. A group has at most as many bytes as fit.
-fn next(fd: i32, at: u32, bytes: &mut [u8], counts: &mut [u64]) -> u32 {
-    let n = read(fd, at, bytes);
-    behind(at, group(&bytes[..n], counts))
+fn next(file: &mut File, at: u32, bytes: &mut [u8], counts: &mut [u64]) -> io::Result<u32> {
+    let n = read(file, at, bytes)?;
+    Ok(behind(at, group(&bytes[..n], counts)))
 }
 
 // All groups; the place behind them.
-fn groups(fd: i32, from: u32, n: usize, bytes: &mut [u8], counts: &mut [u64]) -> u32 {
+fn groups(
+    file: &mut File,
+    from: u32,
+    n: usize,
+    bytes: &mut [u8],
+    counts: &mut [u64],
+) -> io::Result<u32> {
     let mut at = from;
     let mut i = 0;
     while i < n {
-        at = next(fd, at, bytes, counts);
+        at = next(file, at, bytes, counts)?;
         i += 1;
     }
-    at
+    Ok(at)
 }
 
-fn print_function(f: usize, agreed: u64, differ: u64) {
-    io::print_decimal(STDOUT_FILENO, f as u64);
-    io::write_all(STDOUT_FILENO, b": ");
-    io::print_decimal(STDOUT_FILENO, agreed);
-    io::write_all(STDOUT_FILENO, b" agree, ");
-    io::print_decimal(STDOUT_FILENO, differ);
-    io::write_all(STDOUT_FILENO, b" differ\n");
+fn print_function(rt: &impl Print, f: usize, agreed: u64, differ: u64) -> io::Result<()> {
+    println!(rt; "{f}: {agreed} agree, {differ} differ")
 }
 
-fn each(counts: &[u64]) {
+fn each(rt: &impl Print, counts: &[u64]) -> io::Result<()> {
     let mut f = 1;
     while f <= FUNCTIONS {
-        print_function(f, counted(counts, f * 2 + 2), counted(counts, f * 2 + 3));
+        print_function(rt, f, counted(counts, f * 2 + 2), counted(counts, f * 2 + 3))?;
         f += 1;
     }
+    Ok(())
 }
 
-fn report(counts: &[u64]) {
-    each(counts);
-    io::print_decimal(STDOUT_FILENO, counted(counts, 0));
-    io::write_all(STDOUT_FILENO, b" calls, ");
-    io::print_decimal(STDOUT_FILENO, counted(counts, 1));
-    io::write_all(STDOUT_FILENO, b" differ\n");
+fn report(rt: &impl Print, counts: &[u64]) -> io::Result<()> {
+    each(rt, counts)?;
+    let calls = counted(counts, 0);
+    let differ = counted(counts, 1);
+    println!(rt; "{calls} calls, {differ} differ")
 }
 
 // What stands before the groups.
@@ -724,39 +742,36 @@ fn head(s: &[u8]) -> Opening {
     }
 }
 
-fn first(fd: i32, bytes: &mut [u8]) -> Opening {
-    let n = read(fd, 0, bytes);
-    head(&bytes[..n])
+fn first(file: &mut File, bytes: &mut [u8]) -> io::Result<Opening> {
+    let n = read(file, 0, bytes)?;
+    Ok(head(&bytes[..n]))
 }
 
-fn replay(fd: i32, bytes: &mut [u8], counts: &mut [u64]) {
-    let begin = first(fd, bytes);
-    let end = groups(fd, behind(0, begin.at), begin.groups, bytes, counts);
-    report(counts);
+fn replay(
+    rt: &impl Print,
+    file: &mut File,
+    bytes: &mut [u8],
+    counts: &mut [u64],
+) -> io::Result<()> {
+    let begin = first(file, bytes)?;
+    let end = groups(file, behind(0, begin.at), begin.groups, bytes, counts)?;
+    report(rt, counts)?;
     if begin.form != FORM {
-        io::write_all(STDOUT_FILENO, b"not a stream of lines\n");
+        println!(rt; "not a stream of lines")?;
     }
-    if read(fd, end, bytes) != 0 {
-        io::write_all(
-            STDOUT_FILENO,
-            b"the stream does not end behind its last call\n",
-        );
+    if read(file, end, bytes)? != 0 {
+        println!(rt; "the stream does not end behind its last call")?;
     }
+    Ok(())
 }
 
-fn compare(fd: i32, bytes: &mut [u8]) {
+fn compare(rt: &impl Print, file: &mut File, bytes: &mut [u8]) -> io::Result<()> {
     let mut counts = [0; 44];
-    replay(fd, bytes, &mut counts);
+    replay(rt, file, bytes, &mut counts)
 }
 
-fn main() {
-    let path = b"lines.bin";
-    let fd = os::open_read(path);
-    if fd < 0 {
-        os::fail(path);
-        return;
-    }
-    let mut bytes = io::large_buffer();
-    compare(fd, &mut bytes);
-    libc::close(fd);
+fn main(rt: HostRuntime) -> io::Result<()> {
+    let mut file = File::open(&rt, "lines.bin")?;
+    let mut bytes = [0; 65536];
+    compare(&rt, &mut file, &mut bytes)
 }

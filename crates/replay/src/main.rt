@@ -6,8 +6,10 @@ ghost use Rattle.std.specs.Prelude.{◌≤◌};
 
 use entities::{Counter, Tolerance};
 use job_words::ToldJob;
-use libc::STDOUT_FILENO;
 use report::{ENTITY, WARNING};
+use std::fs::File;
+use std::rt::Files;
+use std::{fs, io};
 use stream::{digest, file};
 use words::{COMMAND, Told};
 
@@ -91,19 +93,20 @@ fn digest_of(
 }
 
 // The answer's numbers and the digest, as a line.
-fn print(t: Told, digest: u64) {
+fn print(rt: &impl Print, t: Told, digest: u64) -> io::Result<()> {
     let numbers = [
         t.kind, t.id, t.created, t.modified, t.deleted, t.warnings, t.second, t.counter, digest,
     ];
     let mut text = [0; 189];
     let n = stream::text::row(&numbers, &mut text);
-    io::print_decimal(STDOUT_FILENO, t.number);
-    io::write_all(STDOUT_FILENO, &text[..n]);
-    io::write_all(STDOUT_FILENO, b"\n");
+    rt.print(t.number)?;
+    rt.write_all(&text[..n])?;
+    rt.write_all(b"\n")
 }
 
 // Makes the call at a place of the stream, with the room for its lists that the stream gives, and writes its line.
 fn make(
+    rt: &impl Print,
     s: &[u8],
     at: usize,
     counter: u64,
@@ -115,7 +118,7 @@ fn make(
     stop_lines: &mut [u64],
     crosswalks: &mut [u64],
     coordinates: &mut [f64],
-) -> Behind {
+) -> io::Result<Behind> {
     let mut row = [0; 9];
     let mut created = [PATTERN; 64];
     let mut modified = [PATTERN; 64];
@@ -160,11 +163,11 @@ fn make(
         &warnings,
     );
     let told = words::tell(counter, answer);
-    print(told, digest);
-    Behind {
+    print(rt, told, digest)?;
+    Ok(Behind {
         counter: told.counter,
         next,
-    }
+    })
 }
 
 // ---- one job: its rows, the words lent for the second area and for the lists, and what it answers and leaves
@@ -176,20 +179,21 @@ const BLANK: f64 = 0.5;
 const JOB_ROWS: usize = 350;
 
 // The answer's numbers and the digest, as a line.
-fn print_job(t: ToldJob, digest: u64) {
+fn print_job(rt: &impl Print, t: ToldJob, digest: u64) -> io::Result<()> {
     let numbers = [
         t.place, t.own, t.kind, t.id, t.created, t.modified, t.deleted, t.warnings, t.counter,
         digest,
     ];
     let mut text = [0; 210];
     let n = stream::text::row(&numbers, &mut text);
-    io::print_decimal(STDOUT_FILENO, t.number);
-    io::write_all(STDOUT_FILENO, &text[..n]);
-    io::write_all(STDOUT_FILENO, b"\n");
+    rt.print(t.number)?;
+    rt.write_all(&text[..n])?;
+    rt.write_all(b"\n")
 }
 
 // The job with lists of the sizes that the stream gives, the last four of twelve; what it leaves of the counter. Digested is what is lent.
 fn job_with_lists(
+    rt: &impl Print,
     counter: u64,
     lanes: &mut [u64],
     boundaries: &mut [u64],
@@ -209,7 +213,7 @@ fn job_with_lists(
     old_crosswalks: &mut [u64],
     old_coordinates: &mut [f64],
     sizes: &[u64; 12],
-) -> u64 {
+) -> io::Result<u64> {
     let mut created = [PATTERN; 256];
     let mut modified = [PATTERN; 256];
     let mut deleted = [PATTERN; 256];
@@ -270,12 +274,13 @@ fn job_with_lists(
     let g = digest::words(f, &deleted[..c]);
     let answer = end.answer;
     let told = job_words::tell(end.counter, answer);
-    print_job(told, digest::words(g, &warnings[..d]));
-    end.counter
+    print_job(rt, told, digest::words(g, &warnings[..d]))?;
+    Ok(end.counter)
 }
 
 // The job with an area of the sizes that the stream gives.
 fn job_with_area(
+    rt: &impl Print,
     counter: u64,
     lanes: &mut [u64],
     boundaries: &mut [u64],
@@ -287,7 +292,7 @@ fn job_with_area(
     coordinates: &mut [f64],
     rows: &[u64],
     sizes: &[u64; 12],
-) -> u64 {
+) -> io::Result<u64> {
     let mut old_lanes = [PATTERN; 1312];
     let mut old_boundaries = [PATTERN; 416];
     let mut old_roads = [PATTERN; 352];
@@ -305,6 +310,7 @@ fn job_with_area(
     let g = stream::least(sizes[6] as usize, 64);
     let h = stream::least(sizes[7] as usize, 4128);
     job_with_lists(
+        rt,
         counter,
         lanes,
         boundaries,
@@ -329,6 +335,7 @@ fn job_with_area(
 
 // Makes the job at a place of the stream.
 fn make_job(
+    rt: &impl Print,
     s: &[u8],
     at: usize,
     counter: u64,
@@ -340,12 +347,13 @@ fn make_job(
     stop_lines: &mut [u64],
     crosswalks: &mut [u64],
     coordinates: &mut [f64],
-) -> Behind {
+) -> io::Result<Behind> {
     let mut rows = [0; JOB_ROWS];
     let mut sizes = [0; 12];
     let job = stream::read_words(s, at, &mut rows);
     let next = stream::fill(s, job.next, &mut sizes);
     let left = job_with_area(
+        rt,
         counter,
         lanes,
         boundaries,
@@ -357,11 +365,11 @@ fn make_job(
         coordinates,
         &rows[..job.size],
         &sizes,
-    );
-    Behind {
+    )?;
+    Ok(Behind {
         counter: left,
         next,
-    }
+    })
 }
 
 // ---- the stream
@@ -373,6 +381,7 @@ const JOBS: u64 = 4;
 
 // A call or a job, as the stream's form has it.
 fn make_one(
+    rt: &impl Print,
     form: u64,
     s: &[u8],
     at: usize,
@@ -385,9 +394,10 @@ fn make_one(
     stop_lines: &mut [u64],
     crosswalks: &mut [u64],
     coordinates: &mut [f64],
-) -> Behind {
+) -> io::Result<Behind> {
     if form == JOBS {
         return make_job(
+            rt,
             s,
             at,
             counter,
@@ -402,6 +412,7 @@ fn make_one(
         );
     }
     make(
+        rt,
         s,
         at,
         counter,
@@ -418,6 +429,7 @@ fn make_one(
 
 // The calls or jobs of a map, each on what the last one left; the place behind them.
 fn each_call(
+    rt: &impl Print,
     form: u64,
     s: &[u8],
     from: usize,
@@ -431,12 +443,13 @@ fn each_call(
     stop_lines: &mut [u64],
     crosswalks: &mut [u64],
     coordinates: &mut [f64],
-) -> usize {
+) -> io::Result<usize> {
     let mut at = from;
     let mut counter = first;
     let mut i = 0;
     while i < calls {
         let made = make_one(
+            rt,
             form,
             s,
             at,
@@ -449,16 +462,17 @@ fn each_call(
             stop_lines,
             crosswalks,
             coordinates,
-        );
+        )?;
         at = made.next;
         counter = made.counter;
         i += 1;
     }
-    at
+    Ok(at)
 }
 
 // A map, read into the fronts of the arrays, and its calls; the place behind them.
 fn replay_map(
+    rt: &impl Print,
     form: u64,
     s: &[u8],
     lanes: &mut [u64],
@@ -469,7 +483,7 @@ fn replay_map(
     stop_lines: &mut [u64],
     crosswalks: &mut [u64],
     coordinates: &mut [f64],
-) -> usize {
+) -> io::Result<usize> {
     let a = stream::read_words(s, 0, lanes);
     let b = stream::read_words(s, a.next, boundaries);
     let c = stream::read_words(s, b.next, roads);
@@ -489,6 +503,7 @@ fn replay_map(
     let crosswalks_lent = g.size;
     let coordinates_lent = h.size;
     each_call(
+        rt,
         form,
         s,
         calls.next,
@@ -506,7 +521,7 @@ fn replay_map(
 }
 
 // The arrays of a map.
-fn with_tables(form: u64, s: &[u8]) -> usize {
+fn with_tables(rt: &impl Print, form: u64, s: &[u8]) -> io::Result<usize> {
     let mut lanes = [0; 1280];
     let mut boundaries = [0; 384];
     let mut roads = [0; 320];
@@ -516,6 +531,7 @@ fn with_tables(form: u64, s: &[u8]) -> usize {
     let mut crosswalks = [0; 32];
     let mut coordinates = [0.0; 4096];
     replay_map(
+        rt,
         form,
         s,
         &mut lanes,
@@ -530,39 +546,53 @@ fn with_tables(form: u64, s: &[u8]) -> usize {
 }
 
 // The maps of the file from a place on. A map with its calls has at most as many bytes as fit.
-fn each_map(form: u64, fd: i32, from: u32, maps: u64, bytes: &mut [u8]) {
+fn each_map(
+    rt: &impl Print,
+    form: u64,
+    file: &mut File,
+    from: u32,
+    maps: u64,
+    bytes: &mut [u8],
+) -> io::Result<()> {
     let mut at = from;
     let mut i = 0;
     while i < maps {
-        let n = file::window(fd, at, bytes);
-        at = file::behind(at, with_tables(form, &bytes[..n]));
+        let n = file::window(file, at, bytes)?;
+        at = file::behind(at, with_tables(rt, form, &bytes[..n])?);
         i += 1;
     }
+    Ok(())
 }
 
-fn replay(fd: i32, form: u64, bytes: &mut [u8]) {
-    let n = file::window(fd, 0, bytes);
+fn replay(rt: &impl Print, file: &mut File, form: u64, bytes: &mut [u8]) -> io::Result<()> {
+    let n = file::window(file, 0, bytes)?;
     let stored = stream::number(&bytes[..n], 0);
     let maps = stream::number(&bytes[..n], stored.next);
     if stored.value != form {
-        io::write_all(STDOUT_FILENO, b"not such a stream\n");
-        return;
+        return println!(rt; "not such a stream");
     }
-    each_map(form, fd, file::behind(0, maps.next), maps.value, bytes);
+    each_map(
+        rt,
+        form,
+        file,
+        file::behind(0, maps.next),
+        maps.value,
+        bytes,
+    )
 }
 
-fn replay_file(path: &[u8], form: u64, bytes: &mut [u8]) {
-    let fd = os::open_read(path);
-    if fd < 0 {
-        os::fail(path);
-        return;
-    }
-    replay(fd, form, bytes);
-    libc::close(fd);
+fn replay_file(
+    rt: &(impl Files<File = File> + Print),
+    path: &str,
+    form: u64,
+    bytes: &mut [u8],
+) -> io::Result<()> {
+    let mut file = fs::open(rt, path)?;
+    replay(rt, &mut file, form, bytes)
 }
 
-fn main() {
-    let mut bytes = io::large_buffer();
-    replay_file(b"calls.bin", CALLS, &mut bytes);
-    replay_file(b"jobs.bin", JOBS, &mut bytes);
+fn main(rt: HostRuntime) -> io::Result<()> {
+    let mut bytes = [0; 65536];
+    replay_file(&rt, "calls.bin", CALLS, &mut bytes)?;
+    replay_file(&rt, "jobs.bin", JOBS, &mut bytes)
 }

@@ -3,11 +3,14 @@
 #![tactic(auto)]
 
 ghost use Rattle.std.specs.Prelude.{◌≡◌, true, ◌+◌, ◌*◌, ◌≤◌, ◌<◌, ◌^◌, length};
+ghost use Rattle.std.specs.Io.{ReadsAtMost};
 ghost use Rattle.std.specs.Float.{binary64};
 ghost use Rattle.std.specs.Float.Ieee.{of_bits, nan_bits};
 ghost use Rattle.root.specs.Root.{root};
 
-use libc::STDOUT_FILENO;
+use std::fs::File;
+use std::io;
+use std::io::Read;
 
 const ROW: usize = 16;
 
@@ -90,22 +93,30 @@ fn differing(rows: &[u8]) -> u64 {
     count
 }
 
-fn report(rows: &[u8]) {
-    io::print_decimal(STDOUT_FILENO, (rows.len() / ROW) as u64);
-    io::write_all(STDOUT_FILENO, b" roots compared, ");
-    io::print_decimal(STDOUT_FILENO, differing(rows));
-    io::write_all(STDOUT_FILENO, b" differ\n");
+fn report(rt: &impl Print, rows: &[u8]) -> io::Result<()> {
+    let compared = rows.len() / ROW;
+    let differ = differing(rows);
+    println!(rt; "{compared} roots compared, {differ} differ")
 }
 
-fn main() {
-    let path = b"roots";
-    let fd = os::open_read(path);
-    if fd < 0 {
-        os::fail(path);
-        return;
+// Reads until `rows` is full or the file ends, and says how many bytes that were.
+fn read_full(file: &mut File, rows: &mut [u8]) -> io::Result<usize>
+    ensures { ReadsAtMost result rows.new }
+{
+    let mut done = 0;
+    while done < rows.len() {
+        let n = file.read(&mut rows[done..])?;
+        if n == 0 {
+            break;
+        }
+        done += n;
     }
-    let mut rows = io::large_buffer();
-    let n = io::read_full(fd, &mut rows);
-    libc::close(fd);
-    report(&rows[..n]);
+    Ok(done)
+}
+
+fn main(rt: HostRuntime) -> io::Result<()> {
+    let mut file = File::open(&rt, "roots")?;
+    let mut rows = [0; 65536];
+    let n = read_full(&mut file, &mut rows)?;
+    report(&rt, &rows[..n])
 }

@@ -8,8 +8,8 @@ ghost use Rattle.std.specs.Prelude.{◌≡◌, ◌+◌, ◌<◌, ◌≤◌, leng
 
 use entities::{Counter, OptionEntity, Tolerance};
 use jobs::JobAnswer;
-use libc::STDOUT_FILENO;
 use report::{Answer, Counts, ENTITY, WARNING};
+use std::io;
 use tables::{
     BOUNDARY, BOUNDARY_SIZE, BOUNDARY_START, FIRST_PREDECESSOR, FIRST_SUCCESSOR, LANE, LANE_LEFT,
     LANE_RIGHT, LEFT_LANE, LEFT_SLOT, POINT, PREDECESSORS, RIGHT_LANE, RIGHT_SLOT, RULE_KIND,
@@ -651,18 +651,18 @@ fn lay_stop_line(stop_lines: &mut [u64], map: usize) {
 
 // ---- lines of words and numbers
 
-fn write(text: &[u8]) {
-    io::write_all(STDOUT_FILENO, text);
+fn write(rt: &impl Print, text: &[u8]) -> io::Result<()> {
+    rt.write_all(text)
 }
 
-fn number(n: u64) {
-    io::print_decimal(STDOUT_FILENO, n);
+fn number(rt: &impl Print, n: u64) -> io::Result<()> {
+    rt.print(n)
 }
 
 // A further number of a line.
-fn next(n: u64) {
-    write(b" ");
-    number(n);
+fn next(rt: &impl Print, n: u64) -> io::Result<()> {
+    write(rt, b" ")?;
+    number(rt, n)
 }
 
 fn word(list: &[u64], i: usize) -> u64 {
@@ -673,12 +673,13 @@ fn word(list: &[u64], i: usize) -> u64 {
 }
 
 // The words of a list from one place to another.
-fn each_word(list: &[u64], from: usize, to: usize) {
+fn each_word(rt: &impl Print, list: &[u64], from: usize, to: usize) -> io::Result<()> {
     let mut i = from;
     while i < to {
-        next(word(list, i));
+        next(rt, word(list, i))?;
         i += 1;
     }
+    Ok(())
 }
 
 fn least(a: usize, b: usize) -> usize
@@ -707,12 +708,13 @@ fn case_of(map: usize, i: usize) -> u64 {
     0
 }
 
-fn heading(n: u64) {
+fn heading(rt: &impl Print, n: u64) -> io::Result<()> {
     if n != 0 {
-        write(b"case ");
-        number(n);
-        write(b"\n");
+        write(rt, b"case ")?;
+        number(rt, n)?;
+        write(rt, b"\n")?;
     }
+    Ok(())
 }
 
 // The words of commands, ten letters each: first the commands by their numbers, then what follows in a row.
@@ -727,70 +729,72 @@ const SIDES: usize = 10;
 const MARKS: usize = 12;
 
 // The letters before the first space.
-fn trimmed(text: &[u8]) {
+fn trimmed(rt: &impl Print, text: &[u8]) -> io::Result<()> {
     let mut n = 0;
     while n < text.len() {
         if text[n] == b' ' {
-            write(&text[..n]);
-            return;
+            write(rt, &text[..n])?;
+            return Ok(());
         }
         n += 1;
     }
-    write(text);
+    write(rt, text)
 }
 
-fn piece(text: &[u8], k: usize)
+fn piece(rt: &impl Print, text: &[u8], k: usize) -> io::Result<()>
     requires { (k < 15) × (length text.now ≡ 150) }
 {
     let at = k * TERM;
     let to = at + TERM;
-    trimmed(&text[at..to]);
+    trimmed(rt, &text[at..to])
 }
 
-fn term(k: usize)
+fn term(rt: &impl Print, k: usize) -> io::Result<()>
     requires { k < 15 }
 {
     piece(
+        rt,
         b"split     merge     connect   disconnectneighbor  remove    fraction  station   alone     beside    left      right     none      same      opposite  ",
         k,
-    );
+    )
 }
 
 // A further word of a line: the n-th of so many from a place on.
-fn next_term(first: usize, n: u64, last: usize)
+fn next_term(rt: &impl Print, first: usize, n: u64, last: usize) -> io::Result<()>
     requires { first + last < 15 }
 {
-    write(b" ");
-    term(first + least(n as usize, last));
+    write(rt, b" ")?;
+    term(rt, first + least(n as usize, last))
 }
 
-fn asked_split(row: [u64; COMMAND]) {
-    next_term(PLACES, row[2], 1);
-    write(b" ");
-    tenths(bits::double(row[3]));
-    next_term(GROUPS, row[4], 1);
+fn asked_split(rt: &impl Print, row: [u64; COMMAND]) -> io::Result<()> {
+    next_term(rt, PLACES, row[2], 1)?;
+    write(rt, b" ")?;
+    tenths(rt, bits::double(row[3]))?;
+    next_term(rt, GROUPS, row[4], 1)
 }
 
-fn asked_neighbor(row: [u64; COMMAND]) {
-    next_term(SIDES, row[2], 1);
-    next_term(MARKS, row[3], 2);
-    next(row[4]);
+fn asked_neighbor(rt: &impl Print, row: [u64; COMMAND]) -> io::Result<()> {
+    next_term(rt, SIDES, row[2], 1)?;
+    next_term(rt, MARKS, row[3], 2)?;
+    next(rt, row[4])
 }
 
-fn command(row: [u64; COMMAND]) {
-    term(least(row[0] as usize, 5));
-    next(row[1]);
+fn command(rt: &impl Print, row: [u64; COMMAND]) -> io::Result<()> {
+    term(rt, least(row[0] as usize, 5))?;
+    next(rt, row[1])?;
     match row[0] {
-        SPLIT => asked_split(row),
-        SET_NEIGHBOR => asked_neighbor(row),
+        SPLIT => asked_split(rt, row)?,
+        SET_NEIGHBOR => asked_neighbor(rt, row)?,
         REMOVE => {}
-        _ => next(row[2]),
+        _ => next(rt, row[2])?,
     }
+    Ok(())
 }
 
-fn asked(row: [u64; COMMAND]) {
-    command(row);
-    write(b": ");
+fn asked(rt: &impl Print, row: [u64; COMMAND]) -> io::Result<()> {
+    command(rt, row)?;
+    write(rt, b": ")
 }
 
 // ---- what is answered
@@ -802,16 +806,17 @@ const PAIRS: usize = 5;
 
 const FIX: usize = 9;
 
-fn entity(e: OptionEntity) {
+fn entity(rt: &impl Print, e: OptionEntity) -> io::Result<()> {
     match e {
         OptionEntity::None => {}
         OptionEntity::Some(e) => {
             let kind = e.kind;
-            write(b" |");
-            next(kind.number());
-            next(e.id);
+            write(rt, b" |")?;
+            next(rt, kind.number())?;
+            next(rt, e.id)?;
         }
     }
+    Ok(())
 }
 
 // The words of the pairs of a warning that are there.
@@ -828,52 +833,61 @@ fn related(n: u64) -> usize
 }
 
 // The warning whose row begins at word `at`. Pairs that are not there are left out: the editor does not write them.
-fn warning(list: &[u64], at: usize)
+fn warning(rt: &impl Print, list: &[u64], at: usize) -> io::Result<()>
     requires { at + 10 ≤ length list.now }
 {
     let pairs = at + PAIRS;
-    write(b" !");
-    each_word(list, at, pairs);
-    each_word(list, pairs, pairs + related(word(list, at + RELATED)));
-    next(word(list, at + FIX));
+    write(rt, b" !")?;
+    each_word(rt, list, at, pairs)?;
+    each_word(rt, list, pairs, pairs + related(word(list, at + RELATED)))?;
+    next(rt, word(list, at + FIX))
 }
 
-fn each_warning(list: &[u64], n: usize) {
+fn each_warning(rt: &impl Print, list: &[u64], n: usize) -> io::Result<()> {
     let rows = least(n, list.len() / WARNING);
     let mut i = 0;
     while i < rows {
-        warning(list, i * WARNING);
+        warning(rt, list, i * WARNING)?;
         i += 1;
     }
+    Ok(())
 }
 
-fn each_pair(list: &[u64], n: usize) {
+fn each_pair(rt: &impl Print, list: &[u64], n: usize) -> io::Result<()> {
     let pairs = least(n, list.len() / ENTITY);
-    write(b" |");
-    each_word(list, 0, pairs * ENTITY);
+    write(rt, b" |")?;
+    each_word(rt, list, 0, pairs * ENTITY)
 }
 
 fn answer(
+    rt: &impl Print,
     a: Answer,
     created: &[u64; ROOM],
     modified: &[u64; ROOM],
     deleted: &[u64; ROOM],
     warnings: &[u64; 320],
-) {
+) -> io::Result<()> {
     let n = a.counts();
-    number(a.number());
+    number(rt, a.number())?;
     match a {
-        Answer::Refused(r) => entity(r.entity()),
-        _ => change(n, created, modified, deleted, warnings),
+        Answer::Refused(r) => entity(rt, r.entity())?,
+        _ => change(rt, n, created, modified, deleted, warnings)?,
     }
-    write(b"\n");
+    write(rt, b"\n")
 }
 
-fn change(n: Counts, created: &[u64], modified: &[u64], deleted: &[u64], warnings: &[u64]) {
-    each_pair(created, n.created);
-    each_pair(modified, n.modified);
-    each_pair(deleted, n.deleted);
-    each_warning(warnings, n.warnings);
+fn change(
+    rt: &impl Print,
+    n: Counts,
+    created: &[u64],
+    modified: &[u64],
+    deleted: &[u64],
+    warnings: &[u64],
+) -> io::Result<()> {
+    each_pair(rt, created, n.created)?;
+    each_pair(rt, modified, n.modified)?;
+    each_pair(rt, deleted, n.deleted)?;
+    each_warning(rt, warnings, n.warnings)
 }
 
 // ---- jobs
@@ -920,37 +934,38 @@ fn row_at(rows: &[u64], at: usize) -> [u64; COMMAND]
     ]
 }
 
-fn asked_job(rows: &[u64])
+fn asked_job(rt: &impl Print, rows: &[u64]) -> io::Result<()>
     requires { length rows.now ≤ 15 }
 {
-    write(b"job");
+    write(rt, b"job")?;
     let n = rows.len() / COMMAND;
     let mut i = 0;
     while i < n {
-        write(b"; ");
-        command(row_at(rows, i * COMMAND));
+        write(rt, b"; ")?;
+        command(rt, row_at(rows, i * COMMAND))?;
         i += 1;
     }
-    write(b": ");
+    write(rt, b": ")
 }
 
 fn job_answer(
+    rt: &impl Print,
     a: JobAnswer,
     created: &[u64; ROOM],
     modified: &[u64; ROOM],
     deleted: &[u64; ROOM],
     warnings: &[u64; 320],
-) {
-    number(a.number());
+) -> io::Result<()> {
+    number(rt, a.number())?;
     match a {
-        JobAnswer::Made(n) => change(n, created, modified, deleted, warnings),
+        JobAnswer::Made(n) => change(rt, n, created, modified, deleted, warnings)?,
         _ => {
-            next(a.place());
-            next(a.own_number());
-            entity(a.entity());
+            next(rt, a.place())?;
+            next(rt, a.own_number())?;
+            entity(rt, a.entity())?;
         }
     }
-    write(b"\n");
+    write(rt, b"\n")
 }
 
 // ---- what is left
@@ -963,141 +978,154 @@ const MOST: usize = 65536;
 const LINKS: usize = 16;
 
 // A list of a row: its count is at `at`.
-fn ids(table: &[u64], at: usize)
+fn ids(rt: &impl Print, table: &[u64], at: usize) -> io::Result<()>
     requires { at < 1000000 }
 {
     let n = least(word(table, at) as usize, LINKS);
-    write(b" |");
-    each_word(table, at + 1, at + 1 + n);
+    write(rt, b" |")?;
+    each_word(rt, table, at + 1, at + 1 + n)
 }
 
 // A lane: id | predecessors | successors.
-fn lane_left(lanes: &[u64], i: usize)
+fn lane_left(rt: &impl Print, lanes: &[u64], i: usize) -> io::Result<()>
     requires { i < 64 }
 {
     let at = 1 + i * LANE;
-    write(b"  lane");
-    next(word(lanes, at));
-    ids(lanes, at + PREDECESSORS);
-    ids(lanes, at + SUCCESSORS);
-    write(b"\n");
+    write(rt, b"  lane")?;
+    next(rt, word(lanes, at))?;
+    ids(rt, lanes, at + PREDECESSORS)?;
+    ids(rt, lanes, at + SUCCESSORS)?;
+    write(rt, b"\n")
 }
 
-fn each_lane(lanes: &[u64]) {
+fn each_lane(rt: &impl Print, lanes: &[u64]) -> io::Result<()> {
     let n = least(word(lanes, 0) as usize, ROWS);
     let mut i = 0;
     while i < n {
-        lane_left(lanes, i);
+        lane_left(rt, lanes, i)?;
         i += 1;
     }
+    Ok(())
 }
 
 // A length to a tenth.
-fn tenths(x: f64) {
+fn tenths(rt: &impl Print, x: f64) -> io::Result<()> {
     let t = x * 10.0 + 0.5;
     if t > -1.0 {
         if t < 18446744073709551616.0 {
             let n = std::num::truncating_f64_to_u64(t);
-            number(n / 10);
-            write(b".");
-            number(n % 10);
-            return;
+            number(rt, n / 10)?;
+            write(rt, b".")?;
+            number(rt, n % 10)?;
+            return Ok(());
         }
     }
-    write(b"nan");
+    write(rt, b"nan")
 }
 
-fn along(coordinates: &[f64], at: usize) {
+fn along(rt: &impl Print, coordinates: &[f64], at: usize) -> io::Result<()> {
     if at < coordinates.len() {
         let x = coordinates[at];
         if x < 0.0 {
-            write(b" -");
-            tenths(-x);
-            return;
+            write(rt, b" -")?;
+            tenths(rt, -x)?;
+            return Ok(());
         }
-        write(b" ");
-        tenths(x);
+        write(rt, b" ")?;
+        tenths(rt, x)?;
     }
+    Ok(())
 }
 
 // How far along the points of a line are.
-fn each_point(coordinates: &[f64], start: usize, size: usize)
+fn each_point(rt: &impl Print, coordinates: &[f64], start: usize, size: usize) -> io::Result<()>
     requires { (start ≤ 65536) × (size ≤ 65536) }
 {
     let mut i = 0;
     while i < size {
-        along(coordinates, (start + i) * POINT);
+        along(rt, coordinates, (start + i) * POINT)?;
         i += 1;
     }
+    Ok(())
 }
 
 // A boundary: id | points.
-fn boundary_left(boundaries: &[u64], coordinates: &[f64], i: usize)
+fn boundary_left(
+    rt: &impl Print,
+    boundaries: &[u64],
+    coordinates: &[f64],
+    i: usize,
+) -> io::Result<()>
     requires { i < 64 }
 {
     let at = 1 + i * BOUNDARY;
     let start = least(word(boundaries, at + BOUNDARY_START) as usize, MOST);
     let size = least(word(boundaries, at + BOUNDARY_SIZE) as usize, MOST);
-    write(b"  boundary");
-    next(word(boundaries, at));
-    write(b" |");
-    each_point(coordinates, start, size);
-    write(b"\n");
+    write(rt, b"  boundary")?;
+    next(rt, word(boundaries, at))?;
+    write(rt, b" |")?;
+    each_point(rt, coordinates, start, size)?;
+    write(rt, b"\n")
 }
 
-fn each_boundary(boundaries: &[u64], coordinates: &[f64]) {
+fn each_boundary(rt: &impl Print, boundaries: &[u64], coordinates: &[f64]) -> io::Result<()> {
     let n = least(word(boundaries, 0) as usize, ROWS);
     let mut i = 0;
     while i < n {
-        boundary_left(boundaries, coordinates, i);
+        boundary_left(rt, boundaries, coordinates, i)?;
         i += 1;
     }
+    Ok(())
 }
 
 // The first rule's lanes, if there is a rule.
-fn rule(rules: &[u64]) {
+fn rule(rt: &impl Print, rules: &[u64]) -> io::Result<()> {
     if word(rules, 0) == 0 {
-        return;
+        return Ok(());
     }
-    write(b"  rule");
-    next(word(rules, 1));
-    ids(rules, 1 + RULE_LANES);
-    write(b"\n");
+    write(rt, b"  rule")?;
+    next(rt, word(rules, 1))?;
+    ids(rt, rules, 1 + RULE_LANES)?;
+    write(rt, b"\n")
 }
 
 // The map that a change of a case has left.
 fn left(
+    rt: &impl Print,
     map: usize,
     m: Made,
     lanes: &[u64],
     boundaries: &[u64],
     rules: &[u64],
     coordinates: &[f64],
-) {
+) -> io::Result<()> {
     if OTHERS <= map {
-        return;
+        return Ok(());
     }
     if m.relinked {
-        each_lane(lanes);
-        rule(rules);
+        each_lane(rt, lanes)?;
+        rule(rt, rules)?;
     }
     if m.redrawn {
-        each_boundary(boundaries, coordinates);
+        each_boundary(rt, boundaries, coordinates)?;
     }
+    Ok(())
 }
 
-fn end(map: usize, lanes: &[u64]) {
+fn end(rt: &impl Print, map: usize, lanes: &[u64]) -> io::Result<()> {
     if map == LONG {
-        write(b"links\n");
-        each_lane(lanes);
+        write(rt, b"links\n")?;
+        each_lane(rt, lanes)?;
     }
+    Ok(())
 }
 
 // The links that n jobs leave.
-fn end_jobs(n: usize, lanes: &[u64]) {
+fn end_jobs(rt: &impl Print, n: usize, lanes: &[u64]) -> io::Result<()> {
     if 0 < n {
-        each_lane(lanes);
+        each_lane(rt, lanes)?;
     }
+    Ok(())
 }
 
 // ---- the yard
@@ -1120,6 +1148,7 @@ fn behind_call(counter: u64, n: Counts) -> Made {
 
 // Makes a call and writes its line. It lends lists of 64 pairs, and less for the modified and the deleted where the call says so, and of 32 warnings.
 fn make(
+    rt: &impl Print,
     c: Call,
     lanes: &mut [u64],
     boundaries: &mut [u64],
@@ -1129,7 +1158,7 @@ fn make(
     stop_lines: &mut [u64],
     crosswalks: &mut [u64],
     coordinates: &mut [f64],
-) -> Made {
+) -> io::Result<Made> {
     let mut created = [0; 128];
     let mut modified = [0; 128];
     let mut deleted = [0; 128];
@@ -1138,7 +1167,7 @@ fn make(
     let changed = least(c.modified, ROOM);
     let gone = least(c.deleted, ROOM);
     let counter = c.counter;
-    asked(row);
+    asked(rt, row)?;
     let command = words::command_of(&row);
     let a = ops::apply(
         Counter { next: counter },
@@ -1157,12 +1186,13 @@ fn make(
         &mut deleted[..gone],
         &mut warnings,
     );
-    answer(a, &created, &modified, &deleted, &warnings);
-    behind_call(a.counter(counter), a.counts())
+    answer(rt, a, &created, &modified, &deleted, &warnings)?;
+    Ok(behind_call(a.counter(counter), a.counts()))
 }
 
 // The job with lists of 64 pairs and of 32 warnings; the counter behind it.
 fn job_with_lists(
+    rt: &impl Print,
     counter: u64,
     lanes: &mut [u64],
     boundaries: &mut [u64],
@@ -1181,7 +1211,7 @@ fn job_with_lists(
     old_stop_lines: &mut [u64],
     old_crosswalks: &mut [u64],
     old_coordinates: &mut [f64],
-) -> u64 {
+) -> io::Result<u64> {
     let mut created = [0; 128];
     let mut modified = [0; 128];
     let mut deleted = [0; 128];
@@ -1212,12 +1242,13 @@ fn job_with_lists(
         &mut warnings,
     );
     let a = end.answer;
-    job_answer(a, &created, &modified, &deleted, &warnings);
-    end.counter
+    job_answer(rt, a, &created, &modified, &deleted, &warnings)?;
+    Ok(end.counter)
 }
 
 // The job with a second area as large as the map's.
 fn job_with_area(
+    rt: &impl Print,
     counter: u64,
     lanes: &mut [u64],
     boundaries: &mut [u64],
@@ -1228,7 +1259,7 @@ fn job_with_area(
     crosswalks: &mut [u64],
     coordinates: &mut [f64],
     rows: &[u64],
-) -> u64 {
+) -> io::Result<u64> {
     let mut old_lanes = [0; 3329];
     let mut old_boundaries = [0; 641];
     let mut old_roads = [0; 69];
@@ -1238,6 +1269,7 @@ fn job_with_area(
     let mut old_crosswalks = [0; 8];
     let mut old_coordinates = [0.0; 3000];
     job_with_lists(
+        rt,
         counter,
         lanes,
         boundaries,
@@ -1261,6 +1293,7 @@ fn job_with_area(
 
 // Asks for a job and writes its line.
 fn make_job(
+    rt: &impl Print,
     k: usize,
     counter: u64,
     lanes: &mut [u64],
@@ -1271,11 +1304,12 @@ fn make_job(
     stop_lines: &mut [u64],
     crosswalks: &mut [u64],
     coordinates: &mut [f64],
-) -> u64 {
+) -> io::Result<u64> {
     let rows = job_rows(k);
     let n = job_size(k);
-    asked_job(&rows[..n]);
+    asked_job(rt, &rows[..n])?;
     job_with_area(
+        rt,
         counter,
         lanes,
         boundaries,
@@ -1290,6 +1324,7 @@ fn make_job(
 }
 
 fn each_job(
+    rt: &impl Print,
     n: usize,
     lanes: &mut [u64],
     boundaries: &mut [u64],
@@ -1299,11 +1334,12 @@ fn each_job(
     stop_lines: &mut [u64],
     crosswalks: &mut [u64],
     coordinates: &mut [f64],
-) {
+) -> io::Result<()> {
     let mut counter = first_counter(JOBS);
     let mut k = 0;
     while k < n {
         counter = make_job(
+            rt,
             k,
             counter,
             lanes,
@@ -1314,10 +1350,10 @@ fn each_job(
             stop_lines,
             crosswalks,
             coordinates,
-        );
+        )?;
         k += 1;
     }
-    end_jobs(n, lanes);
+    end_jobs(rt, n, lanes)
 }
 
 fn first_counter(map: usize) -> u64 {
@@ -1328,6 +1364,7 @@ fn first_counter(map: usize) -> u64 {
 }
 
 fn each_call(
+    rt: &impl Print,
     map: usize,
     n: usize,
     lanes: &mut [u64],
@@ -1338,14 +1375,15 @@ fn each_call(
     stop_lines: &mut [u64],
     crosswalks: &mut [u64],
     coordinates: &mut [f64],
-) {
+) -> io::Result<()> {
     let mut counter = first_counter(map);
     let mut seed = 7;
     let mut i = 0;
     while i < n {
-        heading(case_of(map, i));
+        heading(rt, case_of(map, i))?;
         let c = listed(map, i, counter, seed, lanes);
         let m = make(
+            rt,
             c,
             lanes,
             boundaries,
@@ -1355,13 +1393,13 @@ fn each_call(
             stop_lines,
             crosswalks,
             coordinates,
-        );
-        left(map, m, lanes, boundaries, rules, coordinates);
+        )?;
+        left(rt, map, m, lanes, boundaries, rules, coordinates)?;
         counter = m.counter;
         seed = after(after(after(seed)));
         i += 1;
     }
-    end(map, lanes);
+    end(rt, map, lanes)
 }
 
 // The jobs are made on the long list's map.
@@ -1373,7 +1411,7 @@ fn layout(map: usize) -> usize {
 }
 
 // The tables, with room for 64 lanes, 128 boundaries, 1,000 points, and one row of each other table.
-fn run(map: usize) {
+fn run(rt: &impl Print, map: usize) -> io::Result<()> {
     let mut lanes = [0; 3329];
     let mut boundaries = [0; 641];
     let mut roads = [0; 69];
@@ -1389,6 +1427,7 @@ fn run(map: usize) {
     lay_rule(&mut rules, laid);
     lay_stop_line(&mut stop_lines, laid);
     each_call(
+        rt,
         map,
         calls(map),
         &mut lanes,
@@ -1399,8 +1438,9 @@ fn run(map: usize) {
         &mut stop_lines,
         &mut crosswalks,
         &mut coordinates,
-    );
+    )?;
     each_job(
+        rt,
         jobs(map),
         &mut lanes,
         &mut boundaries,
@@ -1410,28 +1450,31 @@ fn run(map: usize) {
         &mut stop_lines,
         &mut crosswalks,
         &mut coordinates,
-    );
+    )
 }
 
-fn main() {
-    write(b"command: answer | created | modified | deleted ! warning, an entity by kind and id\n");
-    run(CASE_1);
-    run(CASE_3);
-    run(CASE_4);
-    run(CASE_5);
-    run(CASE_6);
-    run(CASE_7);
-    run(CASE_8);
-    run(CASE_9);
-    run(CASE_10);
-    write(b"other answers\n");
-    run(OTHERS);
-    write(b"too little room\n");
-    run(LITTLE_ROOM);
-    write(b"a counter below the map's ids\n");
-    run(LOW_COUNTER);
-    write(b"long list\n");
-    run(LONG);
-    write(b"jobs\n");
-    run(JOBS);
+fn main(rt: HostRuntime) -> io::Result<()> {
+    write(
+        &rt,
+        b"command: answer | created | modified | deleted ! warning, an entity by kind and id\n",
+    )?;
+    run(&rt, CASE_1)?;
+    run(&rt, CASE_3)?;
+    run(&rt, CASE_4)?;
+    run(&rt, CASE_5)?;
+    run(&rt, CASE_6)?;
+    run(&rt, CASE_7)?;
+    run(&rt, CASE_8)?;
+    run(&rt, CASE_9)?;
+    run(&rt, CASE_10)?;
+    write(&rt, b"other answers\n")?;
+    run(&rt, OTHERS)?;
+    write(&rt, b"too little room\n")?;
+    run(&rt, LITTLE_ROOM)?;
+    write(&rt, b"a counter below the map's ids\n")?;
+    run(&rt, LOW_COUNTER)?;
+    write(&rt, b"long list\n")?;
+    run(&rt, LONG)?;
+    write(&rt, b"jobs\n")?;
+    run(&rt, JOBS)
 }

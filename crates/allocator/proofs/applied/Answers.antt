@@ -6,9 +6,10 @@ use Rattle.allocator.proofs.Advances.{advances}
 use Rattle.allocator.proofs.applied.Goals as goal
 use Rattle.allocator.proofs.applied.Lts as lts
 use Rattle.allocator.proofs.applied.Reads as reads
+use Rattle.allocator.proofs.applied.Tie as tie
 
 abbrev AtStart : Type 0
-AtStart = lts.Start reads.Pre reads.Post
+AtStart = lts.Start tie.the-claims reads.Pre reads.Post
 
 -- what is lent
 abbrev lent : AtStart → Lent

@@ -9,9 +9,10 @@ use Rattle.edit.proofs.Ends.{gap-may, link-may, connected}
 use Rattle.edit.proofs.connect.Goals as goal
 use Rattle.edit.proofs.connect.Lts as lts
 use Rattle.edit.proofs.connect.Reads as reads
+use Rattle.edit.proofs.connect.Tie as tie
 
 abbrev AtStart : Type 0
-AtStart = lts.Start reads.Pre reads.Post
+AtStart = lts.Start tie.the-claims reads.Pre reads.Post
 
 -- what is lent
 abbrev held : AtStart → Tables
@@ -28,16 +29,16 @@ pub lane-found-requires : goal.lane-found-requires
 lane-found-requires c = lanes_are_sorted c.args.counter (held c.before.before.before.before.before.before.before.before.before.before.before.before.before.before) c.requires
 
 pub returns-in_default : goal.returns-in_default
-returns-in_default c = let s = c.before.before.before.before.before.before.before.before.before.before.before.before.before.before.before.before.before in connect-first-absent s.args.tolerance (lent s) s.requires (omega (arith, s.well-formed.0.1)) s.args.from s.args.to (missing s.args.lanes.now s.args.from c.lane-found.result c.lane-found.ensures c.in_default.is)
+returns-in_default c = let s = c.before.before.before.before.before.before.before.before.before.before.before.before.before.before.before.before.before in connect-first-absent s.args.tolerance (lent s) s.requires (omega (arith, s.well_formed.0.1)) s.args.from s.args.to (missing s.args.lanes.now s.args.from c.lane-found.result c.lane-found.ensures c.in_default.is)
 
 pub lane-other-requires : goal.lane-other-requires
 lane-other-requires c = lanes_are_sorted c.args.counter (held c.before.before.before.before.before.before.before.before.before.before.before.before.before.before.before.before.before.before.before) c.requires
 
 pub returns-in_default-other : goal.returns-in_default-other
-returns-in_default-other c = let s = c.before.before.before.before.before.before.before.before.before.before.before.before.before.before.before.before.before.before.before.before.before.before in connect-second-absent s.args.tolerance (lent s) s.requires (omega (arith, s.well-formed.0.1)) s.args.from s.args.to c.in-At.i (found s.args.lanes.now s.args.from c.in-At.i c.lane-found.result c.lane-found.ensures c.in-At.is) (missing s.args.lanes.now s.args.to c.lane-other.result c.lane-other.ensures c.in_default-other.is)
+returns-in_default-other c = let s = c.before.before.before.before.before.before.before.before.before.before.before.before.before.before.before.before.before.before.before.before.before.before in connect-second-absent s.args.tolerance (lent s) s.requires (omega (arith, s.well_formed.0.1)) s.args.from s.args.to c.in-At.i (found s.args.lanes.now s.args.from c.in-At.i c.lane-found.result c.lane-found.ensures c.in-At.is) (missing s.args.lanes.now s.args.to c.lane-other.result c.lane-other.ensures c.in_default-other.is)
 
 pub returns-then-from-to : goal.returns-then-from-to
-returns-then-from-to c = let s = c.before.before.before.before.before.before.before.before.before.before.before.before.before.before.before.before.before.before.before.before.before.before.before.before in connect-itself s.args.tolerance (lent s) s.requires (omega (arith, s.well-formed.0.1)) s.args.from s.args.to c.in-At.i (found s.args.lanes.now s.args.from c.in-At.i c.lane-found.result c.lane-found.ensures c.in-At.is) c.in-At-other.j (found s.args.lanes.now s.args.to c.in-At-other.j c.lane-other.result c.lane-other.ensures c.in-At-other.is) c.if-from-to.true
+returns-then-from-to c = let s = c.before.before.before.before.before.before.before.before.before.before.before.before.before.before.before.before.before.before.before.before.before.before.before.before in connect-itself s.args.tolerance (lent s) s.requires (omega (arith, s.well_formed.0.1)) s.args.from s.args.to c.in-At.i (found s.args.lanes.now s.args.from c.in-At.i c.lane-found.result c.lane-found.ensures c.in-At.is) c.in-At-other.j (found s.args.lanes.now s.args.to c.in-At-other.j c.lane-other.result c.lane-other.ensures c.in-At-other.is) c.if-from-to.true
 
 pub gapped-gap-requires : goal.gapped-gap-requires
 gapped-gap-requires c = let s = c.before.before.before.before.before.before.before.before.before.before.before.before.before.before.before.before.before.before.before.before.before.before.before.before.before in gap-may s.args.counter (held s) s.requires s.args.from s.args.to c.in-At.i c.in-At-other.j (found s.args.lanes.now s.args.from c.in-At.i c.lane-found.result c.lane-found.ensures c.in-At.is) (found s.args.lanes.now s.args.to c.in-At-other.j c.lane-other.result c.lane-other.ensures c.in-At-other.is)
@@ -49,4 +50,4 @@ pub link-requires : goal.link-requires
 link-requires c = let s = c.before.before.before.before.before.before.before.before.before.before.before.before.before.before.before.before.before.before.before.before.before.before.before.before.before.before.before.before.before.before.before in link-may s.args.counter (held s) s.requires s.args.from s.args.to c.in-At.i c.in-At-other.j (found s.args.lanes.now s.args.from c.in-At.i c.lane-found.result c.lane-found.ensures c.in-At.is) (found s.args.lanes.now s.args.to c.in-At-other.j c.lane-other.result c.lane-other.ensures c.in-At-other.is) c.leads-linked.result c.leads-linked.ensures
 
 pub returns : goal.returns
-returns c = let s = c.before.before.before.before.before.before.before.before.before.before.before.before.before.before.before.before.before.before.before.before.before.before.before.before.before.before.before.before.before.before.before.before.before.before.before.before.before.before in connected s.args.tolerance (lent s) s.requires (omega (arith, s.well-formed.0.1)) s.args.from c.in-At.i (found s.args.lanes.now s.args.from c.in-At.i c.lane-found.result c.lane-found.ensures c.in-At.is) s.args.to c.in-At-other.j (found s.args.lanes.now s.args.to c.in-At-other.j c.lane-other.result c.lane-other.ensures c.in-At-other.is) c.link.new.0 c.link.new.1.1.1.1.1.0 c.link.new.1.1.1.1.1.1.0 c.link.result c.leads-linked.result c.leads-linked.ensures c.if-from-to.false c.gapped-gap.result c.gapped-gap.ensures c.link.ensures
+returns c = let s = c.before.before.before.before.before.before.before.before.before.before.before.before.before.before.before.before.before.before.before.before.before.before.before.before.before.before.before.before.before.before.before.before.before.before.before.before.before.before in connected s.args.tolerance (lent s) s.requires (omega (arith, s.well_formed.0.1)) s.args.from c.in-At.i (found s.args.lanes.now s.args.from c.in-At.i c.lane-found.result c.lane-found.ensures c.in-At.is) s.args.to c.in-At-other.j (found s.args.lanes.now s.args.to c.in-At-other.j c.lane-other.result c.lane-other.ensures c.in-At-other.is) c.link.new.lanes c.link.new.modified c.link.new.warnings.0 c.link.result c.leads-linked.result c.leads-linked.ensures c.if-from-to.false c.gapped-gap.result c.gapped-gap.ensures c.link.ensures

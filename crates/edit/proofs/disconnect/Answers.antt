@@ -9,9 +9,10 @@ use Rattle.edit.proofs.Ends.{link-may, disconnected}
 use Rattle.edit.proofs.disconnect.Goals as goal
 use Rattle.edit.proofs.disconnect.Lts as lts
 use Rattle.edit.proofs.disconnect.Reads as reads
+use Rattle.edit.proofs.disconnect.Tie as tie
 
 abbrev AtStart : Type 0
-AtStart = lts.Start reads.Pre reads.Post
+AtStart = lts.Start tie.the-claims reads.Pre reads.Post
 
 -- what is lent
 abbrev held : AtStart → Tables
@@ -28,13 +29,13 @@ pub lane-found-requires : goal.lane-found-requires
 lane-found-requires c = lanes_are_sorted c.args.counter (held c.before.before.before.before.before.before.before.before.before.before.before.before.before.before) c.requires
 
 pub returns-in_default : goal.returns-in_default
-returns-in_default c = let s = c.before.before.before.before.before.before.before.before.before.before.before.before.before.before.before.before.before in disconnect-first-absent s.args.tolerance (lent s) s.requires (omega (arith, s.well-formed.0.1)) s.args.from s.args.to (missing s.args.lanes.now s.args.from c.lane-found.result c.lane-found.ensures c.in_default.is)
+returns-in_default c = let s = c.before.before.before.before.before.before.before.before.before.before.before.before.before.before.before.before.before in disconnect-first-absent s.args.tolerance (lent s) s.requires (omega (arith, s.well_formed.0.1)) s.args.from s.args.to (missing s.args.lanes.now s.args.from c.lane-found.result c.lane-found.ensures c.in_default.is)
 
 pub lane-other-requires : goal.lane-other-requires
 lane-other-requires c = lanes_are_sorted c.args.counter (held c.before.before.before.before.before.before.before.before.before.before.before.before.before.before.before.before.before.before.before) c.requires
 
 pub returns-in_default-other : goal.returns-in_default-other
-returns-in_default-other c = let s = c.before.before.before.before.before.before.before.before.before.before.before.before.before.before.before.before.before.before.before.before.before.before in disconnect-second-absent s.args.tolerance (lent s) s.requires (omega (arith, s.well-formed.0.1)) s.args.from s.args.to c.in-At.i (found s.args.lanes.now s.args.from c.in-At.i c.lane-found.result c.lane-found.ensures c.in-At.is) (missing s.args.lanes.now s.args.to c.lane-other.result c.lane-other.ensures c.in_default-other.is)
+returns-in_default-other c = let s = c.before.before.before.before.before.before.before.before.before.before.before.before.before.before.before.before.before.before.before.before.before.before in disconnect-second-absent s.args.tolerance (lent s) s.requires (omega (arith, s.well_formed.0.1)) s.args.from s.args.to c.in-At.i (found s.args.lanes.now s.args.from c.in-At.i c.lane-found.result c.lane-found.ensures c.in-At.is) (missing s.args.lanes.now s.args.to c.lane-other.result c.lane-other.ensures c.in_default-other.is)
 
 pub leads-linked-requires : goal.leads-linked-requires
 leads-linked-requires c = let s = c.before.before.before.before.before.before.before.before.before.before.before.before.before.before.before.before.before.before.before.before.before.before.before.before in leads-may s.args.counter (held s) s.requires s.args.from c.in-At.i (found s.args.lanes.now s.args.from c.in-At.i c.lane-found.result c.lane-found.ensures c.in-At.is)
@@ -43,4 +44,4 @@ pub unlink-requires : goal.unlink-requires
 unlink-requires c = let s = c.before.before.before.before.before.before.before.before.before.before.before.before.before.before.before.before.before.before.before.before.before.before.before.before.before.before.before.before in link-may s.args.counter (held s) s.requires s.args.from s.args.to c.in-At.i c.in-At-other.j (found s.args.lanes.now s.args.from c.in-At.i c.lane-found.result c.lane-found.ensures c.in-At.is) (found s.args.lanes.now s.args.to c.in-At-other.j c.lane-other.result c.lane-other.ensures c.in-At-other.is) c.leads-linked.result c.leads-linked.ensures
 
 pub returns : goal.returns
-returns c = let s = c.before.before.before.before.before.before.before.before.before.before.before.before.before.before.before.before.before.before.before.before.before.before.before.before.before.before.before.before.before.before.before.before.before.before.before in disconnected s.args.tolerance (lent s) s.requires (omega (arith, s.well-formed.0.1)) s.args.from c.in-At.i (found s.args.lanes.now s.args.from c.in-At.i c.lane-found.result c.lane-found.ensures c.in-At.is) s.args.to c.in-At-other.j (found s.args.lanes.now s.args.to c.in-At-other.j c.lane-other.result c.lane-other.ensures c.in-At-other.is) c.unlink.new.0 c.unlink.new.1.1.1.1.0 c.unlink.new.1.1.1.1.1.0 c.unlink.result c.leads-linked.result c.leads-linked.ensures c.unlink.ensures
+returns c = let s = c.before.before.before.before.before.before.before.before.before.before.before.before.before.before.before.before.before.before.before.before.before.before.before.before.before.before.before.before.before.before.before.before.before.before.before in disconnected s.args.tolerance (lent s) s.requires (omega (arith, s.well_formed.0.1)) s.args.from c.in-At.i (found s.args.lanes.now s.args.from c.in-At.i c.lane-found.result c.lane-found.ensures c.in-At.is) s.args.to c.in-At-other.j (found s.args.lanes.now s.args.to c.in-At-other.j c.lane-other.result c.lane-other.ensures c.in-At-other.is) c.unlink.new.lanes c.unlink.new.modified c.unlink.new.warnings.0 c.unlink.result c.leads-linked.result c.leads-linked.ensures c.unlink.ensures

@@ -29,19 +29,19 @@ count-orphans-requires c = orphans_formed c.args.rules.now c.requires.formed.rul
 
 pub list_named-requires : goal.list_named-requires
 list_named-requires c =
-    let s = c.before.before.before.before.before.before.before.before.before.before.before.before.before.before.before.before.before.before.before.before.before.before.before.before.before.before.before.before.before.before.before in
+    let s = c in
     let a = s.args in
     (s.requires.formed, named-room (get_or a.lanes.now (1 + a.i * 52) 0) (tables a.lanes.now a.boundaries.now a.roads.now a.junctions.now a.rules.now) a.modified.now a.deleted.now a.warnings.now c.own_boundaries-own.result (gone_with a.lanes.now a.i a.boundaries.now) c.own_boundaries-own.ensures c.count_named-named.result c.count-orphans.result c.count_named-named.ensures c.count-orphans.ensures (sym c.fits2.ensures ∙ c.if-fits.true))
 
 pub list_gone-requires : goal.list_gone-requires
 list_gone-requires c =
-    let s = c.before.before.before.before.before.before.before.before.before.before.before.before.before.before.before.before.before.before.before.before.before.before.before.before.before.before.before.before.before.before.before.before.before.before.before in
+    let s = c in
     let a = s.args in
     gone-room (get_or a.lanes.now (1 + a.i * 52) 0) (tables a.lanes.now a.boundaries.now a.roads.now a.junctions.now a.rules.now) a.modified.now a.deleted.now a.warnings.now c.own_boundaries-own.result (gone_with a.lanes.now a.i a.boundaries.now) c.own_boundaries-own.ensures c.count_named-named.result c.count-orphans.result c.count_named-named.ensures c.count-orphans.ensures (sym c.fits2.ensures ∙ c.if-fits.true)
 
 pub warn-requires : goal.warn-requires
 warn-requires c =
-    let s = c.before.before.before.before.before.before.before.before.before.before.before.before.before.before.before.before.before.before.before.before.before.before.before.before.before.before.before.before.before.before.before.before.before.before.before.before.before.before.before.before in
+    let s = c in
     let a = s.args in
     (orphans_formed a.rules.now s.requires.formed.rules, warn_room (get_or a.lanes.now (1 + a.i * 52) 0) (tables a.lanes.now a.boundaries.now a.roads.now a.junctions.now a.rules.now) a.modified.now a.deleted.now a.warnings.now c.own_boundaries-own.result (gone_with a.lanes.now a.i a.boundaries.now) c.own_boundaries-own.ensures c.count_named-named.result c.count-orphans.result c.count_named-named.ensures c.count-orphans.ensures (sym c.fits2.ensures ∙ c.if-fits.true))
 
@@ -56,7 +56,7 @@ returns-then-fits c =
     let w = c.write.new in
     lane-read a.lanes.now a.i t a.modified.now a.deleted.now a.warnings.now ids _
     (done_removal (get_or a.lanes.now (1 + a.i * 52) 0) t a.modified.now a.deleted.now a.warnings.now c.own_boundaries-own.result ids c.own_boundaries-own.ensures c.count_named-named.result c.count-orphans.result c.count_named-named.ensures c.count-orphans.ensures (sym c.fits2.ensures ∙ c.if-fits.true)
-    (tables w.0 w.1.0 w.1.1.0 w.1.1.1.0 w.1.1.1.1.0) c.list_named.new.1.1.1.1.1.0 c.list_gone.new.1.1.0 c.warn.new.1.1.0 c.write.ensures c.list_named.ensures c.list_gone.ensures c.warn.ensures)
+    (tables w.0 w.1.0 w.1.1.0 w.1.1.1.0 w.1.1.1.1.0) c.list_named.new.modified.0 c.list_gone.new.deleted.0 c.warn.new.warnings.0 c.write.ensures c.list_named.ensures c.list_gone.ensures c.warn.ensures)
 
 pub returns : goal.returns
 returns c =

@@ -8,9 +8,10 @@ use Rattle.edit_lane.proofs.Calls.{may-remove, absent, ends}
 use Rattle.edit_lane.proofs.remove_lane.Goals as goal
 use Rattle.edit_lane.proofs.remove_lane.Lts as lts
 use Rattle.edit_lane.proofs.remove_lane.Reads as reads
+use Rattle.edit_lane.proofs.remove_lane.Tie as tie
 
 abbrev AtStart : Type 0
-AtStart = lts.Start reads.Pre reads.Post
+AtStart = lts.Start tie.the-claims reads.Pre reads.Post
 
 -- what is lent
 abbrev held : AtStart → Tables
@@ -33,4 +34,4 @@ pub remove-requires : goal.remove-requires
 remove-requires c = let s = c.before.before.before.before.before.before.before.before.before.before.before.before.before.before.before.before.before.before.before.before.before.before.before.before.before.before in may-remove s.args.counter (held s) s.requires s.args.lane c.in-At.i (found s.args.lanes.now s.args.lane c.in-At.i c.lane-found.result c.lane-found.ensures c.in-At.is)
 
 pub returns : goal.returns
-returns c = let s = c.before.before.before.before.before.before.before.before.before.before.before.before.before.before.before.before.before.before.before.before.before.before.before.before.before.before.before.before.before.before.before.before.before.before.before.before.before.before.before.before.before.before.before in ends s.args.tolerance (lent s) s.requires s.args.lane (omega (arith, s.well-formed.0.1)) c.in-At.i (found s.args.lanes.now s.args.lane c.in-At.i c.lane-found.result c.lane-found.ensures c.in-At.is) _ c.remove.ensures
+returns c = let s = c.before.before.before.before.before.before.before.before.before.before.before.before.before.before.before.before.before.before.before.before.before.before.before.before.before.before.before.before.before.before.before.before.before.before.before.before.before.before.before.before.before.before.before in ends s.args.tolerance (lent s) s.requires s.args.lane (omega (arith, s.well_formed.0.1)) c.in-At.i (found s.args.lanes.now s.args.lane c.in-At.i c.lane-found.result c.lane-found.ensures c.in-At.is) _ c.remove.ensures

@@ -52,7 +52,7 @@ decide-planned-requires c = let s = c.before.before.before.before.before.before.
 
 -- src/lib.rt:323:34
 pub merge_found-requires : goal.merge_found-requires
-merge_found-requires c = let s = c.before.before.before.before.before.before.before.before.before.before.before.before.before.before.before.before.before.before.before.before.before.before.before.before.before.before.before.before.before.before.before.before.before.before.before.before.before.before.before.before.before.before.before.before.before in may-merge s.args.tolerance (lent_of s.args.counter s.args.lanes.now s.args.boundaries.now s.args.roads.now s.args.junctions.now s.args.rules.now s.args.stop_lines.now s.args.crosswalks.now s.args.coordinates.now s.args.created.now s.args.modified.now s.args.deleted.now s.args.warnings.now) s.requires (omega (arith, s.well-formed.0.1)) s.args.first s.args.second c.in-At.i c.in-At-other.j (found s.args.lanes.now s.args.first c.in-At.i c.lane-found.result c.lane-found.ensures c.in-At.is) (found s.args.lanes.now s.args.second c.in-At-other.j c.lane-other.result c.lane-other.ensures c.in-At-other.is) (sym c.mergeable.ensures ∙ on c.mergeable.result c.if-not-mergeable.false) c.in-Merges.plan (sym c.decide-planned.ensures ∙ c.in-Merges.is)
+merge_found-requires c = let s = c.before.before.before.before.before.before.before.before.before.before.before.before.before.before.before.before.before.before.before.before.before.before.before.before.before.before.before.before.before.before.before.before.before.before.before.before.before.before.before.before.before.before.before.before.before in may-merge s.args.tolerance (lent_of s.args.counter s.args.lanes.now s.args.boundaries.now s.args.roads.now s.args.junctions.now s.args.rules.now s.args.stop_lines.now s.args.crosswalks.now s.args.coordinates.now s.args.created.now s.args.modified.now s.args.deleted.now s.args.warnings.now) s.requires (omega (arith, s.well_formed.0.1)) s.args.first s.args.second c.in-At.i c.in-At-other.j (found s.args.lanes.now s.args.first c.in-At.i c.lane-found.result c.lane-found.ensures c.in-At.is) (found s.args.lanes.now s.args.second c.in-At-other.j c.lane-other.result c.lane-other.ensures c.in-At-other.is) (sym c.mergeable.ensures ∙ on c.mergeable.result c.if-not-mergeable.false) c.in-Merges.plan (sym c.decide-planned.ensures ∙ c.in-Merges.is)
 
 -- src/lib.rt:287:1
 pub shape_of-lanes-in-Refused : goal.shape_of-lanes-in-Refused
@@ -120,4 +120,4 @@ shape_of-warnings c = c.merge_found.auto.1.1.1.1.1.1.1.1.1.1.1.1.1.1.1.1.0
 
 -- src/lib.rt:287:1
 pub returns-in-Merges : goal.returns-in-Merges
-returns-in-Merges c = let s = c.before.before.before.before.before.before.before.before.before.before.before.before.before.before.before.before.before.before.before.before.before.before.before.before.before.before.before.before.before.before.before.before.before.before.before.before.before.before.before.before.before.before.before.before.before.before.before.before.before.before.before.before.before.before.before.before.before.before.before.before.before.before.before.before.before.before.before.before.before.before in c.merge_found.ensures ∙ merge-ends s.args.tolerance (lent_of s.args.counter s.args.lanes.now s.args.boundaries.now s.args.roads.now s.args.junctions.now s.args.rules.now s.args.stop_lines.now s.args.crosswalks.now s.args.coordinates.now s.args.created.now s.args.modified.now s.args.deleted.now s.args.warnings.now) s.requires (omega (arith, s.well-formed.0.1)) s.args.first s.args.second c.in-At.i c.in-At-other.j (found s.args.lanes.now s.args.first c.in-At.i c.lane-found.result c.lane-found.ensures c.in-At.is) (found s.args.lanes.now s.args.second c.in-At-other.j c.lane-other.result c.lane-other.ensures c.in-At-other.is) (sym c.mergeable.ensures ∙ on c.mergeable.result c.if-not-mergeable.false) c.in-Merges.plan (sym c.decide-planned.ensures ∙ c.in-Merges.is)
+returns-in-Merges c = let s = c.before.before.before.before.before.before.before.before.before.before.before.before.before.before.before.before.before.before.before.before.before.before.before.before.before.before.before.before.before.before.before.before.before.before.before.before.before.before.before.before.before.before.before.before.before.before.before.before.before.before.before.before.before.before.before.before.before.before.before.before.before.before.before.before.before.before.before.before.before.before in c.merge_found.ensures ∙ merge-ends s.args.tolerance (lent_of s.args.counter s.args.lanes.now s.args.boundaries.now s.args.roads.now s.args.junctions.now s.args.rules.now s.args.stop_lines.now s.args.crosswalks.now s.args.coordinates.now s.args.created.now s.args.modified.now s.args.deleted.now s.args.warnings.now) s.requires (omega (arith, s.well_formed.0.1)) s.args.first s.args.second c.in-At.i c.in-At-other.j (found s.args.lanes.now s.args.first c.in-At.i c.lane-found.result c.lane-found.ensures c.in-At.is) (found s.args.lanes.now s.args.second c.in-At-other.j c.lane-other.result c.lane-other.ensures c.in-At-other.is) (sym c.mergeable.ensures ∙ on c.mergeable.result c.if-not-mergeable.false) c.in-Merges.plan (sym c.decide-planned.ensures ∙ c.in-Merges.is)

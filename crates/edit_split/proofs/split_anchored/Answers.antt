@@ -99,4 +99,4 @@ shape_of-warnings c = c.make.auto.1.1.1.1.1.1.1.1.1.1.1.1.1.1.1.1.1.1.1.1.0
 
 -- src/lib.rt:46:1
 pub returns : goal.returns
-returns c = fit-made c.args.drawn (cutting_of c.args.drawn c.args.seen.now c.args.cut.now c.args.marks.now c.args.pieces.now c.args.lines.now c.args.centers.now) c.args.anchored.now c.args.past.now (tables_of c.args.lanes.now c.args.boundaries.now c.args.roads.now c.args.junctions.now c.args.rules.now c.args.stop_lines.now c.args.crosswalks.now c.args.coordinates.now) c.fits2.result c.fits2.ensures (on c.fits2.result c.if-not-fits.false) c.args.created.now c.args.modified.now c.args.deleted.now c.args.warnings.now (left (tables_of c.make.new.0 c.make.new.1.0 c.make.new.1.1.0 c.make.new.1.1.1.0 c.make.new.1.1.1.1.0 c.make.new.1.1.1.1.1.0 c.make.new.1.1.1.1.1.1.0 c.make.new.1.1.1.1.1.1.1.0) c.make.new.1.1.1.1.1.1.1.1.1.1.1.1.1.1.1.1.1.0 c.make.new.1.1.1.1.1.1.1.1.1.1.1.1.1.1.1.1.1.1.0 c.make.new.1.1.1.1.1.1.1.1.1.1.1.1.1.1.1.1.1.1.1.0 c.make.new.1.1.1.1.1.1.1.1.1.1.1.1.1.1.1.1.1.1.1.1.0 c.make.result) c.make.ensures
+returns c = fit-made c.args.drawn (cutting_of c.args.drawn c.args.seen.now c.args.cut.now c.args.marks.now c.args.pieces.now c.args.lines.now c.args.centers.now) c.args.anchored.now c.args.past.now (tables_of c.args.lanes.now c.args.boundaries.now c.args.roads.now c.args.junctions.now c.args.rules.now c.args.stop_lines.now c.args.crosswalks.now c.args.coordinates.now) c.fits2.result c.fits2.ensures (on c.fits2.result c.if-not-fits.false) c.args.created.now c.args.modified.now c.args.deleted.now c.args.warnings.now (left (tables_of c.make.new.lanes c.make.new.boundaries c.make.new.roads c.make.new.junctions c.make.new.rules c.make.new.stop_lines c.make.new.crosswalks c.make.new.coordinates) c.make.new.created c.make.new.modified c.make.new.deleted c.make.new.warnings.0 c.make.result) c.make.ensures

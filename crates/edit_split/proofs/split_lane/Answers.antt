@@ -27,7 +27,7 @@ place_cut-placed-requires c = let s = c.before.before.before.before.before.befor
 
 -- src/lib.rt:557:30
 pub split_group-requires : goal.split_group-requires
-split_group-requires c = let s = c.before.before.before.before.before.before.before.before.before.before.before.before.before.before.before.before.before.before.before.before.before.before.before.before.before.before.before.before.before.before.before.before.before.before.before.before.before in may-group s.args.tolerance (lent_of s.args.counter s.args.lanes.now s.args.boundaries.now s.args.roads.now s.args.junctions.now s.args.rules.now s.args.stop_lines.now s.args.crosswalks.now s.args.coordinates.now s.args.created.now s.args.modified.now s.args.deleted.now s.args.warnings.now) s.requires s.args.lane s.args.at s.args.neighbors c.in-At.i (found s.args.lanes.now s.args.lane c.in-At.i c.lane-found.result c.lane-found.ensures c.in-At.is) c.place_cut-placed.result c.place_cut-placed.ensures (omega (arith, s.well-formed.0.1)) c.in-At-placed.place c.in-At-placed.is
+split_group-requires c = let s = c.before.before.before.before.before.before.before.before.before.before.before.before.before.before.before.before.before.before.before.before.before.before.before.before.before.before.before.before.before.before.before.before.before.before.before.before.before in may-group s.args.tolerance (lent_of s.args.counter s.args.lanes.now s.args.boundaries.now s.args.roads.now s.args.junctions.now s.args.rules.now s.args.stop_lines.now s.args.crosswalks.now s.args.coordinates.now s.args.created.now s.args.modified.now s.args.deleted.now s.args.warnings.now) s.requires s.args.lane s.args.at s.args.neighbors c.in-At.i (found s.args.lanes.now s.args.lane c.in-At.i c.lane-found.result c.lane-found.ensures c.in-At.is) c.place_cut-placed.result c.place_cut-placed.ensures (omega (arith, s.well_formed.0.1)) c.in-At-placed.place c.in-At-placed.is
 
 -- src/lib.rt:528:1
 pub shape_of-lanes-in-Refused : goal.shape_of-lanes-in-Refused
@@ -95,4 +95,4 @@ shape_of-warnings c = c.split_group.auto.1.1.1.1.1.1.1.1.1.1.1.1.1.1.1.1.1.0
 
 -- src/lib.rt:528:1
 pub returns-in-At-placed : goal.returns-in-At-placed
-returns-in-At-placed c = let s = c.before.before.before.before.before.before.before.before.before.before.before.before.before.before.before.before.before.before.before.before.before.before.before.before.before.before.before.before.before.before.before.before.before.before.before.before.before.before.before.before.before.before.before.before.before.before.before.before.before.before.before.before.before.before.before.before.before.before.before.before.before.before in split_done s.args.tolerance (lent_of s.args.counter s.args.lanes.now s.args.boundaries.now s.args.roads.now s.args.junctions.now s.args.rules.now s.args.stop_lines.now s.args.crosswalks.now s.args.coordinates.now s.args.created.now s.args.modified.now s.args.deleted.now s.args.warnings.now) s.requires s.args.lane s.args.at s.args.neighbors c.in-At.i (found s.args.lanes.now s.args.lane c.in-At.i c.lane-found.result c.lane-found.ensures c.in-At.is) c.place_cut-placed.result c.place_cut-placed.ensures (omega (arith, s.well-formed.0.1)) c.in-At-placed.place c.in-At-placed.is (ended (lent_of (counter_behind s.args.counter c.split_group.result) c.split_group.new.1.1.0 c.split_group.new.1.1.1.0 c.split_group.new.1.1.1.1.0 c.split_group.new.1.1.1.1.1.0 c.split_group.new.1.1.1.1.1.1.0 c.split_group.new.1.1.1.1.1.1.1.0 c.split_group.new.1.1.1.1.1.1.1.1.0 c.split_group.new.1.1.1.1.1.1.1.1.1.0 c.split_group.new.1.1.1.1.1.1.1.1.1.1.1.1.1.1.0 c.split_group.new.1.1.1.1.1.1.1.1.1.1.1.1.1.1.1.0 c.split_group.new.1.1.1.1.1.1.1.1.1.1.1.1.1.1.1.1.0 c.split_group.new.1.1.1.1.1.1.1.1.1.1.1.1.1.1.1.1.1.0) c.split_group.result) c.split_group.ensures
+returns-in-At-placed c = let s = c.before.before.before.before.before.before.before.before.before.before.before.before.before.before.before.before.before.before.before.before.before.before.before.before.before.before.before.before.before.before.before.before.before.before.before.before.before.before.before.before.before.before.before.before.before.before.before.before.before.before.before.before.before.before.before.before.before.before.before.before.before.before in split_done s.args.tolerance (lent_of s.args.counter s.args.lanes.now s.args.boundaries.now s.args.roads.now s.args.junctions.now s.args.rules.now s.args.stop_lines.now s.args.crosswalks.now s.args.coordinates.now s.args.created.now s.args.modified.now s.args.deleted.now s.args.warnings.now) s.requires s.args.lane s.args.at s.args.neighbors c.in-At.i (found s.args.lanes.now s.args.lane c.in-At.i c.lane-found.result c.lane-found.ensures c.in-At.is) c.place_cut-placed.result c.place_cut-placed.ensures (omega (arith, s.well_formed.0.1)) c.in-At-placed.place c.in-At-placed.is (ended (lent_of (counter_behind s.args.counter c.split_group.result) c.split_group.new.lanes c.split_group.new.boundaries c.split_group.new.roads c.split_group.new.junctions c.split_group.new.rules c.split_group.new.stop_lines c.split_group.new.crosswalks c.split_group.new.coordinates c.split_group.new.created c.split_group.new.modified c.split_group.new.deleted c.split_group.new.warnings.0) c.split_group.result) c.split_group.ensures

@@ -10,7 +10,7 @@ mark_rules-requires c = c.requires.marking
 
 -- src/lib.rt:160:5
 pub split_anchored-requires : goal.split_anchored-requires
-split_anchored-requires c = anchors-ask c.args.join c.args.stations.now c.args.drawn (cutting_of c.args.drawn c.args.seen.now c.args.cut.now c.args.marks.now c.args.pieces.now c.args.lines.now c.args.centers.now) (tables_of c.args.lanes.now c.args.boundaries.now c.args.roads.now c.args.junctions.now c.args.rules.now c.args.stop_lines.now c.args.crosswalks.now c.args.coordinates.now) c.mark_rules.new.1.1.1.1.1.1.1.1.1.1.0 c.mark_rules.new.1.1.1.1.1.1.1.1.1.1.1.0 c.mark_rules.ensures c.requires
+split_anchored-requires c = anchors-ask c.args.join c.args.stations.now c.args.drawn (cutting_of c.args.drawn c.args.seen.now c.args.cut.now c.args.marks.now c.args.pieces.now c.args.lines.now c.args.centers.now) (tables_of c.args.lanes.now c.args.boundaries.now c.args.roads.now c.args.junctions.now c.args.rules.now c.args.stop_lines.now c.args.crosswalks.now c.args.coordinates.now) c.mark_rules.new.anchored c.mark_rules.new.past.0 c.mark_rules.ensures c.requires
 
 -- src/lib.rt:118:1
 pub shape_of-lanes : goal.shape_of-lanes
@@ -62,4 +62,4 @@ shape_of-warnings c = c.split_anchored.auto.1.1.1.1.1.1.1.1.1.1.1.1.1.1.1.1.1.1.
 
 -- src/lib.rt:118:1
 pub returns : goal.returns
-returns c = anchors-made c.args.join c.args.stations.now c.args.drawn (cutting_of c.args.drawn c.args.seen.now c.args.cut.now c.args.marks.now c.args.pieces.now c.args.lines.now c.args.centers.now) (tables_of c.args.lanes.now c.args.boundaries.now c.args.roads.now c.args.junctions.now c.args.rules.now c.args.stop_lines.now c.args.crosswalks.now c.args.coordinates.now) c.mark_rules.new.1.1.1.1.1.1.1.1.1.1.0 c.mark_rules.new.1.1.1.1.1.1.1.1.1.1.1.0 c.mark_rules.ensures c.args.created.now c.args.modified.now c.args.deleted.now c.args.warnings.now (left (tables_of c.split_anchored.new.0 c.split_anchored.new.1.0 c.split_anchored.new.1.1.0 c.split_anchored.new.1.1.1.0 c.split_anchored.new.1.1.1.1.0 c.split_anchored.new.1.1.1.1.1.0 c.split_anchored.new.1.1.1.1.1.1.0 c.split_anchored.new.1.1.1.1.1.1.1.0) c.split_anchored.new.1.1.1.1.1.1.1.1.1.1.1.1.1.1.1.1.1.0 c.split_anchored.new.1.1.1.1.1.1.1.1.1.1.1.1.1.1.1.1.1.1.0 c.split_anchored.new.1.1.1.1.1.1.1.1.1.1.1.1.1.1.1.1.1.1.1.0 c.split_anchored.new.1.1.1.1.1.1.1.1.1.1.1.1.1.1.1.1.1.1.1.1.0 c.split_anchored.result) c.split_anchored.ensures
+returns c = anchors-made c.args.join c.args.stations.now c.args.drawn (cutting_of c.args.drawn c.args.seen.now c.args.cut.now c.args.marks.now c.args.pieces.now c.args.lines.now c.args.centers.now) (tables_of c.args.lanes.now c.args.boundaries.now c.args.roads.now c.args.junctions.now c.args.rules.now c.args.stop_lines.now c.args.crosswalks.now c.args.coordinates.now) c.mark_rules.new.anchored c.mark_rules.new.past.0 c.mark_rules.ensures c.args.created.now c.args.modified.now c.args.deleted.now c.args.warnings.now (left (tables_of c.split_anchored.new.lanes c.split_anchored.new.boundaries c.split_anchored.new.roads c.split_anchored.new.junctions c.split_anchored.new.rules c.split_anchored.new.stop_lines c.split_anchored.new.crosswalks c.split_anchored.new.coordinates) c.split_anchored.new.created c.split_anchored.new.modified c.split_anchored.new.deleted c.split_anchored.new.warnings.0 c.split_anchored.result) c.split_anchored.ensures

@@ -12,7 +12,7 @@ lines_reach-reach-requires c = reach-asks c.requires.plan
 
 -- src/lib.rt:134:5
 pub split_pieced-requires : goal.split_pieced-requires
-split_pieced-requires c = pieced c.requires c.next_id-first.result c.next_id-first.ensures c.list_pieces-many.new.1.1.1.1.1.0 c.list_pieces-many.result c.lines_reach-reach.result c.list_pieces-many.ensures c.lines_reach-reach.ensures
+split_pieced-requires c = pieced c.requires c.next_id-first.result c.next_id-first.ensures c.list_pieces-many.new.pieces.0 c.list_pieces-many.result c.lines_reach-reach.result c.list_pieces-many.ensures c.lines_reach-reach.ensures
 
 -- src/lib.rt:104:1
 pub shape_of-lanes : goal.shape_of-lanes

@@ -9,11 +9,11 @@ measure-end-requires c = measure-asks c.requires
 
 -- src/lib.rt:256:9
 pub decided-drawn-requires : goal.decided-drawn-requires
-decided-drawn-requires c = decided-asks c.requires c.measure-end.result c.measure-end.new.1.1.1.1.1.1.1.0 c.measure-end.new.1.1.1.1.1.1.1.1.0 c.measure-end.ensures
+decided-drawn-requires c = decided-asks c.requires c.measure-end.result c.measure-end.new.lines c.measure-end.new.centers.0 c.measure-end.ensures
 
 -- src/lib.rt:257:5
 pub split_measured-requires : goal.split_measured-requires
-split_measured-requires c = measured-asks c.requires c.measure-end.result c.measure-end.new.1.1.1.1.1.1.1.0 c.measure-end.new.1.1.1.1.1.1.1.1.0 c.measure-end.ensures c.decided-drawn.result c.decided-drawn.ensures
+split_measured-requires c = measured-asks c.requires c.measure-end.result c.measure-end.new.lines c.measure-end.new.centers.0 c.measure-end.ensures c.decided-drawn.result c.decided-drawn.ensures
 
 -- src/lib.rt:214:1
 pub shape_of-lanes : goal.shape_of-lanes
@@ -65,4 +65,4 @@ shape_of-warnings c = c.split_measured.auto.1.1.1.1.1.1.1.1.1.1.1.1.1.1.1.1.1.1.
 
 -- src/lib.rt:214:1
 pub returns : goal.returns
-returns c = pieces_end c.requires c.measure-end.result c.measure-end.new.1.1.1.1.1.1.1.0 c.measure-end.new.1.1.1.1.1.1.1.1.0 c.measure-end.ensures c.decided-drawn.result c.decided-drawn.ensures c.args.created.now c.args.modified.now c.args.deleted.now c.args.warnings.now (tables_of c.split_measured.new.1.0 c.split_measured.new.1.1.0 c.split_measured.new.1.1.1.0 c.split_measured.new.1.1.1.1.0 c.split_measured.new.1.1.1.1.1.0 c.split_measured.new.1.1.1.1.1.1.0 c.split_measured.new.1.1.1.1.1.1.1.0 c.split_measured.new.1.1.1.1.1.1.1.1.0) c.split_measured.new.1.1.1.1.1.1.1.1.1.1.1.1.1.1.1.1.1.0 c.split_measured.new.1.1.1.1.1.1.1.1.1.1.1.1.1.1.1.1.1.1.0 c.split_measured.new.1.1.1.1.1.1.1.1.1.1.1.1.1.1.1.1.1.1.1.0 c.split_measured.new.1.1.1.1.1.1.1.1.1.1.1.1.1.1.1.1.1.1.1.1.0 c.split_measured.result c.split_measured.ensures
+returns c = pieces_end c.requires c.measure-end.result c.measure-end.new.lines c.measure-end.new.centers.0 c.measure-end.ensures c.decided-drawn.result c.decided-drawn.ensures c.args.created.now c.args.modified.now c.args.deleted.now c.args.warnings.now (tables_of c.split_measured.new.lanes c.split_measured.new.boundaries c.split_measured.new.roads c.split_measured.new.junctions c.split_measured.new.rules c.split_measured.new.stop_lines c.split_measured.new.crosswalks c.split_measured.new.coordinates) c.split_measured.new.created c.split_measured.new.modified c.split_measured.new.deleted c.split_measured.new.warnings.0 c.split_measured.result c.split_measured.ensures

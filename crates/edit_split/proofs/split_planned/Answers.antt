@@ -12,7 +12,7 @@ mark_cut-requires c = mark-asks c.requires
 
 -- src/lib.rt:189:9
 pub count_ids-ids-requires : goal.count_ids-ids-requires
-count_ids-ids-requires c = count-asks c.requires c.mark_cut.new.1.1.1.0 c.mark_cut.auto.1.1.1.0
+count_ids-ids-requires c = count-asks c.requires c.mark_cut.new.marks.0 c.mark_cut.auto.1.1.1.0
 
 -- src/lib.rt:190:33
 pub overflow_add-ids : goal.overflow_add-ids
@@ -20,7 +20,7 @@ overflow_add-ids c = omega (arith, (cut_small c.requires).0, c.count_ids-ids.ens
 
 -- src/lib.rt:191:9
 pub returns-then-not-ids_left : goal.returns-then-not-ids_left
-returns-then-not-ids_left c = no-ids (lent_of c.args.counter c.args.lanes.now c.args.boundaries.now c.args.roads.now c.args.junctions.now c.args.rules.now c.args.stop_lines.now c.args.crosswalks.now c.args.coordinates.now c.args.created.now c.args.modified.now c.args.deleted.now c.args.warnings.now) c.requires c.mark_cut.new.1.1.1.0 c.mark_cut.ensures c.count_ids-ids.result c.count_ids-ids.ensures.0 (sym c.ids_are_left.ensures ∙ off c.ids_are_left.result c.if-not-ids_left.true)
+returns-then-not-ids_left c = no-ids (lent_of c.args.counter c.args.lanes.now c.args.boundaries.now c.args.roads.now c.args.junctions.now c.args.rules.now c.args.stop_lines.now c.args.crosswalks.now c.args.coordinates.now c.args.created.now c.args.modified.now c.args.deleted.now c.args.warnings.now) c.requires c.mark_cut.new.marks.0 c.mark_cut.ensures c.count_ids-ids.result c.count_ids-ids.ensures.0 (sym c.ids_are_left.ensures ∙ off c.ids_are_left.result c.if-not-ids_left.true)
 
 -- src/lib.rt:193:13
 pub bounds-lanes-0 : goal.bounds-lanes-0
@@ -48,11 +48,11 @@ rows_fit-requires c = (omega arith, boundaries-there c.requires)
 
 -- src/lib.rt:200:9
 pub returns-then-not-both : goal.returns-then-not-both
-returns-then-not-both c = no_rows (lent_of c.args.counter c.args.lanes.now c.args.boundaries.now c.args.roads.now c.args.junctions.now c.args.rules.now c.args.stop_lines.now c.args.crosswalks.now c.args.coordinates.now c.args.created.now c.args.modified.now c.args.deleted.now c.args.warnings.now) c.requires c.mark_cut.new.1.1.1.0 c.mark_cut.ensures c.count_ids-ids.result c.count_ids-ids.ensures.0 (sym c.ids_are_left.ensures ∙ on c.ids_are_left.result c.if-not-ids_left.false) (sym (both_told c.rows_fit-lanes_fit.result c.rows_fit.result _ _ c.both.result c.rows_fit-lanes_fit.ensures c.rows_fit.ensures c.both.ensures) ∙ off c.both.result c.if-not-both.true)
+returns-then-not-both c = no_rows (lent_of c.args.counter c.args.lanes.now c.args.boundaries.now c.args.roads.now c.args.junctions.now c.args.rules.now c.args.stop_lines.now c.args.crosswalks.now c.args.coordinates.now c.args.created.now c.args.modified.now c.args.deleted.now c.args.warnings.now) c.requires c.mark_cut.new.marks.0 c.mark_cut.ensures c.count_ids-ids.result c.count_ids-ids.ensures.0 (sym c.ids_are_left.ensures ∙ on c.ids_are_left.result c.if-not-ids_left.false) (sym (both_told c.rows_fit-lanes_fit.result c.rows_fit.result _ _ c.both.result c.rows_fit-lanes_fit.ensures c.rows_fit.ensures c.both.ensures) ∙ off c.both.result c.if-not-both.true)
 
 -- src/lib.rt:202:5
 pub split_numbered-requires : goal.split_numbered-requires
-split_numbered-requires c = numbered (lent_of c.args.counter c.args.lanes.now c.args.boundaries.now c.args.roads.now c.args.junctions.now c.args.rules.now c.args.stop_lines.now c.args.crosswalks.now c.args.coordinates.now c.args.created.now c.args.modified.now c.args.deleted.now c.args.warnings.now) c.requires c.mark_cut.new.1.1.1.0 c.mark_cut.ensures c.count_ids-ids.result c.count_ids-ids.ensures.0 (sym c.ids_are_left.ensures ∙ on c.ids_are_left.result c.if-not-ids_left.false) (sym (both_told c.rows_fit-lanes_fit.result c.rows_fit.result _ _ c.both.result c.rows_fit-lanes_fit.ensures c.rows_fit.ensures c.both.ensures) ∙ on c.both.result c.if-not-both.false)
+split_numbered-requires c = numbered (lent_of c.args.counter c.args.lanes.now c.args.boundaries.now c.args.roads.now c.args.junctions.now c.args.rules.now c.args.stop_lines.now c.args.crosswalks.now c.args.coordinates.now c.args.created.now c.args.modified.now c.args.deleted.now c.args.warnings.now) c.requires c.mark_cut.new.marks.0 c.mark_cut.ensures c.count_ids-ids.result c.count_ids-ids.ensures.0 (sym c.ids_are_left.ensures ∙ on c.ids_are_left.result c.if-not-ids_left.false) (sym (both_told c.rows_fit-lanes_fit.result c.rows_fit.result _ _ c.both.result c.rows_fit-lanes_fit.ensures c.rows_fit.ensures c.both.ensures) ∙ on c.both.result c.if-not-both.false)
 
 -- src/lib.rt:163:1
 pub shape_of-lanes : goal.shape_of-lanes

@@ -79,4 +79,4 @@ shape_of-warnings c = c.split_planned.auto.1.1.1.1.1.1.1.1.1.1.1.1.1.1.1.1.1.1.0
 
 -- src/lib.rt:411:1
 pub returns-in-All : goal.returns-in-All
-returns-in-All c = let s = c.before.before.before.before.before.before.before.before.before.before.before.before.before.before.before.before.before.before.before.before.before.before.before.before.before.before.before.before.before.before.before.before.before.before.before.before.before.before.before.before.before.before.before.before.before.before.before.before.before.before.before.before.before.before.before.before.before.before.before in crossed s.args.tolerance s.args.own s.args.point s.args.seen.now s.args.cut.now s.args.stations.now (lent_of s.args.counter s.args.lanes.now s.args.boundaries.now s.args.roads.now s.args.junctions.now s.args.rules.now s.args.stop_lines.now s.args.crosswalks.now s.args.coordinates.now s.args.created.now s.args.modified.now s.args.deleted.now s.args.warnings.now) c.cross_all-crossed.result c.cross_all-crossed.ensures c.in-All.is (ended (lent_of (counter_behind s.args.counter c.split_planned.result) c.split_planned.new.1.1.0 c.split_planned.new.1.1.1.0 c.split_planned.new.1.1.1.1.0 c.split_planned.new.1.1.1.1.1.0 c.split_planned.new.1.1.1.1.1.1.0 c.split_planned.new.1.1.1.1.1.1.1.0 c.split_planned.new.1.1.1.1.1.1.1.1.0 c.split_planned.new.1.1.1.1.1.1.1.1.1.0 c.split_planned.new.1.1.1.1.1.1.1.1.1.1.1.1.1.1.1.0 c.split_planned.new.1.1.1.1.1.1.1.1.1.1.1.1.1.1.1.1.0 c.split_planned.new.1.1.1.1.1.1.1.1.1.1.1.1.1.1.1.1.1.0 c.split_planned.new.1.1.1.1.1.1.1.1.1.1.1.1.1.1.1.1.1.1.0) c.split_planned.result) c.split_planned.ensures
+returns-in-All c = let s = c.before.before.before.before.before.before.before.before.before.before.before.before.before.before.before.before.before.before.before.before.before.before.before.before.before.before.before.before.before.before.before.before.before.before.before.before.before.before.before.before.before.before.before.before.before.before.before.before.before.before.before.before.before.before.before.before.before.before.before in crossed s.args.tolerance s.args.own s.args.point s.args.seen.now s.args.cut.now s.args.stations.now (lent_of s.args.counter s.args.lanes.now s.args.boundaries.now s.args.roads.now s.args.junctions.now s.args.rules.now s.args.stop_lines.now s.args.crosswalks.now s.args.coordinates.now s.args.created.now s.args.modified.now s.args.deleted.now s.args.warnings.now) c.cross_all-crossed.result c.cross_all-crossed.ensures c.in-All.is (ended (lent_of (counter_behind s.args.counter c.split_planned.result) c.split_planned.new.lanes c.split_planned.new.boundaries c.split_planned.new.roads c.split_planned.new.junctions c.split_planned.new.rules c.split_planned.new.stop_lines c.split_planned.new.crosswalks c.split_planned.new.coordinates c.split_planned.new.created c.split_planned.new.modified c.split_planned.new.deleted c.split_planned.new.warnings.0) c.split_planned.result) c.split_planned.ensures

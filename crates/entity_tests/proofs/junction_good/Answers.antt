@@ -11,9 +11,10 @@ use Rattle.row_tests.specs.Good.{junction_good}
 use Rattle.entity_tests.proofs.junction_good.Goals as goal
 use Rattle.entity_tests.proofs.junction_good.Lts as lts
 use Rattle.entity_tests.proofs.junction_good.Reads as reads
+use Rattle.entity_tests.proofs.junction_good.Tie as tie
 
 abbrev AtThenBoth : Type 0
-AtThenBoth = lts.Then1 reads.Pre reads.Post
+AtThenBoth = lts.Then1 tie.the-claims reads.Pre reads.Post
 
 -- a row that passed so far has at most 64 lanes
 few : (c : AtThenBoth) → get_or c.args.w.now 4 0 ≤ 64

@@ -14,15 +14,16 @@ use Rattle.row_tests.proofs.Formed.{lane-before, lane-after}
 use Rattle.entity_tests.proofs.lane_good.Goals as goal
 use Rattle.entity_tests.proofs.lane_good.Lts as lts
 use Rattle.entity_tests.proofs.lane_good.Reads as reads
+use Rattle.entity_tests.proofs.lane_good.Tie as tie
 
 abbrev AtAfterBoth : Type 0
-AtAfterBoth = lts.After-both reads.Pre reads.Post
+AtAfterBoth = lts.After-both tie.the-claims reads.Pre reads.Post
 
 abbrev AtThenBoth : Type 0
-AtThenBoth = lts.Then1 reads.Pre reads.Post
+AtThenBoth = lts.Then1 tie.the-claims reads.Pre reads.Post
 
 abbrev AtAfterBothThenBoth : Type 0
-AtAfterBothThenBoth = lts.After-both2 reads.Pre reads.Post
+AtAfterBothThenBoth = lts.After-both2 tie.the-claims reads.Pre reads.Post
 
 -- the tests of the row's form and numbers, and of both lists of links
 numbers : (c : AtAfterBoth) → (lane_formed c.args.w.now && lane_numbers c.args.most c.args.w.now) ≡ c.both.result
@@ -45,6 +46,12 @@ overflow_add-before c = omega (arith, lane-before c.args.w.now (formed c.before.
 
 pub overflow_add-after : goal.overflow_add-after
 overflow_add-after c = omega (arith, lane-after c.args.w.now (formed c.before.before.before))
+
+pub slice_bounds-links_good-end : goal.slice_bounds-links_good-end
+slice_bounds-links_good-end c = omega (arith, lane-before c.args.w.now (formed c.before.before.before))
+
+pub slice_bounds-links_good-end-then-both : goal.slice_bounds-links_good-end-then-both
+slice_bounds-links_good-end-then-both c = omega (arith, lane-after c.args.w.now (formed c.before.before.before.before.before))
 
 pub returns-then-w-eq0 : goal.returns-then-w-eq0
 unfolding lane_good

@@ -11,9 +11,10 @@ use Rattle.row_tests.proofs.Formed.{rule-lanes, rule-crosswalks, rule-stops, rul
 use Rattle.entity_tests.proofs.rule_lists.Goals as goal
 use Rattle.entity_tests.proofs.rule_lists.Lts as lts
 use Rattle.entity_tests.proofs.rule_lists.Reads as reads
+use Rattle.entity_tests.proofs.rule_lists.Tie as tie
 
 abbrev AtAfterBoth : Type 0
-AtAfterBoth = lts.After-both reads.Pre reads.Post
+AtAfterBoth = lts.After-both tie.the-claims reads.Pre reads.Post
 
 -- the lists that every kind has
 own : (c : AtAfterBoth) → (lanes_good c.args.once c.args.most (ids_at 5 c.args.w.now) && ids_good c.args.most (ids_at 70 c.args.w.now)) ≡ c.both.result

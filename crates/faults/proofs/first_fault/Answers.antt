@@ -31,7 +31,7 @@ pub points_fault-points-requires : goal.points_fault-points-requires
 points_fault-points-requires c =
     let t = (tables_of c.args.lanes.now c.args.boundaries.now c.args.roads.now c.args.junctions.now c.args.rules.now c.args.stop_lines.now c.args.crosswalks.now c.args.coordinates.now) in
     let k = c.args.counter in
-    let small : k ≤ last_counter = omega (arith, c.well-formed.0.1) in
+    let small : k ≤ last_counter = omega (arith, c.well_formed.0.1) in
     let w = words_of t c.shared_slice_known-1.given c.shared_slice_known-2-1.given c.shared_slice_known-3-1.given c.shared_slice_known-4-1.given c.shared_slice_known-5-1.given c.shared_slice_known-6-1.given c.shared_slice_known-7-1.given in
     may-take k t small w (none-counted t (ap (λ f. f.clause) (sym c.counts_fault-counts.ensures) ∙ c.if-counts-ne0.false)) (and-fst (all_good (largest_id k) t) (all_ascend t) (rows-found t (largest_id k) (ap (λ f. f.clause) (sym (rowed k t c.largest_id.result c.form_faults-rows.result c.largest_id.ensures c.form_faults-rows.ensures)) ∙ c.if-rows-ne0.false)))
 
@@ -39,7 +39,7 @@ pub back_fault-links-requires : goal.back_fault-links-requires
 back_fault-links-requires c =
     let t = (tables_of c.args.lanes.now c.args.boundaries.now c.args.roads.now c.args.junctions.now c.args.rules.now c.args.stop_lines.now c.args.crosswalks.now c.args.coordinates.now) in
     let k = c.args.counter in
-    let small : k ≤ last_counter = omega (arith, c.well-formed.0.1) in
+    let small : k ≤ last_counter = omega (arith, c.well_formed.0.1) in
     let w = words_of t c.shared_slice_known-1.given c.shared_slice_known-2-1.given c.shared_slice_known-3-1.given c.shared_slice_known-4-1.given c.shared_slice_known-5-1.given c.shared_slice_known-6-1.given c.shared_slice_known-7-1.given in
     may-search k t small w (none-counted t (ap (λ f. f.clause) (sym c.counts_fault-counts.ensures) ∙ c.if-counts-ne0.false)) (rows-found t (largest_id k) (ap (λ f. f.clause) (sym (rowed k t c.largest_id.result c.form_faults-rows.result c.largest_id.ensures c.form_faults-rows.ensures)) ∙ c.if-rows-ne0.false))
 
@@ -47,7 +47,7 @@ pub back_fault-requires : goal.back_fault-requires
 back_fault-requires c =
     let t = (tables_of c.args.lanes.now c.args.boundaries.now c.args.roads.now c.args.junctions.now c.args.rules.now c.args.stop_lines.now c.args.crosswalks.now c.args.coordinates.now) in
     let k = c.args.counter in
-    let small : k ≤ last_counter = omega (arith, c.well-formed.0.1) in
+    let small : k ≤ last_counter = omega (arith, c.well_formed.0.1) in
     let w = words_of t c.shared_slice_known-1.given c.shared_slice_known-2-1.given c.shared_slice_known-3-1.given c.shared_slice_known-4-1.given c.shared_slice_known-5-1.given c.shared_slice_known-6-1.given c.shared_slice_known-7-1.given in
     may-search k t small w (none-counted t (ap (λ f. f.clause) (sym c.counts_fault-counts.ensures) ∙ c.if-counts-ne0.false)) (rows-found t (largest_id k) (ap (λ f. f.clause) (sym (rowed k t c.largest_id.result c.form_faults-rows.result c.largest_id.ensures c.form_faults-rows.ensures)) ∙ c.if-rows-ne0.false))
 

@@ -27,7 +27,7 @@ pub loop-r-smaller : goal.loop-r-smaller
 loop-r-smaller c = omega (arith, c.loop-r-test.true)
 
 pub loop-r-preserved : goal.loop-r-preserved
-loop-r-preserved c = followed-turn c.args.anchored c.args.past.now c.args.next c.args.cut.now c.args.row.now c.requires.1 c.loop-r.row c.loop-r.r c.loop-r.invariant c.loop-r-test.true c.follow.new.0 c.follow.ensures
+loop-r-preserved c = followed-turn c.args.anchored c.args.past.now c.args.next c.args.cut.now c.args.row.now c.requires.1 c.loop-r.row c.loop-r.r c.loop-r.invariant c.loop-r-test.true c.follow.new.row c.follow.ensures
 
 pub shape_of-row : goal.shape_of-row
 shape_of-row c = c.loop-r.invariant.long

@@ -11,14 +11,14 @@ follow_all-requires c = follow-all-may c.args.anchored c.args.past.now c.args.ne
 
 pub returns-then-kind-ne-RIGHT_OF_WAY : goal.returns-then-kind-ne-RIGHT_OF_WAY
 returns-then-kind-ne-RIGHT_OF_WAY c =
-    rule-changed-lanes c.args.row.now (c.requires.1.0, rule-formed c.args.anchored c.args.past.now c.args.next c.args.cut.now c.args.row.now c.requires.1.1.1) (followed_all c.args.anchored c.args.past.now c.args.next c.args.cut.now) (insert_after (numbered c.args.next c.args.cut.now)) (rule-room c.args.anchored c.args.past.now c.args.next c.args.cut.now c.args.row.now c.requires.1.1.1) c.follow_all.new.0 c.follow_all.ensures c.if-kind-ne-RIGHT_OF_WAY.true
+    rule-changed-lanes c.args.row.now (c.requires.1.0, rule-formed c.args.anchored c.args.past.now c.args.next c.args.cut.now c.args.row.now c.requires.1.1.1) (followed_all c.args.anchored c.args.past.now c.args.next c.args.cut.now) (insert_after (numbered c.args.next c.args.cut.now)) (rule-room c.args.anchored c.args.past.now c.args.next c.args.cut.now c.args.row.now c.requires.1.1.1) c.follow_all.new.row c.follow_all.ensures c.if-kind-ne-RIGHT_OF_WAY.true
 
 pub grow_list-requires : goal.grow_list-requires
-grow_list-requires c = priority-may c.args.anchored c.args.past.now c.args.next c.args.cut.now c.args.row.now c.requires.1.1.1 c.requires.0 c.requires.1.0 c.follow_all.new.0 c.follow_all.ensures c.if-kind-ne-RIGHT_OF_WAY.false
+grow_list-requires c = priority-may c.args.anchored c.args.past.now c.args.next c.args.cut.now c.args.row.now c.requires.1.1.1 c.requires.0 c.requires.1.0 c.follow_all.new.row c.follow_all.ensures c.if-kind-ne-RIGHT_OF_WAY.false
 
 pub grow_list-requires-2 : goal.grow_list-requires-2
-grow_list-requires-2 c = yielding-may c.args.anchored c.args.past.now c.args.next c.args.cut.now c.args.row.now c.requires.1.1.1 c.requires.0 c.requires.1.0 c.follow_all.new.0 c.follow_all.ensures c.if-kind-ne-RIGHT_OF_WAY.false c.grow_list.new.0 c.grow_list.ensures
+grow_list-requires-2 c = yielding-may c.args.anchored c.args.past.now c.args.next c.args.cut.now c.args.row.now c.requires.1.1.1 c.requires.0 c.requires.1.0 c.follow_all.new.row c.follow_all.ensures c.if-kind-ne-RIGHT_OF_WAY.false c.grow_list.new.row c.grow_list.ensures
 
 pub returns : goal.returns
 returns c =
-    rule-changed c.args.row.now (c.requires.1.0, rule-formed c.args.anchored c.args.past.now c.args.next c.args.cut.now c.args.row.now c.requires.1.1.1) (followed_all c.args.anchored c.args.past.now c.args.next c.args.cut.now) (insert_after (numbered c.args.next c.args.cut.now)) (rule-room c.args.anchored c.args.past.now c.args.next c.args.cut.now c.args.row.now c.requires.1.1.1) c.follow_all.new.0 c.follow_all.ensures c.if-kind-ne-RIGHT_OF_WAY.false c.grow_list.new.0 c.grow_list.ensures c.grow_list-2.new.0 c.grow_list-2.ensures
+    rule-changed c.args.row.now (c.requires.1.0, rule-formed c.args.anchored c.args.past.now c.args.next c.args.cut.now c.args.row.now c.requires.1.1.1) (followed_all c.args.anchored c.args.past.now c.args.next c.args.cut.now) (insert_after (numbered c.args.next c.args.cut.now)) (rule-room c.args.anchored c.args.past.now c.args.next c.args.cut.now c.args.row.now c.requires.1.1.1) c.follow_all.new.row c.follow_all.ensures c.if-kind-ne-RIGHT_OF_WAY.false c.grow_list.new.row c.grow_list.ensures c.grow_list-2.new.row c.grow_list-2.ensures

@@ -58,7 +58,7 @@ loop-i-preserved c =
     let l = c.loop-i in
     let f = c.follow_rule in
     let r = rules-room c.args.anchored.now c.args.past.now c.args.next c.args.cut.now c.args.t.now c.requires c.loop-i.i c.loop-i-test.true in
-    turned_turn 330 (map_numbered 330 (λ j w. rule_follows (get_or c.args.anchored.now j false) (marks_of c.args.past.now j) c.args.next c.args.cut.now w)) c.args.t.now c.loop-i.t c.loop-i.i c.loop-i.invariant (λ j w. rule_follows (get_or c.args.anchored.now j false) (marks_of c.args.past.now j) c.args.next c.args.cut.now w) (λ n w. refl) c.loop-i-test.true (omega (arith, l.invariant.long)) f.new.0 f.auto.0 (f.ensures ∙ ap (λ m. rule_follows (get_or c.args.anchored.now l.i false) m c.args.next c.args.cut.now (row_of 330 l.t l.i)) (marks-lent c.args.past.now l.i))
+    turned_turn 330 (map_numbered 330 (λ j w. rule_follows (get_or c.args.anchored.now j false) (marks_of c.args.past.now j) c.args.next c.args.cut.now w)) c.args.t.now c.loop-i.t c.loop-i.i c.loop-i.invariant (λ j w. rule_follows (get_or c.args.anchored.now j false) (marks_of c.args.past.now j) c.args.next c.args.cut.now w) (λ n w. refl) c.loop-i-test.true (omega (arith, l.invariant.long)) f.new.row f.auto.0 (f.ensures ∙ ap (λ m. rule_follows (get_or c.args.anchored.now l.i false) m c.args.next c.args.cut.now (row_of 330 l.t l.i)) (marks-lent c.args.past.now l.i))
 
 pub shape_of-t : goal.shape_of-t
 shape_of-t c = c.loop-i.invariant.long

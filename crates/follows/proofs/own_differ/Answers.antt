@@ -69,7 +69,7 @@ loop-r-preserved c =
     let on = any-on (λ i. has i (ids_at 5 a.row.now) && cond a.anchored (get_or a.past.now (first_place i (ids_at 5 a.row.now)) false) true) a.cut.now l.r 0 c.loop-r-test.true in (
       omega arith,
       l.invariant.1 ∙ on (⊎_elim
-          (λ s. differs-by a.anchored a.past.now a.row.now c.requires (get_or a.cut.now l.r 0) f.result f.ensures s.if-p-n.true false s.1.left s.3.left)
+          (λ s. differs-by a.anchored a.past.now a.row.now c.requires (get_or a.cut.now l.r 0) f.result f.ensures s.if-p-n.true false s.if-not-anchored.false s.if-past-p.false)
           (λ s. differs-not a.anchored a.past.now a.row.now c.requires (get_or a.cut.now l.r 0) f.result f.ensures s.if-p-n.false)
           c.if-p-n.branch-raw),
     )

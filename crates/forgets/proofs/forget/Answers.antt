@@ -10,9 +10,10 @@ use Rattle.mentions.proofs.Whole.{Changed, changed-none, changed-length, changed
 use Rattle.forgets.proofs.forget.Goals as goal
 use Rattle.forgets.proofs.forget.Lts as lts
 use Rattle.forgets.proofs.forget.Reads as reads
+use Rattle.forgets.proofs.forget.Tie as tie
 
 abbrev AtInLoopI : Type 0
-AtInLoopI = lts.In-loop reads.Pre reads.Post goal.the-invariant-loop-i goal.the-decreases-loop-i
+AtInLoopI = lts.In-loop tie.the-claims reads.Pre reads.Post goal.the-invariant-loop-i goal.the-decreases-loop-i
 
 -- row i lies within the table, as it was and as it is
 room : (c : AtInLoopI) → 1 + c.loop-i.i * c.row_words-s.result + c.row_words-s.result ≤ length c.args.t.now
@@ -35,16 +36,16 @@ pub loop-i-init : goal.loop-i-init
 loop-i-init c = changed-none c.args.rows (forgets c.args.rows c.args.id) (forgets-length c.args.rows c.args.id) c.args.t.now c.requires
 
 pub overflow_mul-at : goal.overflow_mul-at
-overflow_mul-at c = omega (arith, room c.before)
+overflow_mul-at c = omega (arith, room c)
 
 pub overflow_add-at : goal.overflow_add-at
-overflow_add-at c = omega (arith, room c.before)
+overflow_add-at c = omega (arith, room c)
 
 pub overflow_add-end : goal.overflow_add-end
-overflow_add-end c = omega (arith, room c.before)
+overflow_add-end c = omega (arith, room c)
 
 pub offset_bounds-t-at : goal.offset_bounds-t-at
-offset_bounds-t-at c = omega (arith, room c.before)
+offset_bounds-t-at c = omega (arith, room c)
 
 pub slice_bounds-forget_row-count : goal.slice_bounds-forget_row-count
 slice_bounds-forget_row-count c = omega arith
@@ -68,7 +69,7 @@ loop-i-preserved c =
     let l = c.loop-i in
     let s = c.row_words-s in
     let f = c.forget_row in
-    changed-turn a.rows (forgets a.rows a.id) (forgets-length a.rows a.id) a.t.now c.requires l.t l.i l.invariant s.result s.ensures c.loop-i-test.true f.new.0 f.ensures
+    changed-turn a.rows (forgets a.rows a.id) (forgets-length a.rows a.id) a.t.now c.requires l.t l.i l.invariant s.result s.ensures c.loop-i-test.true f.new.row f.ensures
 
 pub shape_of-t : goal.shape_of-t
 shape_of-t c =

@@ -7,7 +7,7 @@ pub forget-requires : goal.forget-requires
 forget-requires c = after-room c.args.row.now c.args.id c.requires
 
 pub forget-requires-2 : goal.forget-requires-2
-forget-requires-2 c = before-room c.args.row.now c.args.id c.requires c.forget.new.0 c.forget.ensures
+forget-requires-2 c = before-room c.args.row.now c.args.id c.requires c.forget.new.row c.forget.ensures
 
 pub returns : goal.returns
 returns c =
@@ -16,4 +16,4 @@ returns c =
     let u = c.forget-2 in
     let p = c.free in
     let r = c.free-2 in
-    lane_forgot a.row.now a.id c.requires v.new.0 v.ensures u.new.0 u.ensures p.new.0 p.ensures r.new.0 r.ensures
+    lane_forgot a.row.now a.id c.requires v.new.row v.ensures u.new.row u.ensures p.new.row p.ensures r.new.row r.ensures

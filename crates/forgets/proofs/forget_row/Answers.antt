@@ -20,16 +20,16 @@ pub forget_rule-requires-in-Orphans : goal.forget_rule-requires-in-Orphans
 forget_rule-requires-in-Orphans c = row-orphan c.args.rows c.args.row.now c.requires c.in-Orphans.is
 
 pub returns-in-Lanes : goal.returns-in-Lanes
-returns-in-Lanes c = forgets-lane c.args.rows c.args.row.now c.forget_lane.new.0 c.args.id c.in-Lanes.is c.forget_lane.ensures
+returns-in-Lanes c = forgets-lane c.args.rows c.args.row.now c.forget_lane.new.row c.args.id c.in-Lanes.is c.forget_lane.ensures
 
 pub returns-in-Roads : goal.returns-in-Roads
-returns-in-Roads c = forgets_road c.args.rows c.args.row.now c.forget.new.0 c.args.id c.in-Roads.is c.forget.ensures
+returns-in-Roads c = forgets_road c.args.rows c.args.row.now c.forget.new.row c.args.id c.in-Roads.is c.forget.ensures
 
 pub returns-in-Junctions : goal.returns-in-Junctions
-returns-in-Junctions c = forgets_junction c.args.rows c.args.row.now c.forget-in-Junctions.new.0 c.args.id c.in-Junctions.is c.forget-in-Junctions.ensures
+returns-in-Junctions c = forgets_junction c.args.rows c.args.row.now c.forget-in-Junctions.new.row c.args.id c.in-Junctions.is c.forget-in-Junctions.ensures
 
 pub returns-in-Rules : goal.returns-in-Rules
-returns-in-Rules c = forgets-rule c.args.rows c.args.row.now c.forget_rule.new.0 c.args.id c.in-Rules.is c.forget_rule.ensures
+returns-in-Rules c = forgets-rule c.args.rows c.args.row.now c.forget_rule.new.row c.args.id c.in-Rules.is c.forget_rule.ensures
 
 pub returns-in-Orphans : goal.returns-in-Orphans
-returns-in-Orphans c = forgets-orphan c.args.rows c.args.row.now c.forget_rule-in-Orphans.new.0 c.args.id c.in-Orphans.is c.forget_rule-in-Orphans.ensures
+returns-in-Orphans c = forgets-orphan c.args.rows c.args.row.now c.forget_rule-in-Orphans.new.row c.args.id c.in-Orphans.is c.forget_rule-in-Orphans.ensures

@@ -6,9 +6,10 @@ use Rattle.mentions.proofs.Going.{RuleFits, lanes-room, priority-room, yielding-
 use Rattle.forgets.proofs.forget_rule.Goals as goal
 use Rattle.forgets.proofs.forget_rule.Lts as lts
 use Rattle.forgets.proofs.forget_rule.Reads as reads
+use Rattle.forgets.proofs.forget_rule.Tie as tie
 
 abbrev AtStart : Type 0
-AtStart = lts.Start reads.Pre reads.Post
+AtStart = lts.Start tie.the-claims reads.Pre reads.Post
 
 fitting : (c : AtStart) → RuleFits (without c.args.id) (without c.args.id) c.args.row.now
 fitting c = rule_fits_lem c.args.row.now c.requires (without c.args.id) (without c.args.id) (length_without c.args.id) (length_without c.args.id)
@@ -18,29 +19,29 @@ forget-requires c = lanes-room c.args.row.now c.requires
 
 pub returns-then-kind-ne-RIGHT_OF_WAY : goal.returns-then-kind-ne-RIGHT_OF_WAY
 returns-then-kind-ne-RIGHT_OF_WAY c =
-    let s = c.before.before.before.before.before.before.before.before in
+    let s = c in
     let g = without s.args.id in
-    rule-changed-lanes s.args.row.now s.requires g g (fitting s) c.forget.new.0 c.forget.ensures c.if-kind-ne-RIGHT_OF_WAY.true
+    rule-changed-lanes s.args.row.now s.requires g g (fitting c.before.before.before.before.before.before.before.before) c.forget.new.row c.forget.ensures c.if-kind-ne-RIGHT_OF_WAY.true
 
 pub forget-requires-2 : goal.forget-requires-2
 forget-requires-2 c =
-    let s = c.before.before.before.before.before.before.before.before.before in
+    let s = c in
     let g = without s.args.id in
-    priority-room s.args.row.now s.requires g g (fitting s) c.forget.new.0 c.forget.ensures c.if-kind-ne-RIGHT_OF_WAY.false
+    priority-room s.args.row.now s.requires g g (fitting c.before.before.before.before.before.before.before.before) c.forget.new.row c.forget.ensures c.if-kind-ne-RIGHT_OF_WAY.false
 
 pub forget-requires-3 : goal.forget-requires-3
 forget-requires-3 c =
-    let s = c.before.before.before.before.before.before.before.before.before.before.before.before.before in
+    let s = c in
     let g = without s.args.id in
     let v = c.forget in
     let u = c.forget-2 in
-    yielding-room s.args.row.now s.requires g g (fitting s) v.new.0 v.ensures c.if-kind-ne-RIGHT_OF_WAY.false u.new.0 u.ensures
+    yielding-room s.args.row.now s.requires g g (fitting c.before.before.before.before.before.before.before.before.before.before.before.before) v.new.row v.ensures c.if-kind-ne-RIGHT_OF_WAY.false u.new.row u.ensures
 
 pub returns : goal.returns
 returns c =
-    let s = c.before.before.before.before.before.before.before.before.before.before.before.before.before.before.before.before in
+    let s = c in
     let g = without s.args.id in
     let v = c.forget in
     let u = c.forget-2 in
     let t = c.forget-3 in
-    rule-changed s.args.row.now s.requires g g (fitting s) v.new.0 v.ensures c.if-kind-ne-RIGHT_OF_WAY.false u.new.0 u.ensures t.new.0 t.ensures
+    rule-changed s.args.row.now s.requires g g (fitting c.before.before.before.before.before.before.before.before.before.before.before.before.before.before.before.before) v.new.row v.ensures c.if-kind-ne-RIGHT_OF_WAY.false u.new.row u.ensures t.new.row t.ensures

@@ -52,19 +52,19 @@ loop-j-smaller c = omega arith
 
 pub loop-j-preserved : goal.loop-j-preserved
 loop-j-preserved c =
-    let u = c.before.before.before.before.before.before in
+    let u = c in
     let t = c.loop-j in
     let i = t.invariant in
     let b = c.loop-j-test.true in
     let k = i.1.0 in
     ⊎_elim
     (λ s.
-    let one = choose_one u.args.lanes.now u.requires.0 u.args.seen.now u.args.out.now t.out t.j t.count b u.requires.1.0 u.requires.1.1 k i.1.1.1.0 i.1.1.1.1 s.0.taken in
-    let store = choose-store u.args.lanes.now u.requires.0 u.args.seen.now u.args.out.now t.out t.j t.count b u.requires.1.0 u.requires.1.1 k i.1.1.1.0 i.1.1.1.1 s.0.taken in
-    (omega arith, (omega arith, (ap length s.2 ∙ simp length-set i.1.1.0, (s.3 ∙ one, s.2 ∙ store)))))
+    let one = choose_one u.args.lanes.now u.requires.0 u.args.seen.now u.args.out.now t.out t.j t.count b u.requires.1.0 u.requires.1.1 k i.1.1.1.0 i.1.1.1.1 s.if-seen-j.true in
+    let store = choose-store u.args.lanes.now u.requires.0 u.args.seen.now u.args.out.now t.out t.j t.count b u.requires.1.0 u.requires.1.1 k i.1.1.1.0 i.1.1.1.1 s.if-seen-j.true in
+    (omega arith, (omega arith, (ap length s.out-is ∙ simp length-set i.1.1.0, (s.count-is ∙ one, s.out-is ∙ store)))))
     (λ s.
-    let none = choose-none u.args.lanes.now u.requires.0 u.args.seen.now u.args.out.now t.out t.j t.count b u.requires.1.0 u.requires.1.1 k i.1.1.1.0 i.1.1.1.1 s.0.left in
-    (omega arith, (omega arith, (ap length s.1 ∙ i.1.1.0, (s.2 ∙ i.1.1.1.0 ∙ ap length none, s.1 ∙ i.1.1.1.1 ∙ ap (over u.args.out.now 0) none)))))
+    let none = choose-none u.args.lanes.now u.requires.0 u.args.seen.now u.args.out.now t.out t.j t.count b u.requires.1.0 u.requires.1.1 k i.1.1.1.0 i.1.1.1.1 s.if-seen-j.false in
+    (omega arith, (omega arith, (ap length s.out-is ∙ i.1.1.0, (s.count-is ∙ i.1.1.1.0 ∙ ap length none, s.out-is ∙ i.1.1.1.1 ∙ ap (over u.args.out.now 0) none)))))
     c.if-seen-j.branch-raw
 
 pub shape_of-out : goal.shape_of-out
@@ -72,7 +72,7 @@ shape_of-out c = c.loop-j.invariant.1.1.0
 
 pub returns : goal.returns
 returns c =
-    let u = c.before.before.before.before in
+    let u = c in
     let t = c.loop-j in
     let ids = ids_of u.args.lanes.now in
     let h : length ids ≤ t.j = omega (arith, length-keys 52 (word 0 u.args.lanes.now) (drop 1 u.args.lanes.now)) in

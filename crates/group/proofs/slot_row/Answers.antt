@@ -8,9 +8,10 @@ use Rattle.group.proofs.Slots.{slot-empty, slot-search}
 use Rattle.group.proofs.slot_row.Goals as goal
 use Rattle.group.proofs.slot_row.Lts as lts
 use Rattle.group.proofs.slot_row.Reads as reads
+use Rattle.group.proofs.slot_row.Tie as tie
 
 abbrev AtStart : Type 0
-AtStart = lts.Start reads.Pre reads.Post
+AtStart = lts.Start tie.the-claims reads.Pre reads.Post
 
 -- the row lies in the table, and the slot in the row
 room : (c : AtStart) → 1 + c.args.j * 52 + 52 ≤ length c.args.lanes.now
@@ -36,8 +37,8 @@ bounds-lanes-at c = omega (arith, room c.before.before.before, slot c.before.bef
 
 pub returns-then-lanes-at-eq0 : goal.returns-then-lanes-at-eq0
 returns-then-lanes-at-eq0 c =
-    let s = c.before.before.before.before in
-    slot-empty s.args.lanes.now s.args.k s.args.j (slot s) c.if-lanes-at-eq0.true
+    let s = c in
+    slot-empty s.args.lanes.now s.args.k s.args.j (slot c.before.before.before.before) c.if-lanes-at-eq0.true
 
 pub bounds-lanes-0 : goal.bounds-lanes-0
 bounds-lanes-0 c = omega (arith, lanes-some c.args.lanes.now c.requires.0)
@@ -59,7 +60,7 @@ find_row-requires c = search-may c.args.lanes.now c.requires.0
 
 pub returns : goal.returns
 returns c =
-    let s = c.before.before.before.before.before.before.before.before in
+    let s = c in
     let t = s.args.lanes.now in
     let v = get_or t (1 + s.args.j * 52 + s.args.k + 1) 0 in
-    slot-search t s.args.k s.args.j (slot s) c.if-lanes-at-eq0.false c.find_row.result (search-gives t s.requires.0 v c.find_row.result c.find_row.ensures)
+    slot-search t s.args.k s.args.j (slot c.before.before.before.before.before.before.before.before) c.if-lanes-at-eq0.false c.find_row.result (search-gives t s.requires.0 v c.find_row.result c.find_row.ensures)

@@ -42,9 +42,9 @@ loop-i-preserved c =
     let h : t.i < length w = omega arith in
     let p = one_has (get_or w t.i 0) cut f.result f.ensures in
     ⊎_elim
-    (λ s. (omega arith, (omega arith, s.2 ∙ count-one (λ k. has k cut) w t.i t.count 0 h t.invariant.1.1 (p ∙ ap there s.1.given.1))))
-    (λ s. (omega arith, (omega arith, s.2 ∙ count_none (λ k. has k cut) w t.i t.count 0 h t.invariant.1.1 (p ∙ ap there s.1.given.1))))
-    c.in-At.branch
+    (λ s. (omega arith, (omega arith, s.count-is ∙ count-one (λ k. has k cut) w t.i t.count 0 h t.invariant.1.1 (p ∙ ap there s.in-At.is))))
+    (λ s. (omega arith, (omega arith, s.count-is ∙ count_none (λ k. has k cut) w t.i t.count 0 h t.invariant.1.1 (p ∙ ap there s.in_default.is))))
+    c.match-rank.branch-raw
 
 pub returns : goal.returns
 returns c =

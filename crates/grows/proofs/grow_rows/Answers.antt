@@ -45,7 +45,7 @@ loop-i-preserved c =
     let l = c.loop-i in
     let f = c.grow_list in
     let r = grows-room c.args.next c.args.cut.now c.args.s c.args.k c.args.t.now c.requires c.loop-i.i c.loop-i-test.true in
-    turned_turn c.args.s (λ j n w. map_rows c.args.s (grows_at c.args.next c.args.cut.now c.args.k) n w) c.args.t.now l.t l.i l.invariant (λ j w. grows_at c.args.next c.args.cut.now c.args.k w) (λ n w. refl) c.loop-i-test.true (omega (arith, l.invariant.long)) f.new.0 f.auto.0 f.ensures
+    turned_turn c.args.s (λ j n w. map_rows c.args.s (grows_at c.args.next c.args.cut.now c.args.k) n w) c.args.t.now l.t l.i l.invariant (λ j w. grows_at c.args.next c.args.cut.now c.args.k w) (λ n w. refl) c.loop-i-test.true (omega (arith, l.invariant.long)) f.new.row f.auto.0 f.ensures
 
 pub shape_of-t : goal.shape_of-t
 shape_of-t c = c.loop-i.invariant.long

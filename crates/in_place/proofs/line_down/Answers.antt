@@ -8,9 +8,10 @@ use Rattle.in_place.proofs.Moves.{lies-stored, down-none, down-drawn, down-stays
 use Rattle.in_place.proofs.line_down.Goals as goal
 use Rattle.in_place.proofs.line_down.Lts as lts
 use Rattle.in_place.proofs.line_down.Reads as reads
+use Rattle.in_place.proofs.line_down.Tie as tie
 
 abbrev AtStart : Type 0
-AtStart = lts.Start reads.Pre reads.Post
+AtStart = lts.Start tie.the-claims reads.Pre reads.Post
 
 abbrev line : AtStart → Span
 line s = record { start = s.args.start; size = s.args.size }
@@ -22,11 +23,11 @@ pub returns-then-reach-begin : goal.returns-then-reach-begin
 returns-then-reach-begin c = let a = c.args in sym (down-drawn a.reach a.at (line c.before.before.before.before) a.coordinates.now c.if-reach-begin.true)
 
 pub overflow_mul-size : goal.overflow_mul-size
-overflow_mul-size c = omega (arith, lies-stored c.args.reach 65536 (line c.before.before.before.before.before.before) c.requires.0 c.if-size-eq0.false c.if-reach-begin.false)
+overflow_mul-size c = omega (arith, lies-stored c.args.reach 65536 (line c.before.before.before.before.before) c.requires.0 c.if-size-eq0.false c.if-reach-begin.false)
 
 pub shift_down-requires : goal.shift_down-requires
 shift_down-requires c =
-    let l = lies-stored c.args.reach 65536 (line c.before.before.before.before.before.before) c.requires.0 c.if-size-eq0.false c.if-reach-begin.false in
+    let l = lies-stored c.args.reach 65536 (line c.before.before.before.before.before) c.requires.0 c.if-size-eq0.false c.if-reach-begin.false in
     (omega arith, omega arith)
 
 pub returns-then-at-begin : goal.returns-then-at-begin

@@ -10,9 +10,10 @@ use Rattle.in_place.proofs.Moves.{lies-drawn, up_none, up-drawn, up-stays, up-mo
 use Rattle.in_place.proofs.line_up.Goals as goal
 use Rattle.in_place.proofs.line_up.Lts as lts
 use Rattle.in_place.proofs.line_up.Reads as reads
+use Rattle.in_place.proofs.line_up.Tie as tie
 
 abbrev AtStart : Type 0
-AtStart = lts.Start reads.Pre reads.Post
+AtStart = lts.Start tie.the-claims reads.Pre reads.Post
 
 abbrev line : AtStart → Span
 line s = record { start = s.args.start; size = s.args.size }
@@ -22,13 +23,13 @@ returns-then-size-eq0 c = let a = c.args in sym (up_none a.reach a.at (line c.be
 
 pub overflow_mul-from : goal.overflow_mul-from
 overflow_mul-from c =
-    let s = c.before.before.before.before.before in
+    let s = c in
     let l = lies-drawn s.args.reach (length s.args.drawn.now / 3) (line s) s.requires.0 c.if-size-eq0.false in
     omega arith
 
 pub copy-requires : goal.copy-requires
 copy-requires c =
-    let s = c.before.before.before.before.before.before in
+    let s = c in
     let l = lies-drawn s.args.reach (length s.args.drawn.now / 3) (line s) s.requires.0 c.if-size-eq0.false in
     (omega arith, omega arith)
 

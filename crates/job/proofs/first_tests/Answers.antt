@@ -5,9 +5,10 @@ use Rattle.job.proofs.Ends.{many-refused, short-refused, unsound_refused, all-pa
 use Rattle.job.proofs.first_tests.Goals as goal
 use Rattle.job.proofs.first_tests.Lts as lts
 use Rattle.job.proofs.first_tests.Reads as reads
+use Rattle.job.proofs.first_tests.Tie as tie
 
 abbrev AtStart : Type 0
-AtStart = lts.Start reads.Pre reads.Post
+AtStart = lts.Start tie.the-claims reads.Pre reads.Post
 
 -- what is lent
 abbrev mapOf : AtStart → Tables

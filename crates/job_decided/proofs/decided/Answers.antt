@@ -7,9 +7,10 @@ use Rattle.job_decided.proofs.Decide.{done-sorted, ends-made, ends-refused, ends
 use Rattle.job_decided.proofs.decided.Goals as goal
 use Rattle.job_decided.proofs.decided.Lts as lts
 use Rattle.job_decided.proofs.decided.Reads as reads
+use Rattle.job_decided.proofs.decided.Tie as tie
 
 abbrev AtStart : Type 0
-AtStart = lts.Start reads.Pre reads.Post
+AtStart = lts.Start tie.the-claims reads.Pre reads.Post
 
 -- the tables at both ends, without coordinates
 abbrev mapOf : AtStart → Tables
@@ -35,7 +36,7 @@ pub shape_of-all_deleted-then-not-lists_fit : goal.shape_of-all_deleted-then-not
 shape_of-all_deleted-then-not-lists_fit c = c.net_lists-n.auto.1.1.1.1.1.1.1.1.1.1.1.1.1.1.1.1.1.0
 
 pub returns-then-not-lists_fit : goal.returns-then-not-lists_fit
-returns-then-not-lists_fit c = ends-short c.args.counter (mapOf c.before.before.before.before.before.before.before.before.before.before.before.before.before.before.before.before.before.before.before.before.before.before.before.before.before.before.before.before.before.before.before.before.before.before.before.before.before.before) (old_of c.before.before.before.before.before.before.before.before.before.before.before.before.before.before.before.before.before.before.before.before.before.before.before.before.before.before.before.before.before.before.before.before.before.before.before.before.before.before) c.args.marks.now c.args.all-created.now c.args.all-modified.now c.args.all-deleted.now c.args.created.now c.args.modified.now c.args.deleted.now c.args.warnings.now c.args.ran _ _ c.in-Done.is c.net_lists-n.result c.net_lists-n.new.1.1.1.1.1.1.1.1.1.1.1.1.1.1.1.0 c.net_lists-n.new.1.1.1.1.1.1.1.1.1.1.1.1.1.1.1.1.0 c.net_lists-n.new.1.1.1.1.1.1.1.1.1.1.1.1.1.1.1.1.1.0 c.net_lists-n.ensures (sym c.lists_fit.ensures ∙ not-true c.lists_fit.result c.if-not-lists_fit.true)
+returns-then-not-lists_fit c = ends-short c.args.counter (mapOf c.before.before.before.before.before.before.before.before.before.before.before.before.before.before.before.before.before.before.before.before.before.before.before.before.before.before.before.before.before.before.before.before.before.before.before.before.before.before) (old_of c.before.before.before.before.before.before.before.before.before.before.before.before.before.before.before.before.before.before.before.before.before.before.before.before.before.before.before.before.before.before.before.before.before.before.before.before.before.before) c.args.marks.now c.args.all-created.now c.args.all-modified.now c.args.all-deleted.now c.args.created.now c.args.modified.now c.args.deleted.now c.args.warnings.now c.args.ran _ _ c.in-Done.is c.net_lists-n.result c.net_lists-n.new.all_created c.net_lists-n.new.all_modified c.net_lists-n.new.all_deleted c.net_lists-n.ensures (sym c.lists_fit.ensures ∙ not-true c.lists_fit.result c.if-not-lists_fit.true)
 
 pub returns-in-Stopped : goal.returns-in-Stopped
 returns-in-Stopped c = ends-refused c.args.counter (mapOf c.before.before.before.before.before.before.before.before.before.before.before.before.before.before.before.before.before.before.before.before.before.before.before.before.before.before) (old_of c.before.before.before.before.before.before.before.before.before.before.before.before.before.before.before.before.before.before.before.before.before.before.before.before.before.before) c.args.marks.now c.args.all-created.now c.args.all-modified.now c.args.all-deleted.now c.args.created.now c.args.modified.now c.args.deleted.now c.args.warnings.now c.args.ran _ _ c.args.all-created.now c.args.all-modified.now c.args.all-deleted.now c.in-Stopped.is
@@ -50,4 +51,4 @@ pub shape_of-all_deleted : goal.shape_of-all_deleted
 shape_of-all_deleted c = c.net_lists-n.auto.1.1.1.1.1.1.1.1.1.1.1.1.1.1.1.1.1.0
 
 pub returns-else-not-lists_fit : goal.returns-else-not-lists_fit
-returns-else-not-lists_fit c = ends-made c.args.counter (mapOf c.before.before.before.before.before.before.before.before.before.before.before.before.before.before.before.before.before.before.before.before.before.before.before.before.before.before.before.before.before.before.before.before.before.before.before.before.before.before) (old_of c.before.before.before.before.before.before.before.before.before.before.before.before.before.before.before.before.before.before.before.before.before.before.before.before.before.before.before.before.before.before.before.before.before.before.before.before.before.before) c.args.marks.now c.args.all-created.now c.args.all-modified.now c.args.all-deleted.now c.args.created.now c.args.modified.now c.args.deleted.now c.args.warnings.now c.args.ran _ _ c.in-Done.is c.net_lists-n.result c.net_lists-n.new.1.1.1.1.1.1.1.1.1.1.1.1.1.1.1.0 c.net_lists-n.new.1.1.1.1.1.1.1.1.1.1.1.1.1.1.1.1.0 c.net_lists-n.new.1.1.1.1.1.1.1.1.1.1.1.1.1.1.1.1.1.0 c.net_lists-n.ensures (sym c.lists_fit.ensures ∙ not-false c.lists_fit.result c.if-not-lists_fit.false)
+returns-else-not-lists_fit c = ends-made c.args.counter (mapOf c.before.before.before.before.before.before.before.before.before.before.before.before.before.before.before.before.before.before.before.before.before.before.before.before.before.before.before.before.before.before.before.before.before.before.before.before.before.before) (old_of c.before.before.before.before.before.before.before.before.before.before.before.before.before.before.before.before.before.before.before.before.before.before.before.before.before.before.before.before.before.before.before.before.before.before.before.before.before.before) c.args.marks.now c.args.all-created.now c.args.all-modified.now c.args.all-deleted.now c.args.created.now c.args.modified.now c.args.deleted.now c.args.warnings.now c.args.ran _ _ c.in-Done.is c.net_lists-n.result c.net_lists-n.new.all_created c.net_lists-n.new.all_modified c.net_lists-n.new.all_deleted c.net_lists-n.ensures (sym c.lists_fit.ensures ∙ not-false c.lists_fit.result c.if-not-lists_fit.false)

@@ -8,9 +8,10 @@ use Rattle.job_marks.proofs.Turns.{Marking, marking_begins, marking-turns, marki
 use Rattle.job_marks.proofs.mark_all.Goals as goal
 use Rattle.job_marks.proofs.mark_all.Lts as lts
 use Rattle.job_marks.proofs.mark_all.Reads as reads
+use Rattle.job_marks.proofs.mark_all.Tie as tie
 
 abbrev AtStart : Type 0
-AtStart = lts.Start reads.Pre reads.Post goal.the-invariant-loop-i goal.the-decreases-loop-i
+AtStart = lts.Start tie.the-claims reads.Pre reads.Post goal.the-invariant-loop-i goal.the-decreases-loop-i
 
 -- the tables that are lent
 abbrev held : AtStart → Tables
@@ -51,15 +52,15 @@ loop-i-smaller c = omega (arith, c.loop-i-test.true)
 
 pub loop-i-preserved : goal.loop-i-preserved
 loop-i-preserved c =
-    let s = c.before.before.before.before.before.before.before.before.before.before.before.before.before.before.before.before.before.before in
+    let s = c in
     let l = c.loop-i in
-    marking-turns (held s) s.args.n s.args.modified.now s.args.marks.now l.marks l.i l.invariant c.loop-i-test.true c.mark_one.new.1.1.1.1.1.1.1.1.1.0 c.mark_one.ensures
+    marking-turns (held s) s.args.n s.args.modified.now s.args.marks.now l.marks l.i l.invariant c.loop-i-test.true c.mark_one.new.marks.0 c.mark_one.ensures
 
 pub shape_of-marks : goal.shape_of-marks
 shape_of-marks c = c.loop-i.invariant.many
 
 pub returns : goal.returns
 returns c =
-    let s = c.before.before.before.before.before.before.before.before.before.before.before.before in
+    let s = c in
     let l = c.loop-i in
     marking-ends (held s) s.args.n s.args.modified.now s.args.marks.now l.marks l.i l.invariant c.loop-i-test.false

@@ -11,9 +11,10 @@ use Rattle.job_marks.proofs.Turns.{mark-found, mark-nothing}
 use Rattle.job_marks.proofs.mark_row.Goals as goal
 use Rattle.job_marks.proofs.mark_row.Lts as lts
 use Rattle.job_marks.proofs.mark_row.Reads as reads
+use Rattle.job_marks.proofs.mark_row.Tie as tie
 
 abbrev AtInAt : Type 0
-AtInAt = lts.After-known_told reads.Pre reads.Post
+AtInAt = lts.After-known_told tie.the-claims reads.Pre reads.Post
 
 -- the row that was found, and that it is one of the rows
 place : (c : AtInAt) → place_of c.args.words c.args.table.now c.args.id ≡ At c.in-At.row

@@ -101,7 +101,7 @@ loop-i-preserved c =
     let l = c.loop-i in
     let found = walk-finds-id a.s p.0 a.table.now a.other.now p.1.0 p.1.1.0 (λ n. absent_in (table_ids a.s a.other.now) (take n (table_ids a.s a.table.now))) a.kind a.at a.out.now p.1.1.1 l.out l.i l.j l.k l.invariant c.loop-i-test.true c.skip-j.result c.skip-j.ensures c.stands_at-stands.result c.stands_at-stands.ensures in
     let more = absent_more (table_ids a.s a.other.now) (table_ids a.s a.table.now) l.i (omega (arith, c.loop-i-test.true, ids-many a.s p.0 a.table.now p.1.0)) (get_or a.table.now (1 + l.i * a.s) 0) (id-at a.s p.0 a.table.now p.1.0 l.i c.loop-i-test.true) c.stands_at-stands.result found in
-    walk-lists a.s p.0 a.table.now a.other.now p.1.0 p.1.1.0 (λ n. absent_in (table_ids a.s a.other.now) (take n (table_ids a.s a.table.now))) a.kind a.at a.out.now p.1.1.1 l.out l.i l.j l.k l.invariant c.loop-i-test.true c.skip-j.result c.skip-j.ensures (not c.stands_at-stands.result) more c.put_where-k.new.1.1.1.0 c.put_where-k.result c.put_where-k.ensures.0 c.put_where-k.ensures.1
+    walk-lists a.s p.0 a.table.now a.other.now p.1.0 p.1.1.0 (λ n. absent_in (table_ids a.s a.other.now) (take n (table_ids a.s a.table.now))) a.kind a.at a.out.now p.1.1.1 l.out l.i l.j l.k l.invariant c.loop-i-test.true c.skip-j.result c.skip-j.ensures (not c.stands_at-stands.result) more c.put_where-k.new.out c.put_where-k.result c.put_where-k.ensures.0 c.put_where-k.ensures.1
 
 pub shape_of-out : goal.shape_of-out
 shape_of-out c =

@@ -12,15 +12,16 @@ use Rattle.job_run.proofs.Running.{Running, running-begins, running-ends, runnin
 use Rattle.job_run.proofs.make_edits.Goals as goal
 use Rattle.job_run.proofs.make_edits.Lts as lts
 use Rattle.job_run.proofs.make_edits.Reads as reads
+use Rattle.job_run.proofs.make_edits.Tie as tie
 
 abbrev AtStart : Type 0
-AtStart = lts.Start reads.Pre reads.Post goal.the-invariant-loop-i goal.the-decreases-loop-i
+AtStart = lts.Start tie.the-claims reads.Pre reads.Post goal.the-invariant-loop-i goal.the-decreases-loop-i
 
 abbrev AtAtLoopI : Type 0
-AtAtLoopI = lts.At-loop reads.Pre reads.Post goal.the-invariant-loop-i goal.the-decreases-loop-i
+AtAtLoopI = lts.At-loop tie.the-claims reads.Pre reads.Post goal.the-invariant-loop-i goal.the-decreases-loop-i
 
 abbrev AtAfterMakeEditTurn : Type 0
-AtAfterMakeEditTurn = lts.After-make_edit reads.Pre reads.Post goal.the-invariant-loop-i goal.the-decreases-loop-i
+AtAfterMakeEditTurn = lts.After-make_edit tie.the-claims reads.Pre reads.Post goal.the-invariant-loop-i goal.the-decreases-loop-i
 
 abbrev Start : Type 0
 Start = AtStart
@@ -66,7 +67,7 @@ marks-same a = let s = start_of a in marks-long s.args.tolerance (old_of s) s.ar
 
 pub loop-i-init : goal.loop-i-init
 loop-i-init c =
-    let s = c.before.before.before.before.before.before.before.before.before.before.before.before.before.before.before.before.before.before.before.before.before in
+    let s = c in
     (running-begins s.args.tolerance (old_of s) s.args.t11 (held_of s) s.args.marks.now s.args.rows s.args.warnings.now s.requires.0, (refl, (refl, refl)))
 
 pub offset_bounds-job-i : goal.offset_bounds-job-i
@@ -77,8 +78,8 @@ bounds-job-i c = omega (arith, c.loop-i-test.true, c.requires.1.0)
 
 pub make_edit-turn-requires : goal.make_edit-turn-requires
 make_edit-turn-requires c =
-    let s = c.before.before.before.before.before.before.before.before.before.before.before.before.before.before.before.before.before.before.before.before.before.before.before.before.before.before.before.before.before.before.before.before.before.before.before.before.before.before in
-    let a = c.before.before.before.before.before.before.before.before.before.before.before.before.before.before.before.before.before in
+    let s = c in
+    let a = c in
     (a.loop-i.invariant.0.along.sane, (s.requires.1.1.0, (marks-long s.args.tolerance (old_of s) s.args.t11 (held_of s) s.args.marks.now s.args.rows s.args.warnings.now (held_at a) a.loop-i.marks a.loop-i.warnings a.loop-i.told a.loop-i.i a.loop-i.invariant.0 ∙ s.requires.1.1.1.0, (running-room s.args.tolerance (old_of s) s.args.t11 (held_of s) s.args.marks.now s.args.rows s.args.warnings.now (held_at a) a.loop-i.marks a.loop-i.warnings a.loop-i.told a.loop-i.i a.loop-i.invariant.0 (listed s) c.loop-i-test.true s.requires.1.1.1.1.0 c.row_for-at.result c.row_for-at.ensures, (a.loop-i.invariant.1.0 ∙ s.requires.1.1.1.1.1.0, (a.loop-i.invariant.1.1.0 ∙ s.requires.1.1.1.1.1.1.0, a.loop-i.invariant.1.1.1 ∙ s.requires.1.1.1.1.1.1.1))))))
 
 pub overflow_add-result : goal.overflow_add-result
@@ -125,17 +126,17 @@ shape_of-marks-in-Stopped c = c.make_edit-turn.auto.1.1.1.1.1.1.1.1.1.1.1.1.1.1.
 
 pub returns-in-Stopped : goal.returns-in-Stopped
 returns-in-Stopped c =
-    let s = c.before.before.before.before.before.before.before.before.before.before.before.before.before.before.before.before.before.before.before.before.before.before.before.before.before.before.before.before.before.before.before.before.before.before.before.before.before.before.before.before.before.before.before.before.before.before.before.before.before.before.before.before.before.before.before.before.before.before.before.before.before.before.before.before.before.before.before.before in
-    let a = c.before.before.before.before.before.before.before.before.before.before.before.before.before.before.before.before.before.before.before.before.before.before.before.before.before.before.before.before.before.before.before.before.before.before.before.before.before.before.before.before.before.before.before.before.before.before.before in
-    let e = c.before.before.before.before.before.before.before.before.before.before.before.before.before.before.before.before.before.before.before.before.before.before.before.before.before.before.before.before.before.before in
-    running-stops s.args.tolerance (old_of s) s.args.t11 (held_of s) s.args.marks.now s.args.rows s.args.warnings.now (held_at a) a.loop-i.marks a.loop-i.warnings a.loop-i.told a.loop-i.i a.loop-i.invariant.0 (listed s) c.loop-i-test.true s.requires.1.1.1.1.0 c.row_for-at.result c.row_for-at.ensures (left_by e) e.make_edit-turn.new.1.1.1.1.1.1.1.1.1.1.1.1.1.1.1.1.1.1.1.1.1.1.1.0 e.make_edit-turn.new.1.1.1.1.1.1.1.1.1.1.1.1.1.1.0 e.make_edit-turn.result e.make_edit-turn.ensures _ c.in-Stopped.is
+    let s = c in
+    let a = c in
+    let e = c in
+    running-stops s.args.tolerance (old_of s) s.args.t11 (held_of s) s.args.marks.now s.args.rows s.args.warnings.now (held_at a) a.loop-i.marks a.loop-i.warnings a.loop-i.told a.loop-i.i a.loop-i.invariant.0 (listed s) c.loop-i-test.true s.requires.1.1.1.1.0 c.row_for-at.result c.row_for-at.ensures (left_by e) e.make_edit-turn.new.marks.0 e.make_edit-turn.new.warnings e.make_edit-turn.result e.make_edit-turn.ensures _ c.in-Stopped.is
 
 pub overflow_add-told : goal.overflow_add-told
 overflow_add-told c =
-    let s = c.before.before.before.before.before.before.before.before.before.before.before.before.before.before.before.before.before.before.before.before.before.before.before.before.before.before.before.before.before.before.before.before.before.before.before.before.before.before.before.before.before.before.before.before.before.before.before.before.before.before.before.before.before.before.before.before.before.before.before.before.before.before.before.before.before.before.before.before in
-    let a = c.before.before.before.before.before.before.before.before.before.before.before.before.before.before.before.before.before.before.before.before.before.before.before.before.before.before.before.before.before.before.before.before.before.before.before.before.before.before.before.before.before.before.before.before.before.before.before in
-    let e = c.before.before.before.before.before.before.before.before.before.before.before.before.before.before.before.before.before.before.before.before.before.before.before.before.before.before.before.before.before.before in
-    omega (arith, turn-few s.args.tolerance (old_of s) s.args.t11 (held_of s) s.args.marks.now s.args.rows s.args.warnings.now (held_at a) a.loop-i.marks a.loop-i.warnings a.loop-i.told a.loop-i.i a.loop-i.invariant.0 (listed s) c.loop-i-test.true s.requires.1.1.1.1.0 c.row_for-at.result c.row_for-at.ensures (left_by e) e.make_edit-turn.new.1.1.1.1.1.1.1.1.1.1.1.1.1.1.1.1.1.1.1.1.1.1.1.0 e.make_edit-turn.new.1.1.1.1.1.1.1.1.1.1.1.1.1.1.0 e.make_edit-turn.result e.make_edit-turn.ensures _ _ c.in-Done.is, a.loop-i.invariant.0.few, c.loop-i-test.true, s.requires.1.0)
+    let s = c in
+    let a = c in
+    let e = c in
+    omega (arith, turn-few s.args.tolerance (old_of s) s.args.t11 (held_of s) s.args.marks.now s.args.rows s.args.warnings.now (held_at a) a.loop-i.marks a.loop-i.warnings a.loop-i.told a.loop-i.i a.loop-i.invariant.0 (listed s) c.loop-i-test.true s.requires.1.1.1.1.0 c.row_for-at.result c.row_for-at.ensures (left_by e) e.make_edit-turn.new.marks.0 e.make_edit-turn.new.warnings e.make_edit-turn.result e.make_edit-turn.ensures _ _ c.in-Done.is, a.loop-i.invariant.0.few, c.loop-i-test.true, s.requires.1.0)
 
 pub overflow_add-i : goal.overflow_add-i
 overflow_add-i c = omega (arith, c.loop-i-test.true, c.requires.1.0)
@@ -145,10 +146,10 @@ loop-i-smaller c = omega (arith, c.loop-i-test.true)
 
 pub loop-i-preserved : goal.loop-i-preserved
 loop-i-preserved c =
-    let s = c.before.before.before.before.before.before.before.before.before.before.before.before.before.before.before.before.before.before.before.before.before.before.before.before.before.before.before.before.before.before.before.before.before.before.before.before.before.before.before.before.before.before.before.before.before.before.before.before.before.before.before.before.before.before.before.before.before.before.before.before.before.before.before.before.before.before.before.before in
-    let a = c.before.before.before.before.before.before.before.before.before.before.before.before.before.before.before.before.before.before.before.before.before.before.before.before.before.before.before.before.before.before.before.before.before.before.before.before.before.before.before.before.before.before.before.before.before.before.before in
-    let e = c.before.before.before.before.before.before.before.before.before.before.before.before.before.before.before.before.before.before.before.before.before.before.before.before.before.before.before.before.before.before in
-    (running-turns s.args.tolerance (old_of s) s.args.t11 (held_of s) s.args.marks.now s.args.rows s.args.warnings.now (held_at a) a.loop-i.marks a.loop-i.warnings a.loop-i.told a.loop-i.i a.loop-i.invariant.0 (listed s) c.loop-i-test.true s.requires.1.1.1.1.0 c.row_for-at.result c.row_for-at.ensures (left_by e) e.make_edit-turn.new.1.1.1.1.1.1.1.1.1.1.1.1.1.1.1.1.1.1.1.1.1.1.1.0 e.make_edit-turn.new.1.1.1.1.1.1.1.1.1.1.1.1.1.1.0 e.make_edit-turn.result e.make_edit-turn.ensures _ _ c.in-Done.is e.make_edit-turn.auto.1.1.1.1.1.1.1.1.1.1.1.1.1.1.0, (e.make_edit-turn.auto.1.1.1.1.1.1.1.1.1.1.1.0 ∙ a.loop-i.invariant.1.0, (e.make_edit-turn.auto.1.1.1.1.1.1.1.1.1.1.1.1.0 ∙ a.loop-i.invariant.1.1.0, e.make_edit-turn.auto.1.1.1.1.1.1.1.1.1.1.1.1.1.0 ∙ a.loop-i.invariant.1.1.1)))
+    let s = c in
+    let a = c in
+    let e = c in
+    (running-turns s.args.tolerance (old_of s) s.args.t11 (held_of s) s.args.marks.now s.args.rows s.args.warnings.now (held_at a) a.loop-i.marks a.loop-i.warnings a.loop-i.told a.loop-i.i a.loop-i.invariant.0 (listed s) c.loop-i-test.true s.requires.1.1.1.1.0 c.row_for-at.result c.row_for-at.ensures (left_by e) e.make_edit-turn.new.marks.0 e.make_edit-turn.new.warnings e.make_edit-turn.result e.make_edit-turn.ensures _ _ c.in-Done.is e.make_edit-turn.auto.1.1.1.1.1.1.1.1.1.1.1.1.1.1.0, (e.make_edit-turn.auto.1.1.1.1.1.1.1.1.1.1.1.0 ∙ a.loop-i.invariant.1.0, (e.make_edit-turn.auto.1.1.1.1.1.1.1.1.1.1.1.1.0 ∙ a.loop-i.invariant.1.1.0, e.make_edit-turn.auto.1.1.1.1.1.1.1.1.1.1.1.1.1.0 ∙ a.loop-i.invariant.1.1.1)))
 
 pub shape_of-lanes : goal.shape_of-lanes
 shape_of-lanes c = ap (λ ns. get_or ns 0 0) c.loop-i.invariant.0.along.long
@@ -191,6 +192,6 @@ shape_of-marks c = marks-same c.before.before
 
 pub returns : goal.returns
 returns c =
-    let s = c.before.before.before.before.before.before.before.before.before.before.before.before.before.before.before.before.before.before.before.before.before.before.before in
-    let a = c.before.before in
+    let s = c in
+    let a = c in
     running-ends s.args.tolerance (old_of s) s.args.t11 (held_of s) s.args.marks.now s.args.rows s.args.warnings.now (held_at a) a.loop-i.marks a.loop-i.warnings a.loop-i.told a.loop-i.i a.loop-i.invariant.0 (listed s) (omega (arith, c.loop-i-test.false))

@@ -16,9 +16,10 @@ use Rattle.job_told.proofs.Ends.{kept-told, made-lengths, made-within, put-back-
 use Rattle.job_told.proofs.tell_warnings.Goals as goal
 use Rattle.job_told.proofs.tell_warnings.Lts as lts
 use Rattle.job_told.proofs.tell_warnings.Reads as reads
+use Rattle.job_told.proofs.tell_warnings.Tie as tie
 
 abbrev AtStart : Type 0
-AtStart = lts.Start reads.Pre reads.Post
+AtStart = lts.Start tie.the-claims reads.Pre reads.Post
 
 -- what is lent, and the old slices
 abbrev mapOf : AtStart → Tables
@@ -56,7 +57,7 @@ pub shape_of-warnings-then-n-le-KEPT : goal.shape_of-warnings-then-n-le-KEPT
 shape_of-warnings-then-n-le-KEPT c = c.copy.auto.1.0
 
 pub returns-then-n-le-KEPT : goal.returns-then-n-le-KEPT
-returns-then-n-le-KEPT c = kept-told (mapOf c.before.before.before.before.before.before.before.before.before.before.before.before.before.before.before.before.before.before.before.before.before.before.before.before.before.before.before.before.before) c.args.n (runOn c.before.before.before.before.before.before.before.before.before.before.before.before.before.before.before.before.before.before.before.before.before.before.before.before.before.before.before.before.before (old_of c.before.before.before.before.before.before.before.before.before.before.before.before.before.before.before.before.before.before.before.before.before.before.before.before.before.before.before.before.before)) c.args.kept.now c.args.warnings.now c.copy.new.1.0 c.requires.1.1.0 c.requires.1.1.1.0 c.if-n-le-KEPT.true c.requires.1.1.1.1.0 c.copy.ensures
+returns-then-n-le-KEPT c = kept-told (mapOf c.before.before.before.before.before.before.before.before.before.before.before.before.before.before.before.before.before.before.before.before.before.before.before.before.before.before.before.before.before) c.args.n (runOn c.before.before.before.before.before.before.before.before.before.before.before.before.before.before.before.before.before.before.before.before.before.before.before.before.before.before.before.before.before (old_of c.before.before.before.before.before.before.before.before.before.before.before.before.before.before.before.before.before.before.before.before.before.before.before.before.before.before.before.before.before)) c.args.kept.now c.args.warnings.now c.copy.new.to c.requires.1.1.0 c.requires.1.1.1.0 c.if-n-le-KEPT.true c.requires.1.1.1.1.0 c.copy.ensures
 
 pub put_back-requires : goal.put_back-requires
 put_back-requires c = same-fits (mapOf c.before.before.before.before.before.before.before.before.before.before.before.before.before.before.before.before.before.before.before.before.before.before.before.before.before.before.before.before.before.before.before.before) (old_of c.before.before.before.before.before.before.before.before.before.before.before.before.before.before.before.before.before.before.before.before.before.before.before.before.before.before.before.before.before.before.before.before) (long c.before.before.before.before.before.before.before.before.before.before.before.before.before.before.before.before.before.before.before.before.before.before.before.before.before.before.before.before.before.before.before.before)
@@ -106,4 +107,4 @@ pub shape_of-warnings : goal.shape_of-warnings
 shape_of-warnings c = c.make_edits.auto.1.1.1.1.1.1.1.1.1.1.1.1.1.1.0
 
 pub returns : goal.returns
-returns c = ran-told (mapOf c.before.before.before.before.before.before.before.before.before.before.before.before.before.before.before.before.before.before.before.before.before.before.before.before.before.before.before.before.before.before.before.before.before.before.before.before.before.before.before.before.before.before.before.before.before.before.before.before.before.before.before.before.before.before.before.before.before.before.before.before.before.before.before.before.before.before.before.before.before.before.before.before.before.before.before.before.before.before.before.before.before.before.before.before.before.before.before.before.before) c.args.n (bareOf c.before.before.before.before.before.before.before.before.before.before.before.before.before.before.before.before.before.before.before.before.before.before.before.before.before.before.before.before.before.before.before.before.before.before.before.before.before.before.before.before.before.before.before.before.before.before.before.before.before.before.before.before.before.before.before.before.before.before.before.before.before.before.before.before.before.before.before.before.before.before.before.before.before.before.before.before.before.before.before.before.before.before.before.before.before.before.before.before.before) (tables_of c.put_back.new.1.1.1.1.1.1.1.1.0 c.put_back.new.1.1.1.1.1.1.1.1.1.0 c.put_back.new.1.1.1.1.1.1.1.1.1.1.0 c.put_back.new.1.1.1.1.1.1.1.1.1.1.1.0 c.put_back.new.1.1.1.1.1.1.1.1.1.1.1.1.0 c.put_back.new.1.1.1.1.1.1.1.1.1.1.1.1.1.0 c.put_back.new.1.1.1.1.1.1.1.1.1.1.1.1.1.1.0 c.put_back.new.1.1.1.1.1.1.1.1.1.1.1.1.1.1.1.0) (tables_of c.make_edits.new.1.1.0 c.make_edits.new.1.1.1.0 c.make_edits.new.1.1.1.1.0 c.make_edits.new.1.1.1.1.1.0 c.make_edits.new.1.1.1.1.1.1.0 c.make_edits.new.1.1.1.1.1.1.1.0 c.make_edits.new.1.1.1.1.1.1.1.1.0 c.make_edits.new.1.1.1.1.1.1.1.1.1.0) c.args.marks.now c.make_edits.new.1.1.1.1.1.1.1.1.1.1.1.1.1.1.1.1.1.1.1.1.1.1.1.0 c.args.warnings.now c.make_edits.new.1.1.1.1.1.1.1.1.1.1.1.1.1.1.0 c.make_edits.result (runOn c.before.before.before.before.before.before.before.before.before.before.before.before.before.before.before.before.before.before.before.before.before.before.before.before.before.before.before.before.before.before.before.before.before.before.before.before.before.before.before.before.before.before.before.before.before.before.before.before.before.before.before.before.before.before.before.before.before.before.before.before.before.before.before.before.before.before.before.before.before.before.before.before.before.before.before.before.before.before.before.before.before.before.before.before.before.before.before.before.before) (old_of c.before.before.before.before.before.before.before.before.before.before.before.before.before.before.before.before.before.before.before.before.before.before.before.before.before.before.before.before.before.before.before.before.before.before.before.before.before.before.before.before.before.before.before.before.before.before.before.before.before.before.before.before.before.before.before.before.before.before.before.before.before.before.before.before.before.before.before.before.before.before.before.before.before.before.before.before.before.before.before.before.before.before.before.before.before.before.before.before.before) (tables_of c.put_back.new.1.1.1.1.1.1.1.1.0 c.put_back.new.1.1.1.1.1.1.1.1.1.0 c.put_back.new.1.1.1.1.1.1.1.1.1.1.0 c.put_back.new.1.1.1.1.1.1.1.1.1.1.1.0 c.put_back.new.1.1.1.1.1.1.1.1.1.1.1.1.0 c.put_back.new.1.1.1.1.1.1.1.1.1.1.1.1.1.0 c.put_back.new.1.1.1.1.1.1.1.1.1.1.1.1.1.1.0 c.put_back.new.1.1.1.1.1.1.1.1.1.1.1.1.1.1.1.0) (c.put_back.ensures ∙ put-back-same (mapOf c.before.before.before.before.before.before.before.before.before.before.before.before.before.before.before.before.before.before.before.before.before.before.before.before.before.before.before.before.before.before.before.before.before.before.before.before.before.before.before.before.before.before.before.before.before.before.before.before.before.before.before.before.before.before.before.before.before.before.before.before.before.before.before.before.before.before.before.before.before.before.before.before.before.before.before.before.before.before.before.before.before.before.before.before.before.before.before.before.before) (old_of c.before.before.before.before.before.before.before.before.before.before.before.before.before.before.before.before.before.before.before.before.before.before.before.before.before.before.before.before.before.before.before.before.before.before.before.before.before.before.before.before.before.before.before.before.before.before.before.before.before.before.before.before.before.before.before.before.before.before.before.before.before.before.before.before.before.before.before.before.before.before.before.before.before.before.before.before.before.before.before.before.before.before.before.before.before.before.before.before.before) (long c.before.before.before.before.before.before.before.before.before.before.before.before.before.before.before.before.before.before.before.before.before.before.before.before.before.before.before.before.before.before.before.before.before.before.before.before.before.before.before.before.before.before.before.before.before.before.before.before.before.before.before.before.before.before.before.before.before.before.before.before.before.before.before.before.before.before.before.before.before.before.before.before.before.before.before.before.before.before.before.before.before.before.before.before.before.before.before.before.before)) c.requires.1.1.0 c.make_edits.ensures
+returns c = ran-told (mapOf c.before.before.before.before.before.before.before.before.before.before.before.before.before.before.before.before.before.before.before.before.before.before.before.before.before.before.before.before.before.before.before.before.before.before.before.before.before.before.before.before.before.before.before.before.before.before.before.before.before.before.before.before.before.before.before.before.before.before.before.before.before.before.before.before.before.before.before.before.before.before.before.before.before.before.before.before.before.before.before.before.before.before.before.before.before.before.before.before.before) c.args.n (bareOf c.before.before.before.before.before.before.before.before.before.before.before.before.before.before.before.before.before.before.before.before.before.before.before.before.before.before.before.before.before.before.before.before.before.before.before.before.before.before.before.before.before.before.before.before.before.before.before.before.before.before.before.before.before.before.before.before.before.before.before.before.before.before.before.before.before.before.before.before.before.before.before.before.before.before.before.before.before.before.before.before.before.before.before.before.before.before.before.before.before) (tables_of c.put_back.new.lanes c.put_back.new.boundaries c.put_back.new.roads c.put_back.new.junctions c.put_back.new.rules c.put_back.new.stop_lines c.put_back.new.crosswalks c.put_back.new.coordinates.0) (tables_of c.make_edits.new.lanes c.make_edits.new.boundaries c.make_edits.new.roads c.make_edits.new.junctions c.make_edits.new.rules c.make_edits.new.stop_lines c.make_edits.new.crosswalks c.make_edits.new.coordinates) c.args.marks.now c.make_edits.new.marks.0 c.args.warnings.now c.make_edits.new.warnings c.make_edits.result (runOn c.before.before.before.before.before.before.before.before.before.before.before.before.before.before.before.before.before.before.before.before.before.before.before.before.before.before.before.before.before.before.before.before.before.before.before.before.before.before.before.before.before.before.before.before.before.before.before.before.before.before.before.before.before.before.before.before.before.before.before.before.before.before.before.before.before.before.before.before.before.before.before.before.before.before.before.before.before.before.before.before.before.before.before.before.before.before.before.before.before) (old_of c.before.before.before.before.before.before.before.before.before.before.before.before.before.before.before.before.before.before.before.before.before.before.before.before.before.before.before.before.before.before.before.before.before.before.before.before.before.before.before.before.before.before.before.before.before.before.before.before.before.before.before.before.before.before.before.before.before.before.before.before.before.before.before.before.before.before.before.before.before.before.before.before.before.before.before.before.before.before.before.before.before.before.before.before.before.before.before.before.before) (tables_of c.put_back.new.lanes c.put_back.new.boundaries c.put_back.new.roads c.put_back.new.junctions c.put_back.new.rules c.put_back.new.stop_lines c.put_back.new.crosswalks c.put_back.new.coordinates.0) (c.put_back.ensures ∙ put-back-same (mapOf c.before.before.before.before.before.before.before.before.before.before.before.before.before.before.before.before.before.before.before.before.before.before.before.before.before.before.before.before.before.before.before.before.before.before.before.before.before.before.before.before.before.before.before.before.before.before.before.before.before.before.before.before.before.before.before.before.before.before.before.before.before.before.before.before.before.before.before.before.before.before.before.before.before.before.before.before.before.before.before.before.before.before.before.before.before.before.before.before.before) (old_of c.before.before.before.before.before.before.before.before.before.before.before.before.before.before.before.before.before.before.before.before.before.before.before.before.before.before.before.before.before.before.before.before.before.before.before.before.before.before.before.before.before.before.before.before.before.before.before.before.before.before.before.before.before.before.before.before.before.before.before.before.before.before.before.before.before.before.before.before.before.before.before.before.before.before.before.before.before.before.before.before.before.before.before.before.before.before.before.before.before) (long c.before.before.before.before.before.before.before.before.before.before.before.before.before.before.before.before.before.before.before.before.before.before.before.before.before.before.before.before.before.before.before.before.before.before.before.before.before.before.before.before.before.before.before.before.before.before.before.before.before.before.before.before.before.before.before.before.before.before.before.before.before.before.before.before.before.before.before.before.before.before.before.before.before.before.before.before.before.before.before.before.before.before.before.before.before.before.before.before.before)) c.requires.1.1.0 c.make_edits.ensures

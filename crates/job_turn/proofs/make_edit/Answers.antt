@@ -14,9 +14,10 @@ use Rattle.step.proofs.Counter.{counter-word}
 use Rattle.job_turn.proofs.make_edit.Goals as goal
 use Rattle.job_turn.proofs.make_edit.Lts as lts
 use Rattle.job_turn.proofs.make_edit.Reads as reads
+use Rattle.job_turn.proofs.make_edit.Tie as tie
 
 abbrev AtStart : Type 0
-AtStart = lts.Start reads.Pre reads.Post
+AtStart = lts.Start tie.the-claims reads.Pre reads.Post
 
 -- what is lent
 abbrev lent : AtStart → Lent
@@ -41,10 +42,10 @@ begins : (s : AtStart) → s.args.at * 10 ≤ length s.args.warnings.now
 begins s = omega (arith, s.requires.1.1.1.0)
 
 pub overflow_mul-first : goal.overflow_mul-first
-overflow_mul-first c = omega (arith, begins c.before.before.before.before.before.before.before.before.before.before.before.before.before.before.before.before.before.before.before.before.before, c.well-formed)
+overflow_mul-first c = omega (arith, begins c.before.before.before.before.before.before.before.before.before.before.before.before.before.before.before.before.before.before.before.before.before, c.well_formed)
 
 pub offset_bounds-warnings-first : goal.offset_bounds-warnings-first
-offset_bounds-warnings-first c = omega (arith, begins c.before.before.before.before.before.before.before.before.before.before.before.before.before.before.before.before.before.before.before.before.before.before.before.before.before.before.before.before.before.before.before.before, c.well-formed)
+offset_bounds-warnings-first c = omega (arith, begins c.before.before.before.before.before.before.before.before.before.before.before.before.before.before.before.before.before.before.before.before.before.before.before.before.before.before.before.before.before.before.before.before, c.well_formed)
 
 pub slice_bounds-dispatch-count : goal.slice_bounds-dispatch-count
 slice_bounds-dispatch-count c = omega (arith, begins c.before.before.before.before.before.before.before.before.before.before.before.before.before.before.before.before.before.before.before.before.before.before.before.before.before.before.before.before.before.before.before.before)
@@ -54,15 +55,15 @@ dispatch-answer-requires c = c.requires.0
 
 pub mark_all-requires : goal.mark_all-requires
 mark_all-requires c =
-    let s = c.before.before.before.before.before.before.before.before.before.before.before.before.before.before.before.before.before.before.before.before.before.before.before.before.before.before.before.before.before.before.before.before.before.before.before.before.before.before.before.before.before.before.before.before.before.before.before.before.before.before.before.before.before.before.before.before.before.before.before.before.before in
+    let s = c in
     let d = c.dispatch-answer in
-    (s.requires.1.0, (s.requires.1.1.0, may-mark s.args.tolerance s.args.command (lent s) _ d.result d.ensures s.requires.0 (fits s) c.counts-n.result c.counts-n.ensures d.auto.1.1.1.1.1.1.1.1.1.1.1.1.0))
+    (s.requires.1.0, (s.requires.1.1.0, may-mark s.args.tolerance s.args.command (lent s) _ d.result d.ensures s.requires.0 (fits c.before.before.before.before.before.before.before.before.before.before.before.before.before.before.before.before.before.before.before.before.before.before.before.before.before.before.before.before.before.before.before.before.before.before.before.before.before.before.before.before.before.before.before.before.before.before.before.before.before.before.before.before.before.before.before.before.before.before.before.before) c.counts-n.result c.counts-n.ensures d.auto.1.1.1.1.1.1.1.1.1.1.1.1.0))
 
 pub turn_of-requires : goal.turn_of-requires
 turn_of-requires c =
-    let s = c.before.before.before.before.before.before.before.before.before.before.before.before.before.before.before.before.before.before.before.before.before.before.before.before.before.before.before.before.before.before.before.before.before.before.before.before.before.before.before.before.before.before.before.before.before.before.before.before.before.before.before.before.before.before.before.before.before.before.before.before.before.before.before.before in
+    let s = c in
     let d = c.dispatch-answer in
-    counter-word s.args.tolerance s.args.command (lent s) _ d.result d.ensures (omega (arith, s.well-formed))
+    counter-word s.args.tolerance s.args.command (lent s) _ d.result d.ensures (omega (arith, s.well_formed))
 
 pub shape_of-lanes : goal.shape_of-lanes
 shape_of-lanes c = c.dispatch-answer.auto.1.1.0
@@ -99,17 +100,17 @@ shape_of-deleted c = c.dispatch-answer.auto.1.1.1.1.1.1.1.1.1.1.1.1.1.0
 
 pub shape_of-warnings : goal.shape_of-warnings
 shape_of-warnings c =
-    let s = c.before.before.before.before.before.before.before.before.before.before.before.before.before.before.before.before.before.before.before.before.before.before.before.before.before.before.before.before.before.before.before.before.before.before.before.before.before.before.before.before.before.before.before.before.before.before.before.before.before.before.before.before.before.before.before.before.before.before.before.before.before.before.before.before.before in
+    let s = c in
     let d = c.dispatch-answer in
-    same_len_mid (s.args.at * 10) (length s.args.warnings.now - s.args.at * 10) s.args.warnings.now d.new.1.1.1.1.1.1.1.1.1.1.1.1.1.1.0 d.auto.1.1.1.1.1.1.1.1.1.1.1.1.1.1.0
+    same_len_mid (s.args.at * 10) (length s.args.warnings.now - s.args.at * 10) s.args.warnings.now d.new.warnings.0 d.auto.1.1.1.1.1.1.1.1.1.1.1.1.1.1.0
 
 pub shape_of-marks : goal.shape_of-marks
 shape_of-marks c = c.mark_all.auto.1.1.1.1.1.1.1.1.1.0
 
 pub returns : goal.returns
 returns c =
-    let s = c.before.before.before.before.before.before.before.before.before.before.before.before.before.before.before.before.before.before.before.before.before.before.before.before.before.before.before.before.before.before.before.before.before.before.before.before.before.before.before.before.before.before.before.before.before.before.before.before.before.before.before.before.before.before.before.before.before.before.before.before.before.before.before.before.before in
+    let s = c in
     let d = c.dispatch-answer in
     let m = c.mark_all in
     let n = c.counts-n in
-    made_as s.args.tolerance s.args.command (lent s) _ d.result d.ensures s.requires.0 (fits s) (old s) s.args.marks.now m.new.1.1.1.1.1.1.1.1.1.0 s.args.at s.args.warnings.now _ n.result c.turn_of.result n.ensures m.ensures (begins s) refl refl c.turn_of.ensures
+    made_as s.args.tolerance s.args.command (lent s) _ d.result d.ensures s.requires.0 (fits c.before.before.before.before.before.before.before.before.before.before.before.before.before.before.before.before.before.before.before.before.before.before.before.before.before.before.before.before.before.before.before.before.before.before.before.before.before.before.before.before.before.before.before.before.before.before.before.before.before.before.before.before.before.before.before.before.before.before.before.before.before.before.before.before) (old s) s.args.marks.now m.new.marks.0 s.args.at s.args.warnings.now _ n.result c.turn_of.result n.ensures m.ensures (begins c.before.before.before.before.before.before.before.before.before.before.before.before.before.before.before.before.before.before.before.before.before.before.before.before.before.before.before.before.before.before.before.before.before.before.before.before.before.before.before.before.before.before.before.before.before.before.before.before.before.before.before.before.before.before.before.before.before.before.before.before.before.before.before.before) refl refl c.turn_of.ensures

@@ -19,7 +19,7 @@ copy_points-requires-2 c =
       e,
       c.requires,
       c.count-n.ensures,
-      c.copy_points.auto.1.1.0,
+      c.copy_points.auto.out,
       length-concat c.args.join (points c.args.one.now) (points c.args.other.now),
       length-drop (skipped c.args.join (points c.args.one.now) (points c.args.other.now)) (points c.args.other.now),
     )
@@ -35,7 +35,7 @@ overflow_add-result c =
       c.count-n.ensures,
       c.shared_ends-skip.ensures,
       c.requires,
-      c.well-formed.1.1.1.0.0,
+      c.well_formed.1.1.1.0.0,
       length-concat c.args.join (points c.args.one.now) (points c.args.other.now),
     )
 

@@ -12,9 +12,10 @@ use Rattle.geometry.specs.declared.Point3.{Point3}
 use Rattle.joins.proofs.copy_points.Goals as goal
 use Rattle.joins.proofs.copy_points.Lts as lts
 use Rattle.joins.proofs.copy_points.Reads as reads
+use Rattle.joins.proofs.copy_points.Tie as tie
 
 abbrev AtInLoopI : Type 0
-AtInLoopI = lts.In-loop reads.Pre reads.Post goal.the-invariant-loop-i goal.the-decreases-loop-i
+AtInLoopI = lts.In-loop tie.the-claims reads.Pre reads.Post goal.the-invariant-loop-i goal.the-decreases-loop-i
 
 -- the line, the points to write, and the next of them with what is left behind it
 abbrev line_of : AtInLoopI → List Point3
@@ -41,12 +42,12 @@ put_point-requires c =
     omega (arith, r)
 
 pub overflow_add-i : goal.overflow_add-i
-overflow_add-i c = omega (arith, c.count-n.type-inv, c.loop-i-test.true)
+overflow_add-i c = omega (arith, c.count-n.type_inv, c.loop-i-test.true)
 
 pub overflow_add-to : goal.overflow_add-to
 overflow_add-to c =
     let r = fits_more _ _ _ _ (whole c.before.before.before.before.before.before) (at (line_of c.before.before.before.before.before.before) c.loop-i.i ∷ []) (drop (c.loop-i.i + 1) (line_of c.before.before.before.before.before.before)) c.requires (next c.before.before.before.before.before.before) in
-    omega (arith, r, c.loop-i.invariant.same, c.well-formed.1.1.0.0)
+    omega (arith, r, c.loop-i.invariant.same, c.well_formed.1.1.0.0)
 
 pub loop-i-smaller : goal.loop-i-smaller
 loop-i-smaller c = omega (arith, c.loop-i-test.true)

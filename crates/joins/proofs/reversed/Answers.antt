@@ -12,9 +12,10 @@ use Rattle.geometry.specs.declared.Point3.{Point3}
 use Rattle.joins.proofs.reversed.Goals as goal
 use Rattle.joins.proofs.reversed.Lts as lts
 use Rattle.joins.proofs.reversed.Reads as reads
+use Rattle.joins.proofs.reversed.Tie as tie
 
 abbrev AtInLoopI : Type 0
-AtInLoopI = lts.In-loop reads.Pre reads.Post goal.the-invariant-loop-i goal.the-decreases-loop-i
+AtInLoopI = lts.In-loop tie.the-claims reads.Pre reads.Post goal.the-invariant-loop-i goal.the-decreases-loop-i
 
 -- the line, the next point with what is left behind it, and the room for all
 abbrev line_of : AtInLoopI → List Point3
@@ -52,7 +53,7 @@ put_point-requires c =
     omega (arith, r)
 
 pub overflow_add-i : goal.overflow_add-i
-overflow_add-i c = omega (arith, c.count-n.type-inv, c.loop-i-test.true)
+overflow_add-i c = omega (arith, c.count-n.type_inv, c.loop-i-test.true)
 
 pub loop-i-smaller : goal.loop-i-smaller
 loop-i-smaller c = omega (arith, c.loop-i-test.true)

@@ -12,9 +12,10 @@ use Rattle.polyline.proofs.Lines.{Left, begins, fits_more, goes_on, ends}
 use Rattle.lane_lines.proofs.copied.Goals as goal
 use Rattle.lane_lines.proofs.copied.Lts as lts
 use Rattle.lane_lines.proofs.copied.Reads as reads
+use Rattle.lane_lines.proofs.copied.Tie as tie
 
 abbrev AtInLoopI : Type 0
-AtInLoopI = lts.In-loop reads.Pre reads.Post goal.the-invariant-loop-i goal.the-decreases-loop-i
+AtInLoopI = lts.In-loop tie.the-claims reads.Pre reads.Post goal.the-invariant-loop-i goal.the-decreases-loop-i
 
 -- the line, the next point with what is left behind it, and the room for all
 abbrev line_of : AtInLoopI → List Point3
@@ -43,7 +44,7 @@ put_point-requires c =
     omega (arith, r)
 
 pub overflow_add-i : goal.overflow_add-i
-overflow_add-i c = omega (arith, c.count-n.type-inv, c.loop-i-test.true)
+overflow_add-i c = omega (arith, c.count-n.type_inv, c.loop-i-test.true)
 
 pub loop-i-smaller : goal.loop-i-smaller
 loop-i-smaller c = omega (arith, c.loop-i-test.true)

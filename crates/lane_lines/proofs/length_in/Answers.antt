@@ -18,9 +18,10 @@ use Rattle.lookup.proofs.Center.{count_none, lane_center_few, side-length, side-
 use Rattle.lane_lines.proofs.length_in.Goals as goal
 use Rattle.lane_lines.proofs.length_in.Lts as lts
 use Rattle.lane_lines.proofs.length_in.Reads as reads
+use Rattle.lane_lines.proofs.length_in.Tie as tie
 
 abbrev AtAfterCenterlineFound : Type 0
-AtAfterCenterlineFound = lts.After-centerline reads.Pre reads.Post
+AtAfterCenterlineFound = lts.After-centerline tie.the-claims reads.Pre reads.Post
 
 -- the centreline, and what was written of it
 abbrev center : AtAfterCenterlineFound → Option Line
@@ -52,7 +53,7 @@ pub slice_bounds-length-end : goal.slice_bounds-length-end
 slice_bounds-length-end c = within c.before.before.before.before.before.before c.in-Some.n (sym c.in-Some.is ∙ c.centerline-found.ensures.0)
 
 pub slice_bounds-length-end-2 : goal.slice_bounds-length-end-2
-slice_bounds-length-end-2 c = sym (length-take-le (c.in-Some.n * 3) (lineOut c.before.before.before.before.before.before.before) (within c.before.before.before.before.before.before.before c.in-Some.n (sym c.in-Some.is ∙ c.centerline-found.ensures.0)))
+slice_bounds-length-end-2 c = sym (length-take-le (c.in-Some.n * 3) (lineOut c.before.before.before.before.before.before.before) (within c.before.before.before.before.before.before c.in-Some.n (sym c.in-Some.is ∙ c.centerline-found.ensures.0)))
 
 pub returns : goal.returns
-returns c = (length_some (center c.before.before.before.before.before.before.before.before) (points (take (c.in-Some.n * 3) (lineOut c.before.before.before.before.before.before.before.before))) c.length.result (there c.before.before.before.before.before.before.before.before c.in-Some.n (sym c.in-Some.is ∙ c.centerline-found.ensures.0)) c.length.ensures, c.centerline-found.ensures.1)
+returns c = (length_some (center c.before.before.before.before.before.before.before.before) (points (take (c.in-Some.n * 3) (lineOut c.before.before.before.before.before.before.before.before))) c.length.result (there c.before.before.before.before.before.before.before c.in-Some.n (sym c.in-Some.is ∙ c.centerline-found.ensures.0)) c.length.ensures, c.centerline-found.ensures.1)

@@ -6,9 +6,10 @@ use Rattle.lane_lists.proofs.Listed.{counts-small, counts_all}
 use Rattle.lane_lists.proofs.count_named.Goals as goal
 use Rattle.lane_lists.proofs.count_named.Lts as lts
 use Rattle.lane_lists.proofs.count_named.Reads as reads
+use Rattle.lane_lists.proofs.count_named.Tie as tie
 
 abbrev AtAfterCountD : Type 0
-AtAfterCountD = lts.After-count4 reads.Pre reads.Post
+AtAfterCountD = lts.After-count4 tie.the-claims reads.Pre reads.Post
 
 -- the sum is small
 small : (c : AtAfterCountD) → c.count-a.result + c.count-b.result + c.count-c.result + c.count-d.result ≤ 4096

@@ -9,9 +9,10 @@ use Rattle.lane_lists.proofs.Warned.{Warned, warned-none, warned-length, warned-
 use Rattle.lane_lists.proofs.warn.Goals as goal
 use Rattle.lane_lists.proofs.warn.Lts as lts
 use Rattle.lane_lists.proofs.warn.Reads as reads
+use Rattle.lane_lists.proofs.warn.Tie as tie
 
 abbrev AtInLoopI : Type 0
-AtInLoopI = lts.In-loop reads.Pre reads.Post goal.the-invariant-loop-i goal.the-decreases-loop-i
+AtInLoopI = lts.In-loop tie.the-claims reads.Pre reads.Post goal.the-invariant-loop-i goal.the-decreases-loop-i
 
 -- row i lies within the table
 row : (c : AtInLoopI) → 1 + c.loop-i.i * 330 + 330 ≤ length c.args.rules.now
@@ -66,7 +67,7 @@ loop-i-preserved c =
     let l = c.loop-i in
     let b = c.names_lane-on in
     let p = c.warn_where-place in
-    warned-turn a.lane a.rules.now a.warnings.now c.requires.1 l.warnings l.i l.place l.invariant c.loop-i-test.true b.result b.ensures p.new.1.1.0 p.result p.ensures.0 p.ensures.1
+    warned-turn a.lane a.rules.now a.warnings.now c.requires.1 l.warnings l.i l.place l.invariant c.loop-i-test.true b.result b.ensures p.new.warnings p.result p.ensures.0 p.ensures.1
 
 pub shape_of-warnings : goal.shape_of-warnings
 shape_of-warnings c =

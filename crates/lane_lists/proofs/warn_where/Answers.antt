@@ -12,7 +12,7 @@ pub returns-then-on : goal.returns-then-on
 returns-then-on c =
     let a = c.args in
     let p = c.put_orphan in
-    warn_on a.warnings.now a.at a.rule a.on p.new.0 c.if-on.true p.ensures
+    warn_on a.warnings.now a.at a.rule a.on p.new.warnings c.if-on.true p.ensures
 
 pub returns : goal.returns
 returns c =

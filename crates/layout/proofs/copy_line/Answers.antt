@@ -15,7 +15,7 @@ returns-then-size-eq0 c =
 pub overflow_mul-from : goal.overflow_mul-from
 overflow_mul-from c =
     let a = c.args in
-    omega (arith, sourced-room a.reach a.work.now a.drawn.now c.requires.0 (record { start = a.start; size = a.size }) c.requires.1.0 c.if-size-eq0.false, c.if-reach-start.true, c.well-formed)
+    omega (arith, sourced-room a.reach a.work.now a.drawn.now c.requires.0 (record { start = a.start; size = a.size }) c.requires.1.0 c.if-size-eq0.false, c.if-reach-start.true, c.well_formed)
 
 pub copy-requires : goal.copy-requires
 copy-requires c =
@@ -25,7 +25,7 @@ copy-requires c =
 pub returns-then-reach-start : goal.returns-then-reach-start
 returns-then-reach-start c =
     let a = c.args in
-    drawn-written a.reach a.work.now a.drawn.now c.requires.0 a.coordinates.now c.copy.new.1.1.1.0 a.at a.start a.size c.requires.1.1 c.if-reach-start.true c.copy.ensures
+    drawn-written a.reach a.work.now a.drawn.now c.requires.0 a.coordinates.now c.copy.new.out a.at a.start a.size c.requires.1.1 c.if-reach-start.true c.copy.ensures
 
 pub copy-requires-3 : goal.copy-requires-3
 copy-requires-3 c =
@@ -35,4 +35,4 @@ copy-requires-3 c =
 pub returns : goal.returns
 returns c =
     let a = c.args in
-    both-written a.reach a.work.now a.drawn.now c.requires.0 a.coordinates.now c.copy-3.new.1.1.1.0 a.at a.start a.size c.requires.1.1 c.points_before-n.result c.copy-2.new.1.1.1.0 c.if-reach-start.false c.points_before-n.ensures c.copy-2.ensures c.copy-3.ensures
+    both-written a.reach a.work.now a.drawn.now c.requires.0 a.coordinates.now c.copy-3.new.out a.at a.start a.size c.requires.1.1 c.points_before-n.result c.copy-2.new.out c.if-reach-start.false c.points_before-n.ensures c.copy-2.ensures c.copy-3.ensures

@@ -15,7 +15,7 @@ copy_line-requires c =
 pub overflow_add-result : goal.overflow_add-result
 overflow_add-result c =
     let a = c.args in
-    omega (arith, line-fits a.k a.at (length a.coordinates.now) a.rows.now c.requires.1.1.1, c.well-formed)
+    omega (arith, line-fits a.k a.at (length a.coordinates.now) a.rows.now c.requires.1.1.1, c.well_formed)
 
 pub returns : goal.returns
 returns c =

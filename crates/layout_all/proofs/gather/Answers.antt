@@ -9,15 +9,16 @@ use Rattle.layout.proofs.Column.{Left, Ready, left-start, line-needs, left-line,
 use Rattle.layout_all.proofs.gather.Goals as goal
 use Rattle.layout_all.proofs.gather.Lts as lts
 use Rattle.layout_all.proofs.gather.Reads as reads
+use Rattle.layout_all.proofs.gather.Tie as tie
 
 abbrev AtInLoopI : Type 0
-AtInLoopI = lts.In-loop reads.Pre reads.Post goal.the-invariant-loop-i goal.the-decreases-loop-i
+AtInLoopI = lts.In-loop tie.the-claims reads.Pre reads.Post goal.the-invariant-loop-i goal.the-decreases-loop-i
 
 -- in a turn: what the next row's line asks for
 needed : (c : AtInLoopI) → Ready (sourced c.args.reach c.args.work.now c.args.drawn.now) c.loop-i.rows c.loop-i.coordinates c.loop-i.place
     (1 + c.loop-i.i * c.args.stride + c.args.offset)
 needed c =
-    let s = c.before.before.before.before.before.before.before in
+    let s = c in
     let a = s.args in
     line-needs (plain a.stride a.offset) (sourced a.reach a.work.now a.drawn.now) a.rows.now a.coordinates.now a.at (word 0 a.rows.now) c.loop-i.i c.loop-i.rows c.loop-i.coordinates c.loop-i.place c.loop-i.invariant.1 c.loop-i-test.true s.requires.1.0 refl
 
@@ -30,13 +31,13 @@ loop-i-init c =
     (omega arith, left-start (plain a.stride a.offset) 4096 (sourced a.reach a.work.now a.drawn.now) a.rows.now a.coordinates.now a.at c.requires.1.1.1.0 c.requires.1.1.1.1.0 c.requires.1.1.1.1.1)
 
 pub overflow_mul-i : goal.overflow_mul-i
-overflow_mul-i c = omega (arith, (needed c.before.before).0, c.loop-i.invariant.1.words, c.well-formed)
+overflow_mul-i c = omega (arith, (needed c.before.before).0, c.loop-i.invariant.1.words, c.well_formed)
 
 pub overflow_add-i : goal.overflow_add-i
-overflow_add-i c = omega (arith, (needed c.before.before).0, c.loop-i.invariant.1.words, c.well-formed)
+overflow_add-i c = omega (arith, (needed c.before.before).0, c.loop-i.invariant.1.words, c.well_formed)
 
 pub overflow_add-i-in-loop-i : goal.overflow_add-i-in-loop-i
-overflow_add-i-in-loop-i c = omega (arith, (needed c.before.before).0, c.loop-i.invariant.1.words, c.well-formed)
+overflow_add-i-in-loop-i c = omega (arith, (needed c.before.before).0, c.loop-i.invariant.1.words, c.well_formed)
 
 pub gather_line-place-requires : goal.gather_line-place-requires
 gather_line-place-requires c = (c.requires.0, needed c.before.before.before)
@@ -51,7 +52,7 @@ pub loop-i-preserved : goal.loop-i-preserved
 loop-i-preserved c =
     let a = c.args in
     let g = c.gather_line-place in
-    (omega (arith, c.loop-i-test.true), left-line (plain a.stride a.offset) (sourced a.reach a.work.now a.drawn.now) a.rows.now a.coordinates.now a.at (word 0 a.rows.now) c.loop-i.i c.loop-i.rows c.loop-i.coordinates c.loop-i.place c.loop-i.invariant.1 c.loop-i-test.true c.requires.1.0 refl g.new.0 g.new.1.1.1.1.1.0 g.result g.ensures.0 g.ensures.1.0 g.ensures.1.1)
+    (omega (arith, c.loop-i-test.true), left-line (plain a.stride a.offset) (sourced a.reach a.work.now a.drawn.now) a.rows.now a.coordinates.now a.at (word 0 a.rows.now) c.loop-i.i c.loop-i.rows c.loop-i.coordinates c.loop-i.place c.loop-i.invariant.1 c.loop-i-test.true c.requires.1.0 refl g.new.rows g.new.coordinates g.result g.ensures.0 g.ensures.1.0 g.ensures.1.1)
 
 pub shape_of-rows : goal.shape_of-rows
 shape_of-rows c = c.loop-i.invariant.1.words

@@ -17,4 +17,4 @@ pub returns : goal.returns
 returns c =
     let a = c.args in
     let g = c.gather_line in
-    row-turned centerlines a.lanes.now a.row a.at (omega arith) c.requires.1.0 (center_there a.lanes.now a.row c.if-lanes-row-eq0.false) (sourced a.reach a.work.now a.drawn.now) a.coordinates.now g.new.0 g.new.1.1.1.1.1.0 g.result g.ensures.0 g.ensures.1.0 g.ensures.1.1
+    row-turned centerlines a.lanes.now a.row a.at (omega arith) c.requires.1.0 (center_there a.lanes.now a.row c.if-lanes-row-eq0.false) (sourced a.reach a.work.now a.drawn.now) a.coordinates.now g.new.rows g.new.coordinates g.result g.ensures.0 g.ensures.1.0 g.ensures.1.1

@@ -8,9 +8,10 @@ use Rattle.layout.proofs.Column.{Left, RowReady, left-start, left-row, left-turn
 use Rattle.layout_all.proofs.gather_centers.Goals as goal
 use Rattle.layout_all.proofs.gather_centers.Lts as lts
 use Rattle.layout_all.proofs.gather_centers.Reads as reads
+use Rattle.layout_all.proofs.gather_centers.Tie as tie
 
 abbrev AtInLoopI : Type 0
-AtInLoopI = lts.In-loop reads.Pre reads.Post goal.the-invariant-loop-i goal.the-decreases-loop-i
+AtInLoopI = lts.In-loop tie.the-claims reads.Pre reads.Post goal.the-invariant-loop-i goal.the-decreases-loop-i
 
 -- in a turn: what the next lane's centreline asks for
 needed : (c : AtInLoopI) → RowReady centerlines (sourced c.args.reach c.args.work.now c.args.drawn.now) c.loop-i.lanes c.loop-i.coordinates c.loop-i.place (1 + c.loop-i.i * 52)
@@ -27,10 +28,10 @@ loop-i-init c =
     (omega arith, left-start centerlines 1024 (sourced a.reach a.work.now a.drawn.now) a.lanes.now a.coordinates.now a.at c.requires.1.0 c.requires.1.1.0 c.requires.1.1.1)
 
 pub overflow_mul-i : goal.overflow_mul-i
-overflow_mul-i c = omega (arith, (needed c.before.before).0, c.loop-i.invariant.1.words, c.well-formed)
+overflow_mul-i c = omega (arith, (needed c.before.before).0, c.loop-i.invariant.1.words, c.well_formed)
 
 pub overflow_add-i : goal.overflow_add-i
-overflow_add-i c = omega (arith, (needed c.before.before).0, c.loop-i.invariant.1.words, c.well-formed)
+overflow_add-i c = omega (arith, (needed c.before.before).0, c.loop-i.invariant.1.words, c.well_formed)
 
 pub gather_center-place-requires : goal.gather_center-place-requires
 gather_center-place-requires c = (c.requires.0, needed c.before.before.before)
@@ -45,7 +46,7 @@ pub loop-i-preserved : goal.loop-i-preserved
 loop-i-preserved c =
     let a = c.args in
     let g = c.gather_center-place in
-    (omega (arith, c.loop-i-test.true), left-turn centerlines (sourced a.reach a.work.now a.drawn.now) a.lanes.now a.coordinates.now a.at (word 0 a.lanes.now) c.loop-i.i c.loop-i.lanes c.loop-i.coordinates c.loop-i.place c.loop-i.invariant.1 c.loop-i-test.true g.new.0 g.new.1.1.1.1.1.0 g.result g.ensures)
+    (omega (arith, c.loop-i-test.true), left-turn centerlines (sourced a.reach a.work.now a.drawn.now) a.lanes.now a.coordinates.now a.at (word 0 a.lanes.now) c.loop-i.i c.loop-i.lanes c.loop-i.coordinates c.loop-i.place c.loop-i.invariant.1 c.loop-i-test.true g.new.lanes g.new.coordinates g.result g.ensures)
 
 pub shape_of-lanes : goal.shape_of-lanes
 shape_of-lanes c = c.loop-i.invariant.1.words

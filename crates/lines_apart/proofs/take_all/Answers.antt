@@ -15,15 +15,16 @@ use Rattle.apart.proofs.Stored.{all-facts}
 use Rattle.lines_apart.proofs.take_all.Goals as goal
 use Rattle.lines_apart.proofs.take_all.Lts as lts
 use Rattle.lines_apart.proofs.take_all.Reads as reads
+use Rattle.lines_apart.proofs.take_all.Tie as tie
 
 abbrev AtStart : Type 0
-AtStart = lts.Start reads.Pre reads.Post
+AtStart = lts.Start tie.the-claims reads.Pre reads.Post
 
 abbrev AtThenTakeColumn : Type 0
-AtThenTakeColumn = lts.Then1 reads.Pre reads.Post
+AtThenTakeColumn = lts.Then1 tie.the-claims reads.Pre reads.Post
 
 abbrev AtThenTakeCenters : Type 0
-AtThenTakeCenters = lts.Then2 reads.Pre reads.Post
+AtThenTakeCenters = lts.Then2 tie.the-claims reads.Pre reads.Post
 
 -- what is left before each part
 abbrev edges : AtStart → List Span
@@ -44,40 +45,40 @@ facts s = all-facts (length s.args.marks.now) s.args.lanes.now s.args.boundaries
 first : (s : AtStart) → Left s.args.marks.now (whole s) s.args.marks.now (whole s)
 first s = left-start s.args.marks.now (whole s) (whole s) refl (facts s).1.1.0
 
-second : (c : AtThenTakeColumn) → Left c.args.marks.now (whole c.before.before.before.before.before.before.before.before.before.before) c.take_column.new.1.1.1.0 (centers c.before.before.before.before.before.before.before.before.before.before ++ others c.before.before.before.before.before.before.before.before.before.before)
+second : (c : AtThenTakeColumn) → Left c.args.marks.now (whole c.before.before.before.before.before.before.before.before.before.before) c.take_column.new.marks.0 (centers c.before.before.before.before.before.before.before.before.before.before ++ others c.before.before.before.before.before.before.before.before.before.before)
 second c =
-    let s = c.before.before.before.before.before.before.before.before.before.before in
+    let s = c in
     let l = c.take_column in
-    left_step s.args.marks.now (whole s) s.args.marks.now (edges s) (centers s ++ others s) (first s) l.new.1.1.1.0 l.auto.1.1.1.0 (sym l.ensures.0 ∙ c.if-take_column.true) (l.ensures.1 c.if-take_column.true)
+    left_step s.args.marks.now (whole s) s.args.marks.now (edges s) (centers s ++ others s) (first c.before.before.before.before.before.before.before.before.before.before) l.new.marks.0 l.auto.1.1.1.0 (sym l.ensures.0 ∙ c.if-take_column.true) (l.ensures.1 c.if-take_column.true)
 
-third : (c : AtThenTakeCenters) → Left c.args.marks.now (whole c.before.before.before.before.before.before.before.before.before.before.before.before.before.before.before) c.take_centers.new.1.0 (others c.before.before.before.before.before.before.before.before.before.before.before.before.before.before.before)
+third : (c : AtThenTakeCenters) → Left c.args.marks.now (whole c.before.before.before.before.before.before.before.before.before.before.before.before.before.before.before) c.take_centers.new.marks.0 (others c.before.before.before.before.before.before.before.before.before.before.before.before.before.before.before)
 third c =
-    let s = c.before.before.before.before.before.before.before.before.before.before.before.before.before.before.before in
+    let s = c in
     let l = c.take_centers in
-    left_step s.args.marks.now (whole s) c.take_column.new.1.1.1.0 (centers s) (others s) (second c.before.before.before.before.before) l.new.1.0 l.auto.1.0 (sym l.ensures.0 ∙ c.if-take_centers.true) (l.ensures.1 c.if-take_centers.true)
+    left_step s.args.marks.now (whole s) c.take_column.new.marks.0 (centers s) (others s) (second c.before.before.before.before.before) l.new.marks.0 l.auto.1.0 (sym l.ensures.0 ∙ c.if-take_centers.true) (l.ensures.1 c.if-take_centers.true)
 
 pub take_column-requires : goal.take_column-requires
 take_column-requires c =
-    let s = c.before.before.before.before.before.before.before in
-    (omega arith, (omega arith, ((facts s).1.0, left-fits s.args.marks.now (whole s) s.args.marks.now (edges s) (centers s ++ others s) (first s))))
+    let s = c in
+    (omega arith, (omega arith, ((facts c.before.before.before.before.before.before.before).1.0, left-fits s.args.marks.now (whole s) s.args.marks.now (edges s) (centers s ++ others s) (first c.before.before.before.before.before.before.before))))
 
 pub take_centers-requires : goal.take_centers-requires
 take_centers-requires c =
-    let s = c.before.before.before.before.before.before.before.before.before.before.before.before in
-    ((facts s).0, left-fits s.args.marks.now (whole s) c.take_column.new.1.1.1.0 (centers s) (others s) (second c.before.before))
+    let s = c in
+    ((facts c.before.before.before.before.before.before.before.before.before.before.before.before).0, left-fits s.args.marks.now (whole s) c.take_column.new.marks.0 (centers s) (others s) (second c.before.before))
 
 pub take_rest-requires : goal.take_rest-requires
-take_rest-requires c = let s = c.before.before.before.before.before.before.before.before.before.before.before.before.before.before.before.before.before in rw (third c.before.before).long (facts s).1.1.1
+take_rest-requires c = let s = c.before.before.before.before.before.before.before.before.before.before.before.before.before.before.before.before.before in rw (third c.before.before).long (facts c.before.before.before.before.before.before.before.before.before.before.before.before.before.before.before.before.before).1.1.1
 
 pub returns-then-take_centers : goal.returns-then-take_centers
 returns-then-take_centers c = c.take_rest.ensures ∙ sym (third c.before.before.before.before.before).apart
 
 pub returns-else-take_centers : goal.returns-else-take_centers
 returns-else-take_centers c =
-    let s = c.before.before.before.before.before.before.before.before.before.before.before.before.before.before.before.before in
-    sym (left-stop s.args.marks.now (whole s) c.take_column.new.1.1.1.0 (centers s) (others s) (second c.before.before.before.before.before.before) (sym c.take_centers.ensures.0 ∙ c.if-take_centers.false))
+    let s = c in
+    sym (left-stop s.args.marks.now (whole s) c.take_column.new.marks.0 (centers s) (others s) (second c.before.before.before.before.before.before) (sym c.take_centers.ensures.0 ∙ c.if-take_centers.false))
 
 pub returns-else-take_column : goal.returns-else-take_column
 returns-else-take_column c =
-    let s = c.before.before.before.before.before.before.before.before.before.before.before in
-    sym (left-stop s.args.marks.now (whole s) s.args.marks.now (edges s) (centers s ++ others s) (first s) (sym c.take_column.ensures.0 ∙ c.if-take_column.false))
+    let s = c in
+    sym (left-stop s.args.marks.now (whole s) s.args.marks.now (edges s) (centers s ++ others s) (first c.before.before.before.before.before.before.before.before.before.before.before) (sym c.take_column.ensures.0 ∙ c.if-take_column.false))

@@ -16,4 +16,4 @@ pub returns : goal.returns
 returns c =
     let a = c.args in
     let l = c.take_line in
-    take-one a.marks.now l.new.0 (span_at 7 a.w.now) (center_span a.w.now) l.result (center_one a.w.now c.if-w-eq0.false) l.ensures.0 l.ensures.1
+    take-one a.marks.now l.new.marks (span_at 7 a.w.now) (center_span a.w.now) l.result (center_one a.w.now c.if-w-eq0.false) l.ensures.0 l.ensures.1

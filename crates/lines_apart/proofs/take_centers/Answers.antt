@@ -12,14 +12,15 @@ use Rattle.apart.proofs.Walk.{Left, left-start, left_lane, left-fits, left_step,
 use Rattle.lines_apart.proofs.take_centers.Goals as goal
 use Rattle.lines_apart.proofs.take_centers.Lts as lts
 use Rattle.lines_apart.proofs.take_centers.Reads as reads
+use Rattle.lines_apart.proofs.take_centers.Tie as tie
 
 abbrev AtInLoopI : Type 0
-AtInLoopI = lts.In-loop reads.Pre reads.Post goal.the-invariant-loop-i goal.the-decreases-loop-i
+AtInLoopI = lts.In-loop tie.the-claims reads.Pre reads.Post goal.the-invariant-loop-i goal.the-decreases-loop-i
 
 -- in a turn: the lane's row lies in the table, and its centreline is the next
 room : (c : AtInLoopI) → 1 + c.loop-i.i * 52 + 52 ≤ length c.args.t.now
 room c =
-    let s = c.before.before.before.before.before in
+    let s = c in
     row_in 1024 52 c.loop-i.i s.args.t.now s.requires.0 c.loop-i-test.true
 
 abbrev width : (c : AtInLoopI) → ℕ
@@ -51,25 +52,25 @@ pub loop-i-init : goal.loop-i-init
 loop-i-init c = let a = c.args in (omega arith, left-start a.marks.now (joined (rows 52 center_span a.t.now)) (joined (reads 52 center_span (word 0 a.t.now - 0) (drop (0 * 52) (drop 1 a.t.now)))) (ap joined (rows_start 52 center_span a.t.now)) c.requires.1)
 
 pub overflow_mul-at : goal.overflow_mul-at
-overflow_mul-at c = omega (arith, room (c.before))
+overflow_mul-at c = omega (arith, room c.before)
 
 pub overflow_add-at : goal.overflow_add-at
-overflow_add-at c = omega (arith, room (c.before))
+overflow_add-at c = omega (arith, room c.before)
 
 pub overflow_add-end : goal.overflow_add-end
-overflow_add-end c = omega (arith, room (c.before))
+overflow_add-end c = omega (arith, room c.before)
 
 pub offset_bounds-t-at : goal.offset_bounds-t-at
-offset_bounds-t-at c = omega (arith, room (c.before))
+offset_bounds-t-at c = omega (arith, room c.before)
 
 pub slice_bounds-take_center-count : goal.slice_bounds-take_center-count
 slice_bounds-take_center-count c = omega arith
 
 pub take_center-requires : goal.take_center-requires
 take_center-requires c =
-    let t = c.before.before.before in
-    let long = part_length c.args.t.now (1 + c.loop-i.i * 52) (width t) 52 (wide t) (room t) in
-    let fits = left-fits c.args.marks.now (whole t) c.loop-i.marks (center_span (lane t)) (rest t) (next t) in
+    let t = c in
+    let long = part_length c.args.t.now (1 + c.loop-i.i * 52) (width c.before.before.before) 52 (wide c.before.before.before) (room c.before.before.before) in
+    let fits = left-fits c.args.marks.now (whole c.before.before.before) c.loop-i.marks (center_span (lane c.before.before.before)) (rest c.before.before.before) (next c.before.before.before) in
     (long, fits)
 
 pub overflow_add-i : goal.overflow_add-i
@@ -80,17 +81,17 @@ loop-i-smaller c = omega arith
 
 pub loop-i-preserved : goal.loop-i-preserved
 loop-i-preserved c =
-    let t = c.before.before.before.before.before.before.before in
+    let t = c in
     let l = c.take_center in
-    (omega arith, left_step c.args.marks.now (whole t) c.loop-i.marks (center_span (lane t)) (rest t) (next t) l.new.1.0 l.auto.1.0 (sym l.ensures.0 ∙ c.if-take_center.true) (l.ensures.1 c.if-take_center.true))
+    (omega arith, left_step c.args.marks.now (whole c.before.before.before.before.before.before.before) c.loop-i.marks (center_span (lane c.before.before.before.before.before.before.before)) (rest c.before.before.before.before.before.before.before) (next c.before.before.before.before.before.before.before) l.new.marks.0 l.auto.1.0 (sym l.ensures.0 ∙ c.if-take_center.true) (l.ensures.1 c.if-take_center.true))
 
 pub shape_of-marks-else-take_center : goal.shape_of-marks-else-take_center
 shape_of-marks-else-take_center c = c.take_center.auto.1.0 ∙ c.loop-i.invariant.1.long
 
 pub returns-else-take_center : goal.returns-else-take_center
 returns-else-take_center c =
-    let t = c.before.before.before.before.before.before.before in
-    (sym (left-stop c.args.marks.now (whole t) c.loop-i.marks (center_span (lane t)) (rest t) (next t) (sym c.take_center.ensures.0 ∙ c.if-take_center.false)), λ h. never h)
+    let t = c in
+    (sym (left-stop c.args.marks.now (whole c.before.before.before.before.before.before.before) c.loop-i.marks (center_span (lane c.before.before.before.before.before.before.before)) (rest c.before.before.before.before.before.before.before) (next c.before.before.before.before.before.before.before) (sym c.take_center.ensures.0 ∙ c.if-take_center.false)), λ h. never h)
 
 pub shape_of-marks : goal.shape_of-marks
 shape_of-marks c = c.loop-i.invariant.1.long

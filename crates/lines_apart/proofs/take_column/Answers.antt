@@ -14,14 +14,15 @@ use Rattle.apart.proofs.Walk.{Left, left-start, left-row, left-fits, left_step, 
 use Rattle.lines_apart.proofs.take_column.Goals as goal
 use Rattle.lines_apart.proofs.take_column.Lts as lts
 use Rattle.lines_apart.proofs.take_column.Reads as reads
+use Rattle.lines_apart.proofs.take_column.Tie as tie
 
 abbrev AtInLoopI : Type 0
-AtInLoopI = lts.In-loop reads.Pre reads.Post goal.the-invariant-loop-i goal.the-decreases-loop-i
+AtInLoopI = lts.In-loop tie.the-claims reads.Pre reads.Post goal.the-invariant-loop-i goal.the-decreases-loop-i
 
 -- in a turn: the row lies in the table, and its line is the next
 room : (c : AtInLoopI) → 1 + c.loop-i.i * c.args.row + c.args.row ≤ length c.args.t.now
 room c =
-    let s = c.before.before.before.before.before in
+    let s = c in
     row_in 4096 s.args.row c.loop-i.i s.args.t.now s.requires.1.1.0 c.loop-i-test.true
 
 abbrev line : (c : AtInLoopI) → Span
@@ -39,7 +40,7 @@ whole c = let a = c.args in rows a.row (span_at a.k) a.t.now
 
 next : (c : AtInLoopI) → Left c.args.marks.now (whole c) c.loop-i.marks (line c ∷ rest c)
 next c =
-    let s = c.before.before.before.before.before in
+    let s = c in
     let a = s.args in
     left-row a.marks.now (whole c) c.loop-i.marks a.t.now a.row a.k (word 0 a.t.now) c.loop-i.i s.requires.0 c.loop-i-test.true c.loop-i.invariant.1
 
@@ -78,7 +79,7 @@ take_line-requires c = all_head (within (length c.loop-i.marks)) (line c.before.
 
 pub overflow_add-i : goal.overflow_add-i
 overflow_add-i c =
-    let s = c.before.before.before.before.before.before.before.before.before.before.before.before.before in
+    let s = c in
     omega (arith, (counted-facts 4096 s.args.row s.args.t.now s.requires.1.1.0).1.0)
 
 pub loop-i-smaller : goal.loop-i-smaller
@@ -86,18 +87,18 @@ loop-i-smaller c = omega arith
 
 pub loop-i-preserved : goal.loop-i-preserved
 loop-i-preserved c =
-    let t = c.before.before.before.before.before.before.before.before in
-    let e = take-one c.loop-i.marks c.take_line.new.0 (line t) (line t ∷ []) c.take_line.result refl c.take_line.ensures.0 c.take_line.ensures.1 in
-    (omega arith, left_step c.args.marks.now (whole t) c.loop-i.marks (line t ∷ []) (rest t) (next t) c.take_line.new.0 c.take_line.auto.0 (sym e.0 ∙ c.if-take_line.true) (e.1 c.if-take_line.true))
+    let t = c in
+    let e = take-one c.loop-i.marks c.take_line.new.marks (line c.before.before.before.before.before.before.before.before) (line c.before.before.before.before.before.before.before.before ∷ []) c.take_line.result refl c.take_line.ensures.0 c.take_line.ensures.1 in
+    (omega arith, left_step c.args.marks.now (whole c.before.before.before.before.before.before.before.before) c.loop-i.marks (line c.before.before.before.before.before.before.before.before ∷ []) (rest c.before.before.before.before.before.before.before.before) (next c.before.before.before.before.before.before.before.before) c.take_line.new.marks c.take_line.auto.0 (sym e.0 ∙ c.if-take_line.true) (e.1 c.if-take_line.true))
 
 pub shape_of-marks-else-take_line : goal.shape_of-marks-else-take_line
 shape_of-marks-else-take_line c = c.take_line.auto.0 ∙ c.loop-i.invariant.1.long
 
 pub returns-else-take_line : goal.returns-else-take_line
 returns-else-take_line c =
-    let t = c.before.before.before.before.before.before.before.before in
-    let e = take-one c.loop-i.marks c.take_line.new.0 (line t) (line t ∷ []) c.take_line.result refl c.take_line.ensures.0 c.take_line.ensures.1 in
-    (sym (left-stop c.args.marks.now (whole t) c.loop-i.marks (line t ∷ []) (rest t) (next t) (sym e.0 ∙ c.if-take_line.false)), λ h. never h)
+    let t = c in
+    let e = take-one c.loop-i.marks c.take_line.new.marks (line c.before.before.before.before.before.before.before.before) (line c.before.before.before.before.before.before.before.before ∷ []) c.take_line.result refl c.take_line.ensures.0 c.take_line.ensures.1 in
+    (sym (left-stop c.args.marks.now (whole c.before.before.before.before.before.before.before.before) c.loop-i.marks (line c.before.before.before.before.before.before.before.before ∷ []) (rest c.before.before.before.before.before.before.before.before) (next c.before.before.before.before.before.before.before.before) (sym e.0 ∙ c.if-take_line.false)), λ h. never h)
 
 pub shape_of-marks : goal.shape_of-marks
 shape_of-marks c = c.loop-i.invariant.1.long

@@ -33,14 +33,14 @@ pub loop-i-preserved : goal.loop-i-preserved
 loop-i-preserved c =
     let l = c.lane_met in
     let v = c.loop-i.invariant in
-    (omega (arith, c.loop-i-test.true), (l.auto.1.1.0 ∙ v.1.0, (l.ensures.1 c.if-lane_met.true, λ j h. ⊎_elim (λ e. rw e (sym l.ensures.0 ∙ c.if-lane_met.true)) (λ g. v.1.1.1 j g) (eq-or-lt_of_le (le_of_suc-le-suc (rw add-one at h))))))
+    (omega (arith, c.loop-i-test.true), (l.auto.met ∙ v.1.0, (l.ensures.1 c.if-lane_met.true, λ j h. ⊎_elim (λ e. rw e (sym l.ensures.0 ∙ c.if-lane_met.true)) (λ g. v.1.1.1 j g) (eq-or-lt_of_le (le_of_suc-le-suc (rw add-one at h))))))
 
 pub shape_of-met-else-lane_met : goal.shape_of-met-else-lane_met
-shape_of-met-else-lane_met c = c.lane_met.auto.1.1.0 ∙ c.loop-i.invariant.1.0
+shape_of-met-else-lane_met c = c.lane_met.auto.met ∙ c.loop-i.invariant.1.0
 
 pub returns-else-lane_met : goal.returns-else-lane_met
 returns-else-lane_met c =
-    let b = c.before.before.before.before.before.before.before.before.before.before.before.before in
+    let b = c in
     lane-stops b.args.t.now b.requires.0.0.sorted b.requires.0.1 c.loop-i.i c.loop-i-test.true (sym c.lane_met.ensures.0 ∙ c.if-lane_met.false)
 
 pub ends_met-requires : goal.ends_met-requires
@@ -51,7 +51,7 @@ shape_of-met c = c.loop-i.invariant.1.0
 
 pub returns : goal.returns
 returns c =
-    let b = c.before.before.before.before.before.before.before.before.before in
+    let b = c in
     let t = b.args.t.now in
     let l = c.loop-i in
     let z : l.i ≡ word 0 t = omega (arith, c.loop-i-test.false, l.invariant.0) in

@@ -13,23 +13,26 @@ bounds-t-0 c = omega (arith, lanes-some c.args.t.now c.requires.0)
 pub slice_bounds-list_ids-count : goal.slice_bounds-list_ids-count
 slice_bounds-list_ids-count c = lanes-some c.args.t.now c.requires.0
 
+pub slice_bounds-list_ids-start : goal.slice_bounds-list_ids-start
+slice_bounds-list_ids-start c = lanes-some c.args.t.now c.requires.0
+
 pub list_ids-requires : goal.list_ids-requires
 list_ids-requires c =
-    let b = c.before.before.before.before.before in
+    let b = c in
     let m = search-may b.args.t.now b.requires.0 in
     (m.0, (m.1.0, (lanes-few b.args.t.now b.requires.0, (refl, spare-all 1024))))
 
 pub links_returned-requires : goal.links_returned-requires
 links_returned-requires c =
-    let b = c.before.before.before.before.before.before.before.before in
+    let b = c in
     let l = c.list_ids in
-    (indexed b.args.t.now l.new.1.1.1.0 b.requires.0 l.auto.1.1.1.0 l.ensures, b.requires.1)
+    (indexed b.args.t.now l.new.ids b.requires.0 l.auto.ids l.ensures, b.requires.1)
 
 pub neighbors_returned-requires : goal.neighbors_returned-requires
 neighbors_returned-requires c =
-    let b = c.before.before.before.before.before.before.before.before.before.before in
+    let b = c in
     let l = c.list_ids in
-    indexed b.args.t.now l.new.1.1.1.0 b.requires.0 l.auto.1.1.1.0 l.ensures
+    indexed b.args.t.now l.new.ids b.requires.0 l.auto.ids l.ensures
 
 pub returns : goal.returns
 returns c = c.both.ensures ∙ rw (c.links_returned.ensures, c.neighbors_returned.ensures)

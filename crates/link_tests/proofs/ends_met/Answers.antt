@@ -73,4 +73,4 @@ pub returns-else-met-j : goal.returns-else-met-j
 returns-else-met-j c = sym (c.loop-j.invariant.1 ∙ (turn c.before.before.before.before ∙ rw (ne_eqb _ _ c.if-met-j.false)))
 
 pub returns : goal.returns
-returns c = let b = c.before.before.before in let v = c.loop-j-test.false in sym (c.loop-j.invariant.1 ∙ same_end b.args.met.now (rows 52 (word 18) b.args.t.now) c.loop-j.j (omega arith) (omega (arith, counts-many b.args.t.now, b.requires.1)))
+returns c = let b = c.before.before in let v = c.loop-j-test.false in sym (c.loop-j.invariant.1 ∙ same_end b.args.met.now (rows 52 (word 18) b.args.t.now) c.loop-j.j (omega arith) (omega (arith, counts-many b.args.t.now, b.requires.1)))

@@ -17,12 +17,13 @@ use Rattle.link_tests.proofs.Steps.{lane-moved}
 use Rattle.link_tests.proofs.lane_met.Goals as goal
 use Rattle.link_tests.proofs.lane_met.Lts as lts
 use Rattle.link_tests.proofs.lane_met.Reads as reads
+use Rattle.link_tests.proofs.lane_met.Tie as tie
 
 abbrev AtStart : Type 0
-AtStart = lts.Start reads.Pre reads.Post goal.the-invariant-loop-k goal.the-decreases-loop-k
+AtStart = lts.Start tie.the-claims reads.Pre reads.Post goal.the-invariant-loop-k goal.the-decreases-loop-k
 
 abbrev AtInLoopK : Type 0
-AtInLoopK = lts.In-loop reads.Pre reads.Post goal.the-invariant-loop-k goal.the-decreases-loop-k
+AtInLoopK = lts.In-loop tie.the-claims reads.Pre reads.Post goal.the-invariant-loop-k goal.the-decreases-loop-k
 
 abbrev words : (c : AtStart) → List ℕ
 words c = c.args.t.now
@@ -42,14 +43,14 @@ few c = links-within (words c) (sorted c) c.args.i c.requires.1.0 35 (inr refl)
 
 -- the links from one on, one after the other
 turn : (c : AtInLoopK)
-    → let b = c.before.before.before.before.before.before in
-    let s = ids_at 35 (lane_at (words b) b.args.i) in
+    → let b = c in
+    let s = ids_at 35 (lane_at (words c.before.before.before.before.before.before) b.args.i) in
     let k = c.loop-k.k in
-    lane_met (words b) b.args.i ≡ (link_met (words b) b.args.i (get_or s k 0) && all (link_met (words b) b.args.i) (drop (k + 1) s))
+    lane_met (words c.before.before.before.before.before.before) b.args.i ≡ (link_met (words c.before.before.before.before.before.before) b.args.i (get_or s k 0) && all (link_met (words c.before.before.before.before.before.before) b.args.i) (drop (k + 1) s))
 turn c =
-    let b = c.before.before.before.before.before.before in
-    let s = ids_at 35 (lane_at (words b) b.args.i) in
-    c.loop-k.invariant.1.1.1 ∙ all-step (link_met (words b) b.args.i) s c.loop-k.k 0 (rw (length-after (words b) (sorted b) b.args.i b.requires.1.0, ← count-is b) c.loop-k-test.true)
+    let b = c in
+    let s = ids_at 35 (lane_at (words c.before.before.before.before.before.before) b.args.i) in
+    c.loop-k.invariant.1.1.1 ∙ all-step (link_met (words c.before.before.before.before.before.before) b.args.i) s c.loop-k.k 0 (rw (length-after (words c.before.before.before.before.before.before) (sorted c.before.before.before.before.before.before) b.args.i b.requires.1.0, ← count-is c.before.before.before.before.before.before) c.loop-k-test.true)
 
 pub overflow_mul-count : goal.overflow_mul-count
 overflow_mul-count c = omega (arith, room c.before.before.before.before)
@@ -71,7 +72,7 @@ unfolding lane_met
 loop-k-init c = (omega arith, (refl, (c.requires.1.1, refl)))
 
 pub link_met-requires : goal.link_met-requires
-link_met-requires c = let b = c.before.before.before.before.before.before.before.before in (b.requires.0, (b.requires.1.0, (rw (← count-is b) c.loop-k-test.true, c.loop-k.invariant.1.1.0)))
+link_met-requires c = let b = c.before.before.before.before.before.before.before.before in (b.requires.0, (b.requires.1.0, (rw (← count-is c.before.before.before.before.before.before.before.before) c.loop-k-test.true, c.loop-k.invariant.1.1.0)))
 
 pub overflow_add-k : goal.overflow_add-k
 overflow_add-k c = omega (arith, few c.before.before.before.before.before.before.before.before.before.before.before.before, c.loop-k-test.true)
@@ -82,10 +83,10 @@ loop-k-smaller c = omega (arith, c.loop-k-test.true)
 pub loop-k-preserved : goal.loop-k-preserved
 loop-k-preserved c =
     let l = c.link_met in
-    (omega (arith, c.loop-k-test.true), (l.auto.1.1.0 ∙ c.loop-k.invariant.1.0, (l.ensures.1 c.if-link_met.true, turn c.before.before.before.before.before.before ∙ rw (← l.ensures.0, c.if-link_met.true))))
+    (omega (arith, c.loop-k-test.true), (l.auto.met ∙ c.loop-k.invariant.1.0, (l.ensures.1 c.if-link_met.true, turn c.before.before.before.before.before.before ∙ rw (← l.ensures.0, c.if-link_met.true))))
 
 pub shape_of-met-else-link_met : goal.shape_of-met-else-link_met
-shape_of-met-else-link_met c = c.link_met.auto.1.1.0 ∙ c.loop-k.invariant.1.0
+shape_of-met-else-link_met c = c.link_met.auto.met ∙ c.loop-k.invariant.1.0
 
 pub returns-else-link_met : goal.returns-else-link_met
 returns-else-link_met c =
@@ -97,10 +98,10 @@ shape_of-met c = c.loop-k.invariant.1.0
 
 pub returns : goal.returns
 returns c =
-    let b = c.before.before.before.before.before.before.before in
+    let b = c in
     let l = c.loop-k in
-    let s = ids_at 35 (lane_at (words b) b.args.i) in
-    let m : word 35 (lane_at (words b) b.args.i) ≤ l.k = omega (arith, c.loop-k-test.false, count-is b) in (
-      sym (l.invariant.1.1.1 ∙ all_end (link_met (words b) b.args.i) s l.k (rw (length-after (words b) (sorted b) b.args.i b.requires.1.0) m)),
-      λ z. l.invariant.1.1.0 ∙ lane-moved (words b) (sorted b) b.requires.0.1 b.args.i b.requires.1.0 l.k m,
+    let s = ids_at 35 (lane_at (words c.before.before.before.before.before.before.before) b.args.i) in
+    let m : word 35 (lane_at (words c.before.before.before.before.before.before.before) b.args.i) ≤ l.k = omega (arith, c.loop-k-test.false, count-is c.before.before.before.before.before.before.before) in (
+      sym (l.invariant.1.1.1 ∙ all_end (link_met (words c.before.before.before.before.before.before.before) b.args.i) s l.k (rw (length-after (words c.before.before.before.before.before.before.before) (sorted c.before.before.before.before.before.before.before) b.args.i b.requires.1.0) m)),
+      λ z. l.invariant.1.1.0 ∙ lane-moved (words c.before.before.before.before.before.before.before) (sorted c.before.before.before.before.before.before.before) b.requires.0.1 b.args.i b.requires.1.0 l.k m,
     )

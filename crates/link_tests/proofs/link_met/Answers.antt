@@ -17,15 +17,16 @@ use Rattle.link_tests.proofs.Steps.{link_at, ids-ready, id-found, cursors-many, 
 use Rattle.link_tests.proofs.link_met.Goals as goal
 use Rattle.link_tests.proofs.link_met.Lts as lts
 use Rattle.link_tests.proofs.link_met.Reads as reads
+use Rattle.link_tests.proofs.link_met.Tie as tie
 
 abbrev AtStart : Type 0
-AtStart = lts.Start reads.Pre reads.Post
+AtStart = lts.Start tie.the-claims reads.Pre reads.Post
 
 abbrev AtAfterFindIdFound : Type 0
-AtAfterFindIdFound = lts.After-find_id reads.Pre reads.Post
+AtAfterFindIdFound = lts.After-find_id tie.the-claims reads.Pre reads.Post
 
 abbrev AtInAt2 : Type 0
-AtInAt2 = lts.After-found reads.Pre reads.Post
+AtInAt2 = lts.After-found tie.the-claims reads.Pre reads.Post
 
 -- the row lies in the table, and its links in the row
 abbrev words : (c : AtStart) → List ℕ
@@ -52,27 +53,27 @@ many c = ap length c.requires.1.1.1 ∙ cursors-many (words c) c.args.i c.args.k
 -- what the search gives, of the lane as the list has it
 sought : (c : AtAfterFindIdFound) → row_with (lane c.before.before.before.before.before.before) (lane_ids (words c.before.before.before.before.before.before)) ≡ c.find_id-found.result
 sought c =
-    let b = c.before.before.before.before.before.before in
-    id-found (words b) b.args.ids.now b.requires.0.0 (lane b) c.find_id-found.result (rw (← linked b) c.find_id-found.ensures)
+    let b = c in
+    id-found (words c.before.before.before.before.before.before) b.args.ids.now b.requires.0.0 (lane c.before.before.before.before.before.before) c.find_id-found.result (rw (← linked c.before.before.before.before.before.before) c.find_id-found.ensures)
 
 -- the row that is found is one of the rows, and its list lies in it
 abbrev row : (c : AtInAt2) → ℕ
-row c = c.in-At.j
+row c = c.found-1.given.0.0
 
 at : (c : AtInAt2) → row_with (lane c.before.before.before.before.before.before.before.before) (lane_ids (words c.before.before.before.before.before.before.before.before)) ≡ At (row c)
-at c = sought c.before.before ∙ c.in-At.is
+at c = sought c.before.before ∙ c.found-1.given.1
 
 low : (c : AtInAt2) → row c < word 0 (words c.before.before.before.before.before.before.before.before)
-low c = let b = c.before.before.before.before.before.before.before.before in lane-found (words b) (sorted b) (lane b) (row c) (at c)
+low c = let b = c in lane-found (words c.before.before.before.before.before.before.before.before) (sorted c.before.before.before.before.before.before.before.before) (lane c.before.before.before.before.before.before.before.before) (row c) (at c)
 
 there : (c : AtInAt2) → 1 + row c * 52 + 52 ≤ length (words c.before.before.before.before.before.before.before.before)
-there c = let b = c.before.before.before.before.before.before.before.before in lane_room (words b) (sorted b) (row c) (low c)
+there c = let b = c in lane_room (words c.before.before.before.before.before.before.before.before) (sorted c.before.before.before.before.before.before.before.before) (row c) (low c)
 
 count : (c : AtInAt2) → get_or (words c.before.before.before.before.before.before.before.before) (1 + row c * 52 + 18) 0 ≡ word 18 (lane_at (words c.before.before.before.before.before.before.before.before) (row c))
 count c = word_at (words c.before.before.before.before.before.before.before.before) (row c) 18 (omega arith)
 
 before : (c : AtInAt2) → 18 + 1 + word 18 (lane_at (words c.before.before.before.before.before.before.before.before) (row c)) ≤ 52
-before c = let b = c.before.before.before.before.before.before.before.before in omega (arith, links-within (words b) (sorted b) (row c) (low c) 18 (inl refl), count c)
+before c = let b = c in omega (arith, links-within (words c.before.before.before.before.before.before.before.before) (sorted c.before.before.before.before.before.before.before.before) (row c) (low c) 18 (inl refl), count c)
 
 pub overflow_mul-at : goal.overflow_mul-at
 overflow_mul-at c = omega (arith, room c.before.before.before.before)
@@ -103,8 +104,8 @@ find_id-found-requires c = (c.requires.1.0, ids-ready (words c.before.before.bef
 
 pub returns-in_default : goal.returns-in_default
 returns-in_default c =
-    let b = c.before.before.before.before.before.before.before.before.before in
-    let e = link-absent (words b) (sorted b) b.requires.0.1 b.args.i b.requires.1.0 b.args.k b.requires.1.1.0 (sought c.before.before.before ∙ c.in_default.is) in
+    let b = c in
+    let e = link-absent (words c.before.before.before.before.before.before.before.before.before) (sorted c.before.before.before.before.before.before.before.before.before) b.requires.0.1 b.args.i b.requires.1.0 b.args.k b.requires.1.1.0 (sought c.before.before.before ∙ c.in_default.is) in
     (e, λ z. absurd (true≢false (sym z)))
 
 pub overflow_mul-before : goal.overflow_mul-before
@@ -157,16 +158,16 @@ bounds-t-at-then-cursor-t c = omega (arith, room c.before.before.before.before.b
 
 pub returns-then-cursor-t : goal.returns-then-cursor-t
 returns-then-cursor-t c =
-    let b = c.before.before.before.before.before.before.before.before.before.before.before.before.before.before.before in
-    let f = c.before.before.before.before.before.before.before in (
-      link-there (words b) (sorted b) b.requires.0.1 b.args.i b.requires.1.0 b.args.k b.requires.1.1.0 (row f) (at f) b.args.met.now b.requires.1.1.1 c.if-cursor-t.true,
-      λ z. link-moved (words b) (sorted b) b.requires.0.1 b.args.i b.requires.1.0 b.args.k b.requires.1.1.0 (row f) (at f) b.args.met.now b.requires.1.1.1,
+    let b = c in
+    let f = c in (
+      link-there (words c.before.before.before.before.before.before.before.before.before.before.before.before.before.before.before) (sorted c.before.before.before.before.before.before.before.before.before.before.before.before.before.before.before) b.requires.0.1 b.args.i b.requires.1.0 b.args.k b.requires.1.1.0 (row c.before.before.before.before.before.before.before) (at c.before.before.before.before.before.before.before) b.args.met.now b.requires.1.1.1 c.if-cursor-t.true,
+      λ z. link-moved (words c.before.before.before.before.before.before.before.before.before.before.before.before.before.before.before) (sorted c.before.before.before.before.before.before.before.before.before.before.before.before.before.before.before) b.requires.0.1 b.args.i b.requires.1.0 b.args.k b.requires.1.1.0 (row c.before.before.before.before.before.before.before) (at c.before.before.before.before.before.before.before) b.args.met.now b.requires.1.1.1,
     )
 
 pub returns : goal.returns
 returns c =
-    let b = c.before.before.before.before.before.before.before.before.before.before.before.before.before in
-    let f = c.before.before.before.before.before in (
-      link-past (words b) (sorted b) b.requires.0.1 b.args.i b.requires.1.0 b.args.k b.requires.1.1.0 (row f) (at f) b.args.met.now b.requires.1.1.1 (omega (arith, c.if-cursor-t.false)),
+    let b = c in
+    let f = c in (
+      link-past (words c.before.before.before.before.before.before.before.before.before.before.before.before.before) (sorted c.before.before.before.before.before.before.before.before.before.before.before.before.before) b.requires.0.1 b.args.i b.requires.1.0 b.args.k b.requires.1.1.0 (row c.before.before.before.before.before) (at c.before.before.before.before.before) b.args.met.now b.requires.1.1.1 (omega (arith, c.if-cursor-t.false)),
       λ z. absurd (true≢false (sym z)),
     )

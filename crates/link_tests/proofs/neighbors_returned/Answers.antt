@@ -11,9 +11,10 @@ use Rattle.row_tests.proofs.Lanes.{lanes-some, lanes-few, lane_row}
 use Rattle.link_tests.proofs.neighbors_returned.Goals as goal
 use Rattle.link_tests.proofs.neighbors_returned.Lts as lts
 use Rattle.link_tests.proofs.neighbors_returned.Reads as reads
+use Rattle.link_tests.proofs.neighbors_returned.Tie as tie
 
 abbrev AtAfterBoth : Type 0
-AtAfterBoth = lts.After-both reads.Pre reads.Post goal.the-invariant-loop-i goal.the-decreases-loop-i
+AtAfterBoth = lts.After-both tie.the-claims reads.Pre reads.Post goal.the-invariant-loop-i goal.the-decreases-loop-i
 
 -- what the calls say, of the row as a pass reads it
 tested : (c : AtAfterBoth)

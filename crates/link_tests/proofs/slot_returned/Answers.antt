@@ -15,18 +15,19 @@ use Rattle.link_tests.proofs.Steps.{ids-ready, id-found}
 use Rattle.link_tests.proofs.slot_returned.Goals as goal
 use Rattle.link_tests.proofs.slot_returned.Lts as lts
 use Rattle.link_tests.proofs.slot_returned.Reads as reads
+use Rattle.link_tests.proofs.slot_returned.Tie as tie
 
 abbrev AtStart : Type 0
-AtStart = lts.Start reads.Pre reads.Post
+AtStart = lts.Start tie.the-claims reads.Pre reads.Post
 
 abbrev AtAfterFindIdFound : Type 0
-AtAfterFindIdFound = lts.After-find_id reads.Pre reads.Post
+AtAfterFindIdFound = lts.After-find_id tie.the-claims reads.Pre reads.Post
 
 abbrev AtInAt2 : Type 0
-AtInAt2 = lts.After-found reads.Pre reads.Post
+AtInAt2 = lts.After-found tie.the-claims reads.Pre reads.Post
 
 abbrev AtAfterAnswerPlace : Type 0
-AtAfterAnswerPlace = lts.After-answer_place reads.Pre reads.Post
+AtAfterAnswerPlace = lts.After-answer_place tie.the-claims reads.Pre reads.Post
 
 abbrev words : (c : AtStart) → List ℕ
 words c = c.args.t.now
@@ -47,18 +48,18 @@ named c = get_or (words c) (1 + c.args.i * 52 + c.args.k + 1) 0
 
 sought : (c : AtAfterFindIdFound) → row_with (named c.before.before.before.before.before.before.before) (lane_ids (words c.before.before.before.before.before.before.before)) ≡ c.find_id-found.result
 sought c =
-    let b = c.before.before.before.before.before.before.before in
-    id-found (words b) b.args.ids.now b.requires.0 (named b) c.find_id-found.result c.find_id-found.ensures
+    let b = c in
+    id-found (words c.before.before.before.before.before.before.before) b.args.ids.now b.requires.0 (named c.before.before.before.before.before.before.before) c.find_id-found.result c.find_id-found.ensures
 
 -- the row that is found is one of the rows, and the answering slot lies in it
 abbrev first : (c : AtInAt2) → AtStart
 first c = c.before.before.before.before.before.before.before.before.before
 
 abbrev row : (c : AtInAt2) → ℕ
-row c = c.in-At.j
+row c = c.found-1.given.0.0
 
 at : (c : AtInAt2) → row_with (named (first c)) (lane_ids (words (first c))) ≡ At (row c)
-at c = sought c.before.before ∙ c.in-At.is
+at c = sought c.before.before ∙ c.found-1.given.1
 
 there : (c : AtInAt2) → 1 + row c * 52 + 52 ≤ length (words (first c))
 there c = let b = first c in lane_room (words b) (sorted b) (row c) (lane-found (words b) (sorted b) (named b) (row c) (at c))
@@ -84,7 +85,7 @@ pub bounds-t-at : goal.bounds-t-at
 bounds-t-at c = omega (arith, room c.before.before.before.before, slot c.before.before.before.before)
 
 pub returns-then-mark-eq0 : goal.returns-then-mark-eq0
-returns-then-mark-eq0 c = let b = c.before.before.before.before.before in slot-none (words b) b.args.i b.args.k (slot b) c.if-mark-eq0.true
+returns-then-mark-eq0 c = let b = c.before.before.before.before.before in slot-none (words c.before.before.before.before.before) b.args.i b.args.k (slot c.before.before.before.before.before) c.if-mark-eq0.true
 
 pub bounds-t-0 : goal.bounds-t-0
 bounds-t-0 c = omega (arith, room c.before.before.before.before.before.before)
@@ -102,10 +103,10 @@ pub bounds-t-at-2 : goal.bounds-t-at-2
 bounds-t-at-2 c = omega (arith, room c.before.before.before.before.before.before.before, slot c.before.before.before.before.before.before.before)
 
 pub find_id-found-requires : goal.find_id-found-requires
-find_id-found-requires c = let b = c.before.before.before.before.before.before.before in (b.requires.1.1, ids-ready (words b) b.args.ids.now b.requires.0)
+find_id-found-requires c = let b = c.before.before.before.before.before.before.before in (b.requires.1.1, ids-ready (words c.before.before.before.before.before.before.before) b.args.ids.now b.requires.0)
 
 pub returns-in_default : goal.returns-in_default
-returns-in_default c = let b = c.before.before.before.before.before.before.before.before.before.before in slot-absent (words b) b.args.i b.args.k (slot b) c.if-mark-eq0.false (sought c.before.before.before ∙ c.in_default.is)
+returns-in_default c = let b = c.before.before.before.before.before.before.before.before.before.before in slot-absent (words c.before.before.before.before.before.before.before.before.before.before) b.args.i b.args.k (slot c.before.before.before.before.before.before.before.before.before.before) c.if-mark-eq0.false (sought c.before.before.before ∙ c.in_default.is)
 
 pub overflow_mul-answer : goal.overflow_mul-answer
 overflow_mul-answer c = omega (arith, there c.before.before)
@@ -114,10 +115,10 @@ pub overflow_add-answer : goal.overflow_add-answer
 overflow_add-answer c = omega (arith, there c.before.before)
 
 pub overflow_add-answer-2 : goal.overflow_add-answer-2
-overflow_add-answer-2 c = omega (arith, there c.before.before.before, answer (c.before))
+overflow_add-answer-2 c = omega (arith, there c.before.before.before, answer c.before)
 
 pub offset_bounds-t-answer : goal.offset_bounds-t-answer
-offset_bounds-t-answer c = omega (arith, there c.before.before.before, answer (c.before))
+offset_bounds-t-answer c = omega (arith, there c.before.before.before, answer c.before)
 
 pub bounds-t-answer : goal.bounds-t-answer
 bounds-t-answer c = omega (arith, there c.before.before.before.before, answer c.before.before)
@@ -139,6 +140,6 @@ bounds-t-at-3 c = omega (arith, room c.before.before.before.before.before.before
 
 pub returns : goal.returns
 returns c =
-    let b = c.before.before.before.before.before.before.before.before.before.before.before.before.before.before.before.before in
+    let b = c in
     let p = c.answer_place in
-    c.both.ensures ∙ slot-there (words b) b.args.i b.args.k (slot b) c.if-mark-eq0.false (row c.before.before.before.before.before.before.before) p.result (answer c.before.before.before.before.before) (at c.before.before.before.before.before.before.before) p.ensures
+    c.both.ensures ∙ slot-there (words c.before.before.before.before.before.before.before.before.before.before.before.before.before.before.before.before) b.args.i b.args.k (slot c.before.before.before.before.before.before.before.before.before.before.before.before.before.before.before.before) c.if-mark-eq0.false (row c.before.before.before.before.before.before.before) p.result (answer c.before.before.before.before.before) (at c.before.before.before.before.before.before.before) p.ensures

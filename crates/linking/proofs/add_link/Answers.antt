@@ -35,7 +35,7 @@ pub insert_sorted-requires : goal.insert_sorted-requires
 insert_sorted-requires c = (c.requires.0, (c.requires.1.0, (inr refl, add-first c.args.lanes.now c.requires.0 c.args.i c.args.j c.requires.1.0 c.requires.1.1.0 c.requires.1.1.1.0 c.requires.1.1.1.1)))
 
 pub insert_sorted-requires-2 : goal.insert_sorted-requires-2
-insert_sorted-requires-2 c = add-second c.args.lanes.now c.requires.0 c.args.i c.args.j c.requires.1.0 c.requires.1.1.0 c.requires.1.1.1.0 c.requires.1.1.1.1 c.insert_sorted.new.0 c.insert_sorted.ensures
+insert_sorted-requires-2 c = add-second c.args.lanes.now c.requires.0 c.args.i c.args.j c.requires.1.0 c.requires.1.1.0 c.requires.1.1.1.0 c.requires.1.1.1.1 c.insert_sorted.new.lanes c.insert_sorted.ensures
 
 pub returns : goal.returns
-returns c = add-both c.args.lanes.now c.requires.0 c.args.i c.args.j c.requires.1.0 c.requires.1.1.0 c.requires.1.1.1.0 c.requires.1.1.1.1 c.insert_sorted.new.0 c.insert_sorted-2.new.0 c.insert_sorted.ensures c.insert_sorted-2.ensures
+returns c = add-both c.args.lanes.now c.requires.0 c.args.i c.args.j c.requires.1.0 c.requires.1.1.0 c.requires.1.1.1.0 c.requires.1.1.1.1 c.insert_sorted.new.lanes c.insert_sorted-2.new.lanes c.insert_sorted.ensures c.insert_sorted-2.ensures

@@ -39,7 +39,7 @@ pub offset_bounds-lanes-at-2 : goal.offset_bounds-lanes-at-2
 offset_bounds-lanes-at-2 c = omega (arith, links-room c.args.lanes.now c.requires.0 c.args.i c.args.k c.requires.1.0 c.requires.1.1.0)
 
 pub bounds-lanes-at-2 : goal.bounds-lanes-at-2
-bounds-lanes-at-2 c = (insert-leaves c.args.lanes.now c.requires.0 c.args.i c.args.k c.requires.1.0 c.requires.1.1.0 c.args.id c.insert.new.0 c.requires.1.1.1 c.insert.ensures).0
+bounds-lanes-at-2 c = (insert-leaves c.args.lanes.now c.requires.0 c.args.i c.args.k c.requires.1.0 c.requires.1.1.0 c.args.id c.insert.new.slots c.requires.1.1.1 c.insert.ensures).0
 
 pub returns : goal.returns
-returns c = (insert-leaves c.args.lanes.now c.requires.0 c.args.i c.args.k c.requires.1.0 c.requires.1.1.0 c.args.id c.insert.new.0 c.requires.1.1.1 c.insert.ensures).1
+returns c = (insert-leaves c.args.lanes.now c.requires.0 c.args.i c.args.k c.requires.1.0 c.requires.1.1.0 c.args.id c.insert.new.slots c.requires.1.1.1 c.insert.ensures).1

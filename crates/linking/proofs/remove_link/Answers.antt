@@ -35,7 +35,7 @@ pub remove_sorted-requires : goal.remove_sorted-requires
 remove_sorted-requires c = (c.requires.0, (c.requires.1.0, inr refl))
 
 pub remove_sorted-requires-2 : goal.remove_sorted-requires-2
-remove_sorted-requires-2 c = remove-second c.args.lanes.now c.requires.0 c.args.i c.args.j c.requires.1.0 c.requires.1.1 c.remove_sorted.new.0 c.remove_sorted.ensures
+remove_sorted-requires-2 c = remove-second c.args.lanes.now c.requires.0 c.args.i c.args.j c.requires.1.0 c.requires.1.1 c.remove_sorted.new.lanes c.remove_sorted.ensures
 
 pub returns : goal.returns
-returns c = remove-both c.args.lanes.now c.requires.0 c.args.i c.args.j c.requires.1.0 c.requires.1.1 c.remove_sorted.new.0 c.remove_sorted-2.new.0 c.remove_sorted.ensures c.remove_sorted-2.ensures
+returns c = remove-both c.args.lanes.now c.requires.0 c.args.i c.args.j c.requires.1.0 c.requires.1.1 c.remove_sorted.new.lanes c.remove_sorted-2.new.lanes c.remove_sorted.ensures c.remove_sorted-2.ensures

@@ -36,7 +36,7 @@ pub offset_bounds-lanes-at-2 : goal.offset_bounds-lanes-at-2
 offset_bounds-lanes-at-2 c = omega (arith, links-room c.args.lanes.now c.requires.0 c.args.i c.args.k c.requires.1.0 c.requires.1.1)
 
 pub bounds-lanes-at-2 : goal.bounds-lanes-at-2
-bounds-lanes-at-2 c = (remove-leaves c.args.lanes.now c.requires.0 c.args.i c.args.k c.requires.1.0 c.requires.1.1 c.args.id c.remove-left.result c.remove-left.new.0 c.remove-left.ensures.0 c.remove-left.ensures.1).0
+bounds-lanes-at-2 c = (remove-leaves c.args.lanes.now c.requires.0 c.args.i c.args.k c.requires.1.0 c.requires.1.1 c.args.id c.remove-left.result c.remove-left.new.slots c.remove-left.ensures.0 c.remove-left.ensures.1).0
 
 pub returns : goal.returns
-returns c = (remove-leaves c.args.lanes.now c.requires.0 c.args.i c.args.k c.requires.1.0 c.requires.1.1 c.args.id c.remove-left.result c.remove-left.new.0 c.remove-left.ensures.0 c.remove-left.ensures.1).1
+returns c = (remove-leaves c.args.lanes.now c.requires.0 c.args.i c.args.k c.requires.1.0 c.requires.1.1 c.args.id c.remove-left.result c.remove-left.new.slots c.remove-left.ensures.0 c.remove-left.ensures.1).1

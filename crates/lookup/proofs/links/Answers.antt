@@ -41,5 +41,8 @@ overflow_add-to c = omega (arith, room c.before.before)
 pub offset_bounds-lanes-from : goal.offset_bounds-lanes-from
 offset_bounds-lanes-from c = omega (arith, room c.before.before)
 
+pub slice_bounds-result-end : goal.slice_bounds-result-end
+slice_bounds-result-end c = omega (arith, room c.before.before)
+
 pub returns : goal.returns
 returns c = ids_at_lem c.args.lanes.now c.args.i c.args.column (room c.before.before.before).1

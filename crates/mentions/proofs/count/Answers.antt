@@ -9,9 +9,10 @@ use Rattle.mentions.proofs.Turns.{formed-some, formed-few, lent-room, lent-forme
 use Rattle.mentions.proofs.count.Goals as goal
 use Rattle.mentions.proofs.count.Lts as lts
 use Rattle.mentions.proofs.count.Reads as reads
+use Rattle.mentions.proofs.count.Tie as tie
 
 abbrev AtInLoopI : Type 0
-AtInLoopI = lts.In-loop reads.Pre reads.Post goal.the-invariant-loop-i goal.the-decreases-loop-i
+AtInLoopI = lts.In-loop tie.the-claims reads.Pre reads.Post goal.the-invariant-loop-i goal.the-decreases-loop-i
 
 -- row i lies within the table
 row : (c : AtInLoopI) → 1 + c.loop-i.i * c.row_words-s.result + c.row_words-s.result ≤ length c.args.t.now

@@ -9,9 +9,10 @@ use Rattle.mentions.proofs.Turns.{formed-some, formed-few, lent-room, words-some
 use Rattle.mentions.proofs.list.Goals as goal
 use Rattle.mentions.proofs.list.Lts as lts
 use Rattle.mentions.proofs.list.Reads as reads
+use Rattle.mentions.proofs.list.Tie as tie
 
 abbrev AtInLoopI : Type 0
-AtInLoopI = lts.In-loop reads.Pre reads.Post goal.the-invariant-loop-i goal.the-decreases-loop-i
+AtInLoopI = lts.In-loop tie.the-claims reads.Pre reads.Post goal.the-invariant-loop-i goal.the-decreases-loop-i
 
 -- row i lies within the table
 row : (c : AtInLoopI) → 1 + c.loop-i.i * c.row_words-s.result + c.row_words-s.result ≤ length c.args.t.now
@@ -71,7 +72,7 @@ loop-i-preserved c =
     let s = c.row_words-s in
     let b = c.names_lane-on in
     let p = c.put_where-place in
-    list-turn a.rows a.id a.t.now a.out.now a.at c.requires.1 l.out l.i l.place l.invariant s.result s.ensures c.loop-i-test.true b.result b.ensures c.number-kind.result (c.number-kind.ensures ∙ ap kind_number c.row_kind.ensures) p.new.1.1.1.0 p.result p.ensures.0 p.ensures.1
+    list-turn a.rows a.id a.t.now a.out.now a.at c.requires.1 l.out l.i l.place l.invariant s.result s.ensures c.loop-i-test.true b.result b.ensures c.number-kind.result (c.number-kind.ensures ∙ ap kind_number c.row_kind.ensures) p.new.out p.result p.ensures.0 p.ensures.1
 
 pub shape_of-out : goal.shape_of-out
 shape_of-out c =

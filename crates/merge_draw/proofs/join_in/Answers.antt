@@ -16,12 +16,13 @@ use Rattle.merge_draw.proofs.Laws.{side-small, side-room, side-back, joined-room
 use Rattle.merge_draw.proofs.join_in.Goals as goal
 use Rattle.merge_draw.proofs.join_in.Lts as lts
 use Rattle.merge_draw.proofs.join_in.Reads as reads
+use Rattle.merge_draw.proofs.join_in.Tie as tie
 
 abbrev AtAfterPointsM : Type 0
-AtAfterPointsM = lts.After-points2 reads.Pre reads.Post
+AtAfterPointsM = lts.After-points2 tie.the-claims reads.Pre reads.Post
 
 abbrev AtAfterConcatSize : Type 0
-AtAfterConcatSize = lts.After-concat reads.Pre reads.Post
+AtAfterConcatSize = lts.After-concat tie.the-claims reads.Pre reads.Post
 
 -- both sides, and what was written of them
 abbrev join : AtAfterPointsM → Float
@@ -40,10 +41,10 @@ abbrev b : AtAfterPointsM → Line
 b c = points_or (two c)
 
 abbrev oneOut : AtAfterPointsM → List Float
-oneOut c = c.oriented_boundary.new.1.1.1.1.1.0
+oneOut c = c.oriented_boundary.new.out.0
 
 abbrev twoOut : AtAfterPointsM → List Float
-twoOut c = c.oriented_boundary-2.new.1.1.1.1.1.0
+twoOut c = c.oriented_boundary-2.new.out.0
 
 abbrev ps : AtAfterPointsM → Line
 ps c = points (take (c.points-n.result * 3) (oneOut c))
@@ -80,37 +81,37 @@ abbrev lineOut : AtAfterConcatSize → List Float
 lineOut c = c.concat.new.1.1.1.0
 
 small_line : (c : AtAfterConcatSize) → c.concat-size.result * 3 ≤ 1536
-small_line c = joined_small (join c.before.before.before.before) (a c.before.before.before.before) (b c.before.before.before.before) (ps c.before.before.before.before) (qs c.before.before.before.before) (back_one c.before.before.before.before) (back-two c.before.before.before.before) (few-one c.before.before.before.before) (few-two c.before.before.before.before) c.args.line.now c.requires.1.1.1 (lineOut c) c.concat-size.result c.concat-size.ensures.0 c.concat-size.ensures.1
+small_line c = joined_small (join c.before.before.before.before) (a c.before.before.before.before) (b c.before.before.before.before) (ps c.before.before.before.before) (qs c.before.before.before.before) (back_one c.before.before) (back-two c.before.before) (few-one c.before.before) (few-two c.before.before) c.args.line.now c.requires.1.1.1 (lineOut c) c.concat-size.result c.concat-size.ensures.0 c.concat-size.ensures.1
 
 room-line : (c : AtAfterConcatSize) → c.concat-size.result * 3 ≤ length (lineOut c)
-room-line c = joined-reach (join c.before.before.before.before) (a c.before.before.before.before) (b c.before.before.before.before) (ps c.before.before.before.before) (qs c.before.before.before.before) (back_one c.before.before.before.before) (back-two c.before.before.before.before) (few-one c.before.before.before.before) (few-two c.before.before.before.before) c.args.line.now c.requires.1.1.1 (lineOut c) c.concat-size.result c.concat-size.ensures.0 c.concat-size.ensures.1
+room-line c = joined-reach (join c.before.before.before.before) (a c.before.before.before.before) (b c.before.before.before.before) (ps c.before.before.before.before) (qs c.before.before.before.before) (back_one c.before.before) (back-two c.before.before) (few-one c.before.before) (few-two c.before.before) c.args.line.now c.requires.1.1.1 (lineOut c) c.concat-size.result c.concat-size.ensures.0 c.concat-size.ensures.1
 
 back-line : (c : AtAfterConcatSize) → points (take (c.concat-size.result * 3) (lineOut c)) ≡ concat (join c.before.before.before.before) (a c.before.before.before.before) (b c.before.before.before.before)
-back-line c = joined_back (join c.before.before.before.before) (a c.before.before.before.before) (b c.before.before.before.before) (ps c.before.before.before.before) (qs c.before.before.before.before) (back_one c.before.before.before.before) (back-two c.before.before.before.before) (few-one c.before.before.before.before) (few-two c.before.before.before.before) c.args.line.now c.requires.1.1.1 (lineOut c) c.concat-size.result c.concat-size.ensures.0 c.concat-size.ensures.1
+back-line c = joined_back (join c.before.before.before.before) (a c.before.before.before.before) (b c.before.before.before.before) (ps c.before.before.before.before) (qs c.before.before.before.before) (back_one c.before.before) (back-two c.before.before) (few-one c.before.before) (few-two c.before.before) c.args.line.now c.requires.1.1.1 (lineOut c) c.concat-size.result c.concat-size.ensures.0 c.concat-size.ensures.1
 
 fits_line : (c : AtAfterConcatSize) → length (points (take (c.concat-size.result * 3) (lineOut c))) * 3 ≤ length c.args.out.now
-fits_line c = joined-fits (join c.before.before.before.before) (a c.before.before.before.before) (b c.before.before.before.before) (ps c.before.before.before.before) (qs c.before.before.before.before) (back_one c.before.before.before.before) (back-two c.before.before.before.before) (few-one c.before.before.before.before) (few-two c.before.before.before.before) c.args.line.now c.requires.1.1.1 (lineOut c) c.concat-size.result c.concat-size.ensures.0 c.concat-size.ensures.1 c.args.out.now c.requires.0.room
+fits_line c = joined-fits (join c.before.before.before.before) (a c.before.before.before.before) (b c.before.before.before.before) (ps c.before.before.before.before) (qs c.before.before.before.before) (back_one c.before.before) (back-two c.before.before) (few-one c.before.before) (few-two c.before.before) c.args.line.now c.requires.1.1.1 (lineOut c) c.concat-size.result c.concat-size.ensures.0 c.concat-size.ensures.1 c.args.out.now c.requires.0.room
 
 pub overflow_mul-one_end : goal.overflow_mul-one_end
-overflow_mul-one_end c = omega (arith, small_one (c.before))
+overflow_mul-one_end c = omega (arith, small_one c.before)
 
 pub overflow_mul-two_end : goal.overflow_mul-two_end
-overflow_mul-two_end c = omega (arith, small-two (c.before))
+overflow_mul-two_end c = omega (arith, small-two c.before)
 
 pub slice_bounds-concat-end : goal.slice_bounds-concat-end
-slice_bounds-concat-end c = room-one (c.before)
+slice_bounds-concat-end c = room-one c.before
 
 pub slice_bounds-concat-end-2 : goal.slice_bounds-concat-end-2
-slice_bounds-concat-end-2 c = sym (length-take-le (c.points-n.result * 3) (oneOut c.before.before) (room-one c.before.before))
+slice_bounds-concat-end-2 c = sym (length-take-le (c.points-n.result * 3) (oneOut c.before.before) (room-one c.before))
 
 pub slice_bounds-concat-end-3 : goal.slice_bounds-concat-end-3
-slice_bounds-concat-end-3 c = room-two c.before.before
+slice_bounds-concat-end-3 c = room-two c.before
 
 pub slice_bounds-concat-end-4 : goal.slice_bounds-concat-end-4
-slice_bounds-concat-end-4 c = sym (length-take-le (c.points-m.result * 3) (twoOut c.before.before.before) (room-two c.before.before.before))
+slice_bounds-concat-end-4 c = sym (length-take-le (c.points-m.result * 3) (twoOut c.before.before.before) (room-two c.before))
 
 pub concat-size-requires : goal.concat-size-requires
-concat-size-requires c = joined-room (join c.before.before.before.before) (a c.before.before.before.before) (b c.before.before.before.before) (ps c.before.before.before.before) (qs c.before.before.before.before) (back_one c.before.before.before.before) (back-two c.before.before.before.before) (few-one c.before.before.before.before) (few-two c.before.before.before.before) c.args.line.now c.requires.1.1.1
+concat-size-requires c = joined-room (join c.before.before.before.before) (a c.before.before.before.before) (b c.before.before.before.before) (ps c.before.before.before.before) (qs c.before.before.before.before) (back_one c.before.before) (back-two c.before.before) (few-one c.before.before) (few-two c.before.before) c.args.line.now c.requires.1.1.1
 
 pub overflow_mul-end : goal.overflow_mul-end
 overflow_mul-end c = omega (arith, small_line c.before.before.before)
@@ -119,10 +120,10 @@ pub slice_bounds-put_line-end : goal.slice_bounds-put_line-end
 slice_bounds-put_line-end c = room-line c.before.before.before
 
 pub slice_bounds-put_line-end-2 : goal.slice_bounds-put_line-end-2
-slice_bounds-put_line-end-2 c = sym (length-take-le (c.concat-size.result * 3) (lineOut c.before.before.before.before) (room-line c.before.before.before.before))
+slice_bounds-put_line-end-2 c = sym (length-take-le (c.concat-size.result * 3) (lineOut c.before.before.before.before) (room-line c.before.before.before))
 
 pub put_line-requires : goal.put_line-requires
-put_line-requires c = fits_line c.before.before.before.before.before
+put_line-requires c = fits_line c.before.before.before.before
 
 pub returns : goal.returns
-returns c = line-drawn (concat (join c.before.before.before.before.before.before.before.before.before.before.before.before) (a c.before.before.before.before.before.before.before.before.before.before.before.before) (b c.before.before.before.before.before.before.before.before.before.before.before.before)) (points (take (c.concat-size.result * 3) (lineOut c.before.before.before.before.before.before.before.before))) (back-line c.before.before.before.before.before.before.before.before) c.args.back c.put_line.result c.args.out.now c.put_line.new.1.1.0 c.put_line.ensures.0 c.put_line.ensures.1
+returns c = line-drawn (concat (join c.before.before.before.before.before.before.before.before.before.before.before.before) (a c.before.before.before.before.before.before.before.before.before.before.before.before) (b c.before.before.before.before.before.before.before.before.before.before.before.before)) (points (take (c.concat-size.result * 3) (lineOut c.before.before.before.before.before.before.before.before))) (back-line c.before.before.before.before.before.before.before) c.args.back c.put_line.result c.args.out.now c.put_line.new.out.0 c.put_line.ensures.0 c.put_line.ensures.1

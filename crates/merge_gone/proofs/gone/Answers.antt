@@ -11,24 +11,25 @@ use Rattle.merge_gone.proofs.Going.{Gathered, gathered_none, gathered-room, gath
 use Rattle.merge_gone.proofs.gone.Goals as goal
 use Rattle.merge_gone.proofs.gone.Lts as lts
 use Rattle.merge_gone.proofs.gone.Reads as reads
+use Rattle.merge_gone.proofs.gone.Tie as tie
 
 abbrev AtAfterBoundaryRefD : Type 0
-AtAfterBoundaryRefD = lts.After-boundary_ref4 reads.Pre reads.Post
+AtAfterBoundaryRefD = lts.After-boundary_ref4 tie.the-claims reads.Pre reads.Post
 
 abbrev AtStart : Type 0
-AtStart = lts.Start reads.Pre reads.Post
+AtStart = lts.Start tie.the-claims reads.Pre reads.Post
 
 abbrev AtAfterAddGoneOne : Type 0
-AtAfterAddGoneOne = lts.After-add_gone reads.Pre reads.Post
+AtAfterAddGoneOne = lts.After-add_gone tie.the-claims reads.Pre reads.Post
 
 abbrev AtAfterAddGoneTwo : Type 0
-AtAfterAddGoneTwo = lts.After-add_gone2 reads.Pre reads.Post
+AtAfterAddGoneTwo = lts.After-add_gone2 tie.the-claims reads.Pre reads.Post
 
 abbrev AtAfterAddGoneThree : Type 0
-AtAfterAddGoneThree = lts.After-add_gone3 reads.Pre reads.Post
+AtAfterAddGoneThree = lts.After-add_gone3 tie.the-claims reads.Pre reads.Post
 
 abbrev AtAfterAddGone : Type 0
-AtAfterAddGone = lts.After-add_gone4 reads.Pre reads.Post
+AtAfterAddGone = lts.After-add_gone4 tie.the-claims reads.Pre reads.Post
 
 -- b: the lanes' four boundaries are read
 abbrev start : AtAfterBoundaryRefD → AtStart
@@ -58,17 +59,17 @@ adds b x ids = with_gone (leaves b x) x ids
 room : (b : AtAfterBoundaryRefD) → 3 < length (out b)
 room b = omega (arith, (start b).requires.1)
 
-one : (c : AtAfterAddGoneOne) → let b = c.before.before in Gathered (out b) c.add_gone-one.new.1.1.1.1.1.1.1.0 1 c.add_gone-one.result (adds b (left b) [])
-one c = let b = c.before.before in let r = room b in gathered-more (gathered_none (out b)) (omega arith) (leaves b (left b)) (left b) c.add_gone-one.ensures
+one : (c : AtAfterAddGoneOne) → let b = c in Gathered (out b) c.add_gone-one.new.out 1 c.add_gone-one.result (adds b (left b) [])
+one c = let b = c in let r = room c.before.before in gathered-more (gathered_none (out b)) (omega arith) (leaves b (left b)) (left b) c.add_gone-one.ensures
 
-two : (c : AtAfterAddGoneTwo) → let b = c.before.before.before.before.before.before in Gathered (out b) c.add_gone-two.new.1.1.1.1.1.1.1.0 2 c.add_gone-two.result (adds b (right b) (adds b (left b) []))
-two c = let b = c.before.before.before.before.before.before in let r = room b in gathered-more (one c.before.before.before.before) (omega arith) (leaves b (right b)) (right b) c.add_gone-two.ensures
+two : (c : AtAfterAddGoneTwo) → let b = c in Gathered (out b) c.add_gone-two.new.out 2 c.add_gone-two.result (adds b (right b) (adds b (left b) []))
+two c = let b = c in let r = room c.before.before.before.before.before.before in gathered-more (one c.before.before.before.before) (omega arith) (leaves b (right b)) (right b) c.add_gone-two.ensures
 
-three : (c : AtAfterAddGoneThree) → let b = c.before.before.before.before.before.before.before.before.before.before in Gathered (out b) c.add_gone-three.new.1.1.1.1.1.1.1.0 3 c.add_gone-three.result (adds b (left2 b) (adds b (right b) (adds b (left b) [])))
-three c = let b = c.before.before.before.before.before.before.before.before.before.before in let r = room b in gathered-more (two c.before.before.before.before) (omega arith) (leaves b (left2 b)) (left2 b) c.add_gone-three.ensures
+three : (c : AtAfterAddGoneThree) → let b = c in Gathered (out b) c.add_gone-three.new.out 3 c.add_gone-three.result (adds b (left2 b) (adds b (right b) (adds b (left b) [])))
+three c = let b = c in let r = room c.before.before.before.before.before.before.before.before.before.before in gathered-more (two c.before.before.before.before) (omega arith) (leaves b (left2 b)) (left2 b) c.add_gone-three.ensures
 
-four : (c : AtAfterAddGone) → let b = c.before.before.before.before.before.before.before.before.before.before.before.before.before.before in Gathered (out b) c.add_gone.new.1.1.1.1.1.1.1.0 4 c.add_gone.result (adds b (right2 b) (adds b (left2 b) (adds b (right b) (adds b (left b) []))))
-four c = let b = c.before.before.before.before.before.before.before.before.before.before.before.before.before.before in let r = room b in gathered-more (three c.before.before.before.before) (omega arith) (leaves b (right2 b)) (right2 b) c.add_gone.ensures
+four : (c : AtAfterAddGone) → let b = c in Gathered (out b) c.add_gone.new.out 4 c.add_gone.result (adds b (right2 b) (adds b (left2 b) (adds b (right b) (adds b (left b) []))))
+four c = let b = c in let r = room c.before.before.before.before.before.before.before.before.before.before.before.before.before.before in gathered-more (three c.before.before.before.before) (omega arith) (leaves b (right2 b)) (right2 b) c.add_gone.ensures
 
 pub add_gone-one-requires : goal.add_gone-one-requires
 add_gone-one-requires c = let r = room c.before.before in (c.requires.0, gathered-room (gathered_none (out c.before.before)) (omega arith))
@@ -84,7 +85,7 @@ add_gone-requires c = let r = room c.before.before.before.before.before.before.b
 
 pub returns : goal.returns
 returns c =
-    let b = c.before.before.before.before.before.before.before.before.before.before.before.before.before.before.before.before.before in
+    let b = c in
     let a = (start b).args in
     gathered-gone a.lanes.now a.i a.j a.left a.right a.boundaries.now (start b).requires.0.boundaries_are_sorted (left b) (right b) (left2 b) (right2 b)
     (ap (λ x. x.boundary) b.boundary_ref-a.ensures) (ap (λ x. x.boundary) b.boundary_ref-b.ensures)

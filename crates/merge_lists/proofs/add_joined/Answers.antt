@@ -8,7 +8,7 @@ returns-in-Kept c = let s = c.before.before.before.before in kept-none s.args.pl
 
 -- src/lib.rt:46:1
 pub returns-in-InPlace : goal.returns-in-InPlace
-returns-in-InPlace c = let s = c.before.before.before.before.before.before.before.before in let m = c.named in in_place-put s.args.plan s.args.id s.args.n s.args.out.now s.requires.0 c.in-InPlace.field-0 c.in-InPlace.is m.new.0 m.result m.ensures
+returns-in-InPlace c = let s = c.before.before.before.before.before.before.before.before in let m = c.named in in_place-put s.args.plan s.args.id s.args.n s.args.out.now s.requires.0 c.in-InPlace.field-0 c.in-InPlace.is m.new.ids m.result m.ensures
 
 -- src/lib.rt:46:1
 pub returns-in-Fresh : goal.returns-in-Fresh

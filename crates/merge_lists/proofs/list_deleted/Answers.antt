@@ -9,14 +9,14 @@ list_ids-n-requires c = let s = c.before.before.before.before.before in lane_roo
 -- src/lib.rt:123:5
 pub list_ids-requires : goal.list_ids-requires
 list_ids-requires c =
-    let s = c.before.before.before.before.before.before.before.before.before in
+    let s = c in
     let l1 = c.list_ids-n in
-    gone-room s.args.second s.args.gone.now s.args.deleted.now s.requires l1.result l1.new.1.1.0 l1.ensures.0 l1.ensures.1
+    gone-room s.args.second s.args.gone.now s.args.deleted.now s.requires l1.result l1.new.out l1.ensures.0 l1.ensures.1
 
 -- src/lib.rt:115:1
 pub returns : goal.returns
 returns c =
-    let s = c.before.before.before.before.before.before.before.before.before.before.before.before in
+    let s = c in
     let l1 = c.list_ids-n in
     let l2 = c.list_ids in
-    deleted-listed s.args.second s.args.gone.now s.args.deleted.now s.requires l1.result l1.new.1.1.0 l1.ensures.0 l1.ensures.1 l2.result l2.new.1.1.0 l2.ensures.0 l2.ensures.1
+    deleted-listed s.args.second s.args.gone.now s.args.deleted.now s.requires l1.result l1.new.out l1.ensures.0 l1.ensures.1 l2.result l2.new.out l2.ensures.0 l2.ensures.1

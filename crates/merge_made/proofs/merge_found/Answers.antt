@@ -19,23 +19,23 @@ returns-then-not-ids_left c = let s = c.before.before.before.before.before.befor
 
 -- src/lib.rt:277:9
 pub slice_bounds-gone-end-2 : goal.slice_bounds-gone-end-2
-slice_bounds-gone-end-2 c = let s = c.before.before.before.before.before.before.before.before.before.before.before.before.before.before.before.before.before.before.before.before.before.before.before.before.before.before.before.before.before.before.before.before.before.before.before.before.before in (front (replicate 4 0) (gone_in (tables_of s.args.lanes.now s.args.boundaries.now s.args.roads.now s.args.junctions.now s.args.rules.now s.args.stop_lines.now s.args.crosswalks.now s.args.coordinates.now) s.args.i s.args.j s.args.plan) c.gone-n.new.1.1.1.1.1.1.0 c.gone-n.result (omega (arith, length-replicate {A = ℕ} 4 0, (s.requires.decided (ids-there s.args.join s.args.i s.args.j s.args.plan (lent_of s.args.counter s.args.lanes.now s.args.boundaries.now s.args.roads.now s.args.junctions.now s.args.rules.now s.args.stop_lines.now s.args.crosswalks.now s.args.coordinates.now s.args.created.now s.args.modified.now s.args.deleted.now s.args.warnings.now) c.side_ids.result c.side_ids-2.result c.side_ids.ensures c.side_ids-2.ensures c.ids_are_left.result c.ids_are_left.ensures (on c.ids_are_left.result c.if-not-ids_left.false))).gone_few)) c.gone-n.ensures.0 c.gone-n.ensures.1).0
+slice_bounds-gone-end-2 c = let s = c.before.before.before.before.before.before.before.before.before.before.before.before.before.before.before.before.before.before.before.before.before.before.before.before.before.before.before.before.before.before.before.before.before.before.before.before.before in (front (replicate 4 0) (gone_in (tables_of s.args.lanes.now s.args.boundaries.now s.args.roads.now s.args.junctions.now s.args.rules.now s.args.stop_lines.now s.args.crosswalks.now s.args.coordinates.now) s.args.i s.args.j s.args.plan) c.gone-n.new.out.0 c.gone-n.result (omega (arith, length-replicate {A = ℕ} 4 0, (s.requires.decided (ids-there s.args.join s.args.i s.args.j s.args.plan (lent_of s.args.counter s.args.lanes.now s.args.boundaries.now s.args.roads.now s.args.junctions.now s.args.rules.now s.args.stop_lines.now s.args.crosswalks.now s.args.coordinates.now s.args.created.now s.args.modified.now s.args.deleted.now s.args.warnings.now) c.side_ids.result c.side_ids-2.result c.side_ids.ensures c.side_ids-2.ensures c.ids_are_left.result c.ids_are_left.ensures (on c.ids_are_left.result c.if-not-ids_left.false))).gone_few)) c.gone-n.ensures.0 c.gone-n.ensures.1).0
 
 -- src/lib.rt:277:9
 pub slice_bounds-merge_with-end : goal.slice_bounds-merge_with-end
-slice_bounds-merge_with-end c = let s = c.before.before.before.before.before.before.before.before.before.before.before.before.before.before.before.before.before.before.before.before.before.before.before.before.before.before.before.before.before.before.before.before.before.before.before.before.before.before in sym (length-take-le c.gone-n.result c.gone-n.new.1.1.1.1.1.1.0 (front (replicate 4 0) (gone_in (tables_of s.args.lanes.now s.args.boundaries.now s.args.roads.now s.args.junctions.now s.args.rules.now s.args.stop_lines.now s.args.crosswalks.now s.args.coordinates.now) s.args.i s.args.j s.args.plan) c.gone-n.new.1.1.1.1.1.1.0 c.gone-n.result (omega (arith, length-replicate {A = ℕ} 4 0, (s.requires.decided (ids-there s.args.join s.args.i s.args.j s.args.plan (lent_of s.args.counter s.args.lanes.now s.args.boundaries.now s.args.roads.now s.args.junctions.now s.args.rules.now s.args.stop_lines.now s.args.crosswalks.now s.args.coordinates.now s.args.created.now s.args.modified.now s.args.deleted.now s.args.warnings.now) c.side_ids.result c.side_ids-2.result c.side_ids.ensures c.side_ids-2.ensures c.ids_are_left.result c.ids_are_left.ensures (on c.ids_are_left.result c.if-not-ids_left.false))).gone_few)) c.gone-n.ensures.0 c.gone-n.ensures.1).0)
+slice_bounds-merge_with-end c = let s = c.before.before.before.before.before.before.before.before.before.before.before.before.before.before.before.before.before.before.before.before.before.before.before.before.before.before.before.before.before.before.before.before.before.before.before.before.before.before in sym (length-take-le c.gone-n.result c.gone-n.new.out.0 (front (replicate 4 0) (gone_in (tables_of s.args.lanes.now s.args.boundaries.now s.args.roads.now s.args.junctions.now s.args.rules.now s.args.stop_lines.now s.args.crosswalks.now s.args.coordinates.now) s.args.i s.args.j s.args.plan) c.gone-n.new.out.0 c.gone-n.result (omega (arith, length-replicate {A = ℕ} 4 0, (s.requires.decided (ids-there s.args.join s.args.i s.args.j s.args.plan (lent_of s.args.counter s.args.lanes.now s.args.boundaries.now s.args.roads.now s.args.junctions.now s.args.rules.now s.args.stop_lines.now s.args.crosswalks.now s.args.coordinates.now s.args.created.now s.args.modified.now s.args.deleted.now s.args.warnings.now) c.side_ids.result c.side_ids-2.result c.side_ids.ensures c.side_ids-2.ensures c.ids_are_left.result c.ids_are_left.ensures (on c.ids_are_left.result c.if-not-ids_left.false))).gone_few)) c.gone-n.ensures.0 c.gone-n.ensures.1).0)
 
 -- src/lib.rt:278:9
 pub slice_bounds-joined-end : goal.slice_bounds-joined-end
-slice_bounds-joined-end c = let s = c.before.before.before.before.before.before.before.before.before.before.before.before.before.before.before.before.before.before.before.before.before.before.before.before.before.before.before.before.before.before.before.before.before.before.before.before.before.before in (front (replicate 2 0) (joined_in (tables_of s.args.lanes.now s.args.boundaries.now s.args.roads.now s.args.junctions.now s.args.rules.now s.args.stop_lines.now s.args.crosswalks.now s.args.coordinates.now) s.args.i s.args.plan) c.joined_ids-m.new.1.1.1.1.0 c.joined_ids-m.result (omega (arith, length-replicate {A = ℕ} 2 0, (s.requires.decided (ids-there s.args.join s.args.i s.args.j s.args.plan (lent_of s.args.counter s.args.lanes.now s.args.boundaries.now s.args.roads.now s.args.junctions.now s.args.rules.now s.args.stop_lines.now s.args.crosswalks.now s.args.coordinates.now s.args.created.now s.args.modified.now s.args.deleted.now s.args.warnings.now) c.side_ids.result c.side_ids-2.result c.side_ids.ensures c.side_ids-2.ensures c.ids_are_left.result c.ids_are_left.ensures (on c.ids_are_left.result c.if-not-ids_left.false))).joined_few)) (both-refs s.args.plan.left s.args.plan.right c.boundary_ref-one.result c.boundary_ref-two.result _ _ c.boundary_ref-one.ensures c.boundary_ref-two.ensures (replicate 2 0) c.joined_ids-m.new.1.1.1.1.0 c.joined_ids-m.result c.joined_ids-m.ensures).0 (both-refs s.args.plan.left s.args.plan.right c.boundary_ref-one.result c.boundary_ref-two.result _ _ c.boundary_ref-one.ensures c.boundary_ref-two.ensures (replicate 2 0) c.joined_ids-m.new.1.1.1.1.0 c.joined_ids-m.result c.joined_ids-m.ensures).1).0
+slice_bounds-joined-end c = let s = c.before.before.before.before.before.before.before.before.before.before.before.before.before.before.before.before.before.before.before.before.before.before.before.before.before.before.before.before.before.before.before.before.before.before.before.before.before.before in (front (replicate 2 0) (joined_in (tables_of s.args.lanes.now s.args.boundaries.now s.args.roads.now s.args.junctions.now s.args.rules.now s.args.stop_lines.now s.args.crosswalks.now s.args.coordinates.now) s.args.i s.args.plan) c.joined_ids-m.new.out.0 c.joined_ids-m.result (omega (arith, length-replicate {A = ℕ} 2 0, (s.requires.decided (ids-there s.args.join s.args.i s.args.j s.args.plan (lent_of s.args.counter s.args.lanes.now s.args.boundaries.now s.args.roads.now s.args.junctions.now s.args.rules.now s.args.stop_lines.now s.args.crosswalks.now s.args.coordinates.now s.args.created.now s.args.modified.now s.args.deleted.now s.args.warnings.now) c.side_ids.result c.side_ids-2.result c.side_ids.ensures c.side_ids-2.ensures c.ids_are_left.result c.ids_are_left.ensures (on c.ids_are_left.result c.if-not-ids_left.false))).joined_few)) (both-refs s.args.plan.left s.args.plan.right c.boundary_ref-one.result c.boundary_ref-two.result _ _ c.boundary_ref-one.ensures c.boundary_ref-two.ensures (replicate 2 0) c.joined_ids-m.new.out.0 c.joined_ids-m.result c.joined_ids-m.ensures).0 (both-refs s.args.plan.left s.args.plan.right c.boundary_ref-one.result c.boundary_ref-two.result _ _ c.boundary_ref-one.ensures c.boundary_ref-two.ensures (replicate 2 0) c.joined_ids-m.new.out.0 c.joined_ids-m.result c.joined_ids-m.ensures).1).0
 
 -- src/lib.rt:278:9
 pub slice_bounds-merge_with-end-2 : goal.slice_bounds-merge_with-end-2
-slice_bounds-merge_with-end-2 c = let s = c.before.before.before.before.before.before.before.before.before.before.before.before.before.before.before.before.before.before.before.before.before.before.before.before.before.before.before.before.before.before.before.before.before.before.before.before.before.before.before in sym (length-take-le c.joined_ids-m.result c.joined_ids-m.new.1.1.1.1.0 (front (replicate 2 0) (joined_in (tables_of s.args.lanes.now s.args.boundaries.now s.args.roads.now s.args.junctions.now s.args.rules.now s.args.stop_lines.now s.args.crosswalks.now s.args.coordinates.now) s.args.i s.args.plan) c.joined_ids-m.new.1.1.1.1.0 c.joined_ids-m.result (omega (arith, length-replicate {A = ℕ} 2 0, (s.requires.decided (ids-there s.args.join s.args.i s.args.j s.args.plan (lent_of s.args.counter s.args.lanes.now s.args.boundaries.now s.args.roads.now s.args.junctions.now s.args.rules.now s.args.stop_lines.now s.args.crosswalks.now s.args.coordinates.now s.args.created.now s.args.modified.now s.args.deleted.now s.args.warnings.now) c.side_ids.result c.side_ids-2.result c.side_ids.ensures c.side_ids-2.ensures c.ids_are_left.result c.ids_are_left.ensures (on c.ids_are_left.result c.if-not-ids_left.false))).joined_few)) (both-refs s.args.plan.left s.args.plan.right c.boundary_ref-one.result c.boundary_ref-two.result _ _ c.boundary_ref-one.ensures c.boundary_ref-two.ensures (replicate 2 0) c.joined_ids-m.new.1.1.1.1.0 c.joined_ids-m.result c.joined_ids-m.ensures).0 (both-refs s.args.plan.left s.args.plan.right c.boundary_ref-one.result c.boundary_ref-two.result _ _ c.boundary_ref-one.ensures c.boundary_ref-two.ensures (replicate 2 0) c.joined_ids-m.new.1.1.1.1.0 c.joined_ids-m.result c.joined_ids-m.ensures).1).0)
+slice_bounds-merge_with-end-2 c = let s = c.before.before.before.before.before.before.before.before.before.before.before.before.before.before.before.before.before.before.before.before.before.before.before.before.before.before.before.before.before.before.before.before.before.before.before.before.before.before.before in sym (length-take-le c.joined_ids-m.result c.joined_ids-m.new.out.0 (front (replicate 2 0) (joined_in (tables_of s.args.lanes.now s.args.boundaries.now s.args.roads.now s.args.junctions.now s.args.rules.now s.args.stop_lines.now s.args.crosswalks.now s.args.coordinates.now) s.args.i s.args.plan) c.joined_ids-m.new.out.0 c.joined_ids-m.result (omega (arith, length-replicate {A = ℕ} 2 0, (s.requires.decided (ids-there s.args.join s.args.i s.args.j s.args.plan (lent_of s.args.counter s.args.lanes.now s.args.boundaries.now s.args.roads.now s.args.junctions.now s.args.rules.now s.args.stop_lines.now s.args.crosswalks.now s.args.coordinates.now s.args.created.now s.args.modified.now s.args.deleted.now s.args.warnings.now) c.side_ids.result c.side_ids-2.result c.side_ids.ensures c.side_ids-2.ensures c.ids_are_left.result c.ids_are_left.ensures (on c.ids_are_left.result c.if-not-ids_left.false))).joined_few)) (both-refs s.args.plan.left s.args.plan.right c.boundary_ref-one.result c.boundary_ref-two.result _ _ c.boundary_ref-one.ensures c.boundary_ref-two.ensures (replicate 2 0) c.joined_ids-m.new.out.0 c.joined_ids-m.result c.joined_ids-m.ensures).0 (both-refs s.args.plan.left s.args.plan.right c.boundary_ref-one.result c.boundary_ref-two.result _ _ c.boundary_ref-one.ensures c.boundary_ref-two.ensures (replicate 2 0) c.joined_ids-m.new.out.0 c.joined_ids-m.result c.joined_ids-m.ensures).1).0)
 
 -- src/lib.rt:263:5
 pub merge_with-requires : goal.merge_with-requires
-merge_with-requires c = let s = c.before.before.before.before.before.before.before.before.before.before.before.before.before.before.before.before.before.before.before.before.before.before.before.before.before.before.before.before.before.before.before.before.before.before.before.before.before.before.before.before.before.before.before in decided-asks s.args.counter s.args.join s.args.i s.args.j s.args.plan _ _ (gone_in (tables_of s.args.lanes.now s.args.boundaries.now s.args.roads.now s.args.junctions.now s.args.rules.now s.args.stop_lines.now s.args.crosswalks.now s.args.coordinates.now) s.args.i s.args.j s.args.plan) (joined_in (tables_of s.args.lanes.now s.args.boundaries.now s.args.roads.now s.args.junctions.now s.args.rules.now s.args.stop_lines.now s.args.crosswalks.now s.args.coordinates.now) s.args.i s.args.plan) (tables_of s.args.lanes.now s.args.boundaries.now s.args.roads.now s.args.junctions.now s.args.rules.now s.args.stop_lines.now s.args.crosswalks.now s.args.coordinates.now) (front (replicate 4 0) (gone_in (tables_of s.args.lanes.now s.args.boundaries.now s.args.roads.now s.args.junctions.now s.args.rules.now s.args.stop_lines.now s.args.crosswalks.now s.args.coordinates.now) s.args.i s.args.j s.args.plan) c.gone-n.new.1.1.1.1.1.1.0 c.gone-n.result (omega (arith, length-replicate {A = ℕ} 4 0, (s.requires.decided (ids-there s.args.join s.args.i s.args.j s.args.plan (lent_of s.args.counter s.args.lanes.now s.args.boundaries.now s.args.roads.now s.args.junctions.now s.args.rules.now s.args.stop_lines.now s.args.crosswalks.now s.args.coordinates.now s.args.created.now s.args.modified.now s.args.deleted.now s.args.warnings.now) c.side_ids.result c.side_ids-2.result c.side_ids.ensures c.side_ids-2.ensures c.ids_are_left.result c.ids_are_left.ensures (on c.ids_are_left.result c.if-not-ids_left.false))).gone_few)) c.gone-n.ensures.0 c.gone-n.ensures.1).1 (front (replicate 2 0) (joined_in (tables_of s.args.lanes.now s.args.boundaries.now s.args.roads.now s.args.junctions.now s.args.rules.now s.args.stop_lines.now s.args.crosswalks.now s.args.coordinates.now) s.args.i s.args.plan) c.joined_ids-m.new.1.1.1.1.0 c.joined_ids-m.result (omega (arith, length-replicate {A = ℕ} 2 0, (s.requires.decided (ids-there s.args.join s.args.i s.args.j s.args.plan (lent_of s.args.counter s.args.lanes.now s.args.boundaries.now s.args.roads.now s.args.junctions.now s.args.rules.now s.args.stop_lines.now s.args.crosswalks.now s.args.coordinates.now s.args.created.now s.args.modified.now s.args.deleted.now s.args.warnings.now) c.side_ids.result c.side_ids-2.result c.side_ids.ensures c.side_ids-2.ensures c.ids_are_left.result c.ids_are_left.ensures (on c.ids_are_left.result c.if-not-ids_left.false))).joined_few)) (both-refs s.args.plan.left s.args.plan.right c.boundary_ref-one.result c.boundary_ref-two.result _ _ c.boundary_ref-one.ensures c.boundary_ref-two.ensures (replicate 2 0) c.joined_ids-m.new.1.1.1.1.0 c.joined_ids-m.result c.joined_ids-m.ensures).0 (both-refs s.args.plan.left s.args.plan.right c.boundary_ref-one.result c.boundary_ref-two.result _ _ c.boundary_ref-one.ensures c.boundary_ref-two.ensures (replicate 2 0) c.joined_ids-m.new.1.1.1.1.0 c.joined_ids-m.result c.joined_ids-m.ensures).1).1 (s.requires.decided (ids-there s.args.join s.args.i s.args.j s.args.plan (lent_of s.args.counter s.args.lanes.now s.args.boundaries.now s.args.roads.now s.args.junctions.now s.args.rules.now s.args.stop_lines.now s.args.crosswalks.now s.args.coordinates.now s.args.created.now s.args.modified.now s.args.deleted.now s.args.warnings.now) c.side_ids.result c.side_ids-2.result c.side_ids.ensures c.side_ids-2.ensures c.ids_are_left.result c.ids_are_left.ensures (on c.ids_are_left.result c.if-not-ids_left.false)))
+merge_with-requires c = let s = c.before.before.before.before.before.before.before.before.before.before.before.before.before.before.before.before.before.before.before.before.before.before.before.before.before.before.before.before.before.before.before.before.before.before.before.before.before.before.before.before.before.before.before in decided-asks s.args.counter s.args.join s.args.i s.args.j s.args.plan _ _ (gone_in (tables_of s.args.lanes.now s.args.boundaries.now s.args.roads.now s.args.junctions.now s.args.rules.now s.args.stop_lines.now s.args.crosswalks.now s.args.coordinates.now) s.args.i s.args.j s.args.plan) (joined_in (tables_of s.args.lanes.now s.args.boundaries.now s.args.roads.now s.args.junctions.now s.args.rules.now s.args.stop_lines.now s.args.crosswalks.now s.args.coordinates.now) s.args.i s.args.plan) (tables_of s.args.lanes.now s.args.boundaries.now s.args.roads.now s.args.junctions.now s.args.rules.now s.args.stop_lines.now s.args.crosswalks.now s.args.coordinates.now) (front (replicate 4 0) (gone_in (tables_of s.args.lanes.now s.args.boundaries.now s.args.roads.now s.args.junctions.now s.args.rules.now s.args.stop_lines.now s.args.crosswalks.now s.args.coordinates.now) s.args.i s.args.j s.args.plan) c.gone-n.new.out.0 c.gone-n.result (omega (arith, length-replicate {A = ℕ} 4 0, (s.requires.decided (ids-there s.args.join s.args.i s.args.j s.args.plan (lent_of s.args.counter s.args.lanes.now s.args.boundaries.now s.args.roads.now s.args.junctions.now s.args.rules.now s.args.stop_lines.now s.args.crosswalks.now s.args.coordinates.now s.args.created.now s.args.modified.now s.args.deleted.now s.args.warnings.now) c.side_ids.result c.side_ids-2.result c.side_ids.ensures c.side_ids-2.ensures c.ids_are_left.result c.ids_are_left.ensures (on c.ids_are_left.result c.if-not-ids_left.false))).gone_few)) c.gone-n.ensures.0 c.gone-n.ensures.1).1 (front (replicate 2 0) (joined_in (tables_of s.args.lanes.now s.args.boundaries.now s.args.roads.now s.args.junctions.now s.args.rules.now s.args.stop_lines.now s.args.crosswalks.now s.args.coordinates.now) s.args.i s.args.plan) c.joined_ids-m.new.out.0 c.joined_ids-m.result (omega (arith, length-replicate {A = ℕ} 2 0, (s.requires.decided (ids-there s.args.join s.args.i s.args.j s.args.plan (lent_of s.args.counter s.args.lanes.now s.args.boundaries.now s.args.roads.now s.args.junctions.now s.args.rules.now s.args.stop_lines.now s.args.crosswalks.now s.args.coordinates.now s.args.created.now s.args.modified.now s.args.deleted.now s.args.warnings.now) c.side_ids.result c.side_ids-2.result c.side_ids.ensures c.side_ids-2.ensures c.ids_are_left.result c.ids_are_left.ensures (on c.ids_are_left.result c.if-not-ids_left.false))).joined_few)) (both-refs s.args.plan.left s.args.plan.right c.boundary_ref-one.result c.boundary_ref-two.result _ _ c.boundary_ref-one.ensures c.boundary_ref-two.ensures (replicate 2 0) c.joined_ids-m.new.out.0 c.joined_ids-m.result c.joined_ids-m.ensures).0 (both-refs s.args.plan.left s.args.plan.right c.boundary_ref-one.result c.boundary_ref-two.result _ _ c.boundary_ref-one.ensures c.boundary_ref-two.ensures (replicate 2 0) c.joined_ids-m.new.out.0 c.joined_ids-m.result c.joined_ids-m.ensures).1).1 (s.requires.decided (ids-there s.args.join s.args.i s.args.j s.args.plan (lent_of s.args.counter s.args.lanes.now s.args.boundaries.now s.args.roads.now s.args.junctions.now s.args.rules.now s.args.stop_lines.now s.args.crosswalks.now s.args.coordinates.now s.args.created.now s.args.modified.now s.args.deleted.now s.args.warnings.now) c.side_ids.result c.side_ids-2.result c.side_ids.ensures c.side_ids-2.ensures c.ids_are_left.result c.ids_are_left.ensures (on c.ids_are_left.result c.if-not-ids_left.false)))
 
 -- src/lib.rt:230:1
 pub shape_of-lanes : goal.shape_of-lanes
@@ -87,4 +87,4 @@ shape_of-warnings c = c.merge_with.auto.1.1.1.1.1.1.1.1.1.1.1.1.1.1.1.1.1.1.0
 
 -- src/lib.rt:230:1
 pub returns : goal.returns
-returns c = let s = c.before.before.before.before.before.before.before.before.before.before.before.before.before.before.before.before.before.before.before.before.before.before.before.before.before.before.before.before.before.before.before.before.before.before.before.before.before.before.before.before.before.before.before.before.before.before.before.before.before.before.before.before.before.before.before.before.before.before.before.before.before.before.before.before.before.before.before.before in found-made s.args.join s.args.i s.args.j s.args.plan (lent_of s.args.counter s.args.lanes.now s.args.boundaries.now s.args.roads.now s.args.junctions.now s.args.rules.now s.args.stop_lines.now s.args.crosswalks.now s.args.coordinates.now s.args.created.now s.args.modified.now s.args.deleted.now s.args.warnings.now) c.side_ids.result c.side_ids-2.result c.side_ids.ensures c.side_ids-2.ensures c.ids_are_left.result c.ids_are_left.ensures (on c.ids_are_left.result c.if-not-ids_left.false) _ _ (front (replicate 4 0) (gone_in (tables_of s.args.lanes.now s.args.boundaries.now s.args.roads.now s.args.junctions.now s.args.rules.now s.args.stop_lines.now s.args.crosswalks.now s.args.coordinates.now) s.args.i s.args.j s.args.plan) c.gone-n.new.1.1.1.1.1.1.0 c.gone-n.result (omega (arith, length-replicate {A = ℕ} 4 0, (s.requires.decided (ids-there s.args.join s.args.i s.args.j s.args.plan (lent_of s.args.counter s.args.lanes.now s.args.boundaries.now s.args.roads.now s.args.junctions.now s.args.rules.now s.args.stop_lines.now s.args.crosswalks.now s.args.coordinates.now s.args.created.now s.args.modified.now s.args.deleted.now s.args.warnings.now) c.side_ids.result c.side_ids-2.result c.side_ids.ensures c.side_ids-2.ensures c.ids_are_left.result c.ids_are_left.ensures (on c.ids_are_left.result c.if-not-ids_left.false))).gone_few)) c.gone-n.ensures.0 c.gone-n.ensures.1).1 (front (replicate 2 0) (joined_in (tables_of s.args.lanes.now s.args.boundaries.now s.args.roads.now s.args.junctions.now s.args.rules.now s.args.stop_lines.now s.args.crosswalks.now s.args.coordinates.now) s.args.i s.args.plan) c.joined_ids-m.new.1.1.1.1.0 c.joined_ids-m.result (omega (arith, length-replicate {A = ℕ} 2 0, (s.requires.decided (ids-there s.args.join s.args.i s.args.j s.args.plan (lent_of s.args.counter s.args.lanes.now s.args.boundaries.now s.args.roads.now s.args.junctions.now s.args.rules.now s.args.stop_lines.now s.args.crosswalks.now s.args.coordinates.now s.args.created.now s.args.modified.now s.args.deleted.now s.args.warnings.now) c.side_ids.result c.side_ids-2.result c.side_ids.ensures c.side_ids-2.ensures c.ids_are_left.result c.ids_are_left.ensures (on c.ids_are_left.result c.if-not-ids_left.false))).joined_few)) (both-refs s.args.plan.left s.args.plan.right c.boundary_ref-one.result c.boundary_ref-two.result _ _ c.boundary_ref-one.ensures c.boundary_ref-two.ensures (replicate 2 0) c.joined_ids-m.new.1.1.1.1.0 c.joined_ids-m.result c.joined_ids-m.ensures).0 (both-refs s.args.plan.left s.args.plan.right c.boundary_ref-one.result c.boundary_ref-two.result _ _ c.boundary_ref-one.ensures c.boundary_ref-two.ensures (replicate 2 0) c.joined_ids-m.new.1.1.1.1.0 c.joined_ids-m.result c.joined_ids-m.ensures).1).1 _ c.merge_with.ensures
+returns c = let s = c.before.before.before.before.before.before.before.before.before.before.before.before.before.before.before.before.before.before.before.before.before.before.before.before.before.before.before.before.before.before.before.before.before.before.before.before.before.before.before.before.before.before.before.before.before.before.before.before.before.before.before.before.before.before.before.before.before.before.before.before.before.before.before.before.before.before.before.before in found-made s.args.join s.args.i s.args.j s.args.plan (lent_of s.args.counter s.args.lanes.now s.args.boundaries.now s.args.roads.now s.args.junctions.now s.args.rules.now s.args.stop_lines.now s.args.crosswalks.now s.args.coordinates.now s.args.created.now s.args.modified.now s.args.deleted.now s.args.warnings.now) c.side_ids.result c.side_ids-2.result c.side_ids.ensures c.side_ids-2.ensures c.ids_are_left.result c.ids_are_left.ensures (on c.ids_are_left.result c.if-not-ids_left.false) _ _ (front (replicate 4 0) (gone_in (tables_of s.args.lanes.now s.args.boundaries.now s.args.roads.now s.args.junctions.now s.args.rules.now s.args.stop_lines.now s.args.crosswalks.now s.args.coordinates.now) s.args.i s.args.j s.args.plan) c.gone-n.new.out.0 c.gone-n.result (omega (arith, length-replicate {A = ℕ} 4 0, (s.requires.decided (ids-there s.args.join s.args.i s.args.j s.args.plan (lent_of s.args.counter s.args.lanes.now s.args.boundaries.now s.args.roads.now s.args.junctions.now s.args.rules.now s.args.stop_lines.now s.args.crosswalks.now s.args.coordinates.now s.args.created.now s.args.modified.now s.args.deleted.now s.args.warnings.now) c.side_ids.result c.side_ids-2.result c.side_ids.ensures c.side_ids-2.ensures c.ids_are_left.result c.ids_are_left.ensures (on c.ids_are_left.result c.if-not-ids_left.false))).gone_few)) c.gone-n.ensures.0 c.gone-n.ensures.1).1 (front (replicate 2 0) (joined_in (tables_of s.args.lanes.now s.args.boundaries.now s.args.roads.now s.args.junctions.now s.args.rules.now s.args.stop_lines.now s.args.crosswalks.now s.args.coordinates.now) s.args.i s.args.plan) c.joined_ids-m.new.out.0 c.joined_ids-m.result (omega (arith, length-replicate {A = ℕ} 2 0, (s.requires.decided (ids-there s.args.join s.args.i s.args.j s.args.plan (lent_of s.args.counter s.args.lanes.now s.args.boundaries.now s.args.roads.now s.args.junctions.now s.args.rules.now s.args.stop_lines.now s.args.crosswalks.now s.args.coordinates.now s.args.created.now s.args.modified.now s.args.deleted.now s.args.warnings.now) c.side_ids.result c.side_ids-2.result c.side_ids.ensures c.side_ids-2.ensures c.ids_are_left.result c.ids_are_left.ensures (on c.ids_are_left.result c.if-not-ids_left.false))).joined_few)) (both-refs s.args.plan.left s.args.plan.right c.boundary_ref-one.result c.boundary_ref-two.result _ _ c.boundary_ref-one.ensures c.boundary_ref-two.ensures (replicate 2 0) c.joined_ids-m.new.out.0 c.joined_ids-m.result c.joined_ids-m.ensures).0 (both-refs s.args.plan.left s.args.plan.right c.boundary_ref-one.result c.boundary_ref-two.result _ _ c.boundary_ref-one.ensures c.boundary_ref-two.ensures (replicate 2 0) c.joined_ids-m.new.out.0 c.joined_ids-m.result c.joined_ids-m.ensures).1).1 _ c.merge_with.ensures

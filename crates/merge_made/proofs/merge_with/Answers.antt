@@ -177,4 +177,4 @@ shape_of-warnings c = c.write_lists.auto.1.1.1.1.1.1.1.1.1.1.1.1.1.0
 
 -- src/lib.rt:138:1
 pub returns : goal.returns
-returns c = let s = c.before.before.before.before.before.before.before.before.before.before.before.before.before.before.before.before.before.before.before.before.before.before.before.before.before.before.before.before.before.before.before.before.before.before.before.before.before.before.before.before.before.before.before.before.before.before.before.before.before.before.before.before.before.before.before.before.before.before.before.before.before.before.before.before.before.before.before.before.before.before.before.before.before.before.before.before.before.before.before.before in merge-made s.args.join s.args.i s.args.j s.args.plan s.args.gone.now s.args.joined.now (lent_of s.args.counter s.args.lanes.now s.args.boundaries.now s.args.roads.now s.args.junctions.now s.args.rules.now s.args.stop_lines.now s.args.crosswalks.now s.args.coordinates.now s.args.created.now s.args.modified.now s.args.deleted.now s.args.warnings.now) c.fits2.result c.fits2.ensures (on c.fits2.result c.if-not-fits.false) (get_or s.args.lanes.now (1 + s.args.j * 52) 0) refl c.notices_of-notices.result (c.notices_of-notices.ensures ∙ ap (warnings_of s.args.lanes.now s.args.i s.args.j s.args.plan.left s.args.plan.right) c.next_id-next.ensures) c.count_notices.result c.count_notices.ensures c.count-counts.result c.count-counts.ensures c.lists_fit.result c.lists_fit.ensures (on c.lists_fit.result c.if-not-lists_fit.false) c.next_id-next.result c.next_id-next.ensures (tables_of c.write.new.1.0 c.write.new.1.1.1.1.0 c.write.new.1.1.1.1.1.0 c.write.new.1.1.1.1.1.1.0 c.write.new.1.1.1.1.1.1.1.0 c.write.new.1.1.1.1.1.1.1.1.0 c.write.new.1.1.1.1.1.1.1.1.1.0 c.write.new.1.1.1.1.1.1.1.1.1.1.0) c.write.ensures c.write_lists.new.1.1.1.1.1.1.1.1.1.1.0 c.write_lists.new.1.1.1.1.1.1.1.1.1.1.1.0 c.write_lists.new.1.1.1.1.1.1.1.1.1.1.1.1.0 c.write_lists.new.1.1.1.1.1.1.1.1.1.1.1.1.1.0 c.write_lists.ensures
+returns c = let s = c.before.before.before.before.before.before.before.before.before.before.before.before.before.before.before.before.before.before.before.before.before.before.before.before.before.before.before.before.before.before.before.before.before.before.before.before.before.before.before.before.before.before.before.before.before.before.before.before.before.before.before.before.before.before.before.before.before.before.before.before.before.before.before.before.before.before.before.before.before.before.before.before.before.before.before.before.before.before.before.before in merge-made s.args.join s.args.i s.args.j s.args.plan s.args.gone.now s.args.joined.now (lent_of s.args.counter s.args.lanes.now s.args.boundaries.now s.args.roads.now s.args.junctions.now s.args.rules.now s.args.stop_lines.now s.args.crosswalks.now s.args.coordinates.now s.args.created.now s.args.modified.now s.args.deleted.now s.args.warnings.now) c.fits2.result c.fits2.ensures (on c.fits2.result c.if-not-fits.false) (get_or s.args.lanes.now (1 + s.args.j * 52) 0) refl c.notices_of-notices.result (c.notices_of-notices.ensures ∙ ap (warnings_of s.args.lanes.now s.args.i s.args.j s.args.plan.left s.args.plan.right) c.next_id-next.ensures) c.count_notices.result c.count_notices.ensures c.count-counts.result c.count-counts.ensures c.lists_fit.result c.lists_fit.ensures (on c.lists_fit.result c.if-not-lists_fit.false) c.next_id-next.result c.next_id-next.ensures (tables_of c.write.new.lanes c.write.new.boundaries c.write.new.roads c.write.new.junctions c.write.new.rules c.write.new.stop_lines c.write.new.crosswalks c.write.new.coordinates) c.write.ensures c.write_lists.new.created c.write_lists.new.modified c.write_lists.new.deleted c.write_lists.new.warnings.0 c.write_lists.ensures

@@ -34,4 +34,4 @@ pub relay-requires : goal.relay-requires
 relay-requires c = let s = c.before.before.before.before.before.before.before.before.before.before.before.before.before.before.before.before.before.before.before.before.before.before.before.before.before.before.before.before.before.before.before.before in relay_asks s.args.join s.args.plan s.args.next s.args.gone.now s.args.i s.args.j (tables_of s.args.lanes.now s.args.boundaries.now s.args.roads.now s.args.junctions.now s.args.rules.now s.args.stop_lines.now s.args.crosswalks.now s.args.coordinates.now) s.requires c.lines_reach-reach.result c.lines_reach-reach.ensures
 
 pub returns : goal.returns
-returns c = let s = c.before.before.before.before.before.before.before.before.before.before.before.before.before.before.before.before.before.before.before.before.before.before.before.before.before.before.before.before.before.before.before.before.before.before.before.before.before.before.before.before.before.before.before in all-written s.args.join s.args.plan s.args.next s.args.gone.now s.args.i s.args.j (tables_of s.args.lanes.now s.args.boundaries.now s.args.roads.now s.args.junctions.now s.args.rules.now s.args.stop_lines.now s.args.crosswalks.now s.args.coordinates.now) c.lines_reach-reach.result c.lines_reach-reach.ensures c.write_named.new.0 c.write_named.new.1.0 c.write_named.new.1.1.0 c.write_named.ensures c.relay.new.1.0 c.relay.new.1.1.1.1.0 c.relay.new.1.1.1.1.1.0 c.relay.new.1.1.1.1.1.1.0 c.relay.new.1.1.1.1.1.1.1.0 c.relay.ensures
+returns c = let s = c.before.before.before.before.before.before.before.before.before.before.before.before.before.before.before.before.before.before.before.before.before.before.before.before.before.before.before.before.before.before.before.before.before.before.before.before.before.before.before.before.before.before.before in all-written s.args.join s.args.plan s.args.next s.args.gone.now s.args.i s.args.j (tables_of s.args.lanes.now s.args.boundaries.now s.args.roads.now s.args.junctions.now s.args.rules.now s.args.stop_lines.now s.args.crosswalks.now s.args.coordinates.now) c.lines_reach-reach.result c.lines_reach-reach.ensures c.write_named.new.roads c.write_named.new.junctions c.write_named.new.rules c.write_named.ensures c.relay.new.lanes c.relay.new.boundaries c.relay.new.stop_lines c.relay.new.crosswalks c.relay.new.coordinates c.relay.ensures

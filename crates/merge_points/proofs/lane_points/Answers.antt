@@ -12,19 +12,20 @@ use Rattle.merge_gone.proofs.Points.{center_few}
 use Rattle.merge_points.proofs.lane_points.Goals as goal
 use Rattle.merge_points.proofs.lane_points.Lts as lts
 use Rattle.merge_points.proofs.lane_points.Reads as reads
+use Rattle.merge_points.proofs.lane_points.Tie as tie
 
 abbrev AtInLoopI : Type 0
-AtInLoopI = lts.In-loop reads.Pre reads.Post goal.the-invariant-loop-i goal.the-decreases-loop-i
+AtInLoopI = lts.In-loop tie.the-claims reads.Pre reads.Post goal.the-invariant-loop-i goal.the-decreases-loop-i
 
 abbrev AtAfterCenterAfterPoints : Type 0
-AtAfterCenterAfterPoints = lts.After-center_after reads.Pre reads.Post goal.the-invariant-loop-i goal.the-decreases-loop-i
+AtAfterCenterAfterPoints = lts.After-center_after tie.the-claims reads.Pre reads.Post goal.the-invariant-loop-i goal.the-decreases-loop-i
 
 -- in a turn: the row lies in the table, and few were passed
 row : (c : AtInLoopI) → 1 + c.loop-i.i * 52 + 52 ≤ length c.args.lanes.now
-row c = let s = c.before.before.before.before in sorted-row 1024 52 s.args.lanes.now s.requires.0 c.loop-i.i c.loop-i-test.true
+row c = let s = c in sorted-row 1024 52 s.args.lanes.now s.requires.0 c.loop-i.i c.loop-i-test.true
 
 passed : (c : AtInLoopI) → c.loop-i.i < 1024
-passed c = let s = c.before.before.before.before in omega (arith, sorted-few 1024 52 s.args.lanes.now s.requires.0, c.loop-i-test.true)
+passed c = let s = c in omega (arith, sorted-few 1024 52 s.args.lanes.now s.requires.0, c.loop-i-test.true)
 
 -- what is counted of the row that is lent
 counted : (c : AtAfterCenterAfterPoints) → c.center_after-points.result ≡ center_after c.args.first c.args.second c.args.center (row_at 52 c.args.lanes.now c.loop-i.i)
@@ -34,7 +35,7 @@ counted c =
 
 few : (c : AtAfterCenterAfterPoints) → c.center_after-points.result ≤ 512
 few c =
-    let s = c.before.before.before.before.before.before in
+    let s = c in
     omega (arith, counted c, center_few s.args.first s.args.second s.args.center s.args.lanes.now s.requires.1.0 s.requires.1.1 c.loop-i.i c.loop-i-test.true)
 
 pub bounds-lanes-0 : goal.bounds-lanes-0
@@ -46,27 +47,27 @@ loop-i-init c =
     sum-starts 52 (center_after a.first a.second a.center) a.lanes.now 512
 
 pub overflow_mul-at : goal.overflow_mul-at
-overflow_mul-at c = omega (arith, row (c.before))
+overflow_mul-at c = omega (arith, row c.before)
 
 pub overflow_add-at : goal.overflow_add-at
-overflow_add-at c = omega (arith, row (c.before))
+overflow_add-at c = omega (arith, row c.before)
 
 pub overflow_add-end : goal.overflow_add-end
-overflow_add-end c = omega (arith, row (c.before))
+overflow_add-end c = omega (arith, row c.before)
 
 pub offset_bounds-lanes-at : goal.offset_bounds-lanes-at
-offset_bounds-lanes-at c = omega (arith, row (c.before))
+offset_bounds-lanes-at c = omega (arith, row c.before)
 
 pub slice_bounds-center_after-count : goal.slice_bounds-center_after-count
-slice_bounds-center_after-count c = omega (arith, row (c.before))
+slice_bounds-center_after-count c = omega (arith, row c.before)
 
 pub center_after-points-requires : goal.center_after-points-requires
 center_after-points-requires c =
-    let s = c.before.before.before.before.before.before in
+    let s = c in
     row-length 1024 52 s.args.lanes.now (sorted-counted 1024 52 s.args.lanes.now s.requires.0) c.loop-i.i c.loop-i-test.true
 
 pub overflow_add-points : goal.overflow_add-points
-overflow_add-points c = omega (arith, few (c.before), passed c.before.before.before, c.loop-i.invariant.few)
+overflow_add-points c = omega (arith, few c.before, passed c.before.before.before, c.loop-i.invariant.few)
 
 pub overflow_add-i : goal.overflow_add-i
 overflow_add-i c = omega (arith, passed c.before.before.before)
@@ -78,7 +79,7 @@ pub loop-i-preserved : goal.loop-i-preserved
 loop-i-preserved c =
     let a = c.args in
     let l = c.loop-i in
-    sum-turns 52 (center_after a.first a.second a.center) a.lanes.now 512 l.i l.points l.invariant c.center_after-points.result c.loop-i-test.true (counted (c.before)) (few (c.before))
+    sum-turns 52 (center_after a.first a.second a.center) a.lanes.now 512 l.i l.points l.invariant c.center_after-points.result c.loop-i-test.true (counted c.before) (few c.before)
 
 pub returns : goal.returns
 unfolding lane_points

@@ -10,17 +10,18 @@ use Rattle.merge_gone.proofs.Going.{both-rows}
 use Rattle.merge_points.proofs.points_after.Goals as goal
 use Rattle.merge_points.proofs.points_after.Lts as lts
 use Rattle.merge_points.proofs.points_after.Reads as reads
+use Rattle.merge_points.proofs.points_after.Tie as tie
 
 abbrev AtAfterNewPoints2 : Type 0
-AtAfterNewPoints2 = lts.After-new_points2 reads.Pre reads.Post
+AtAfterNewPoints2 = lts.After-new_points2 tie.the-claims reads.Pre reads.Post
 
 abbrev AtAfterColumnPointsRights : Type 0
-AtAfterColumnPointsRights = lts.After-column_points3 reads.Pre reads.Post
+AtAfterColumnPointsRights = lts.After-column_points3 tie.the-claims reads.Pre reads.Post
 
 -- the points that are counted are few
 new : (c : AtAfterNewPoints2) → c.new_points.result + c.new_points-2.result ≤ 1024
 new c =
-    let s = c.before.before.before.before.before.before.before.before.before.before in
+    let s = c in
     omega (arith, c.new_points.ensures, c.new_points-2.ensures, new-few s.args.sides.left, new-few s.args.sides.right, s.requires.left_few, s.requires.right_few)
 
 all : (c : AtAfterColumnPointsRights)
@@ -61,7 +62,7 @@ pub bounds-lanes-j : goal.bounds-lanes-j
 bounds-lanes-j c = omega (arith, both-rows c.requires.leaving)
 
 pub overflow_add-new : goal.overflow_add-new
-overflow_add-new c = omega (arith, new (c.before))
+overflow_add-new c = omega (arith, new c.before)
 
 pub column_points-stops-requires : goal.column_points-stops-requires
 column_points-stops-requires c = (omega arith, (omega arith, (columns-counted 512 4 c.args.stop_lines.now (omega arith) c.requires.stops_sorted, c.requires.stops_short)))
@@ -73,16 +74,16 @@ pub column_points-rights-requires : goal.column_points-rights-requires
 column_points-rights-requires c = (omega arith, (omega arith, (columns-counted 128 7 c.args.crosswalks.now (omega arith) c.requires.crosswalks_are_sorted, c.requires.rights_short)))
 
 pub overflow_add-result : goal.overflow_add-result
-overflow_add-result c = omega (arith, all (c.before))
+overflow_add-result c = omega (arith, all c.before)
 
 pub overflow_add-result-2 : goal.overflow_add-result-2
-overflow_add-result-2 c = omega (arith, all (c.before))
+overflow_add-result-2 c = omega (arith, all c.before)
 
 pub overflow_add-result-3 : goal.overflow_add-result-3
-overflow_add-result-3 c = omega (arith, all (c.before))
+overflow_add-result-3 c = omega (arith, all c.before)
 
 pub overflow_add-result-5 : goal.overflow_add-result-5
-overflow_add-result-5 c = omega (arith, all (c.before))
+overflow_add-result-5 c = omega (arith, all c.before)
 
 pub returns : goal.returns
 unfolding points_after

@@ -25,5 +25,5 @@ pub returns : goal.returns
 returns c =
     let a = c.args in
     all-drawn a.join a.coordinates.now a.lanes.now a.boundaries.now a.i a.j a.plan c.side_points-right_at.result c.side_points.result
-    c.side_points-right_at.ensures c.side_points.ensures a.work.now c.draw_side.new.1.1.1.1.1.1.1.1.0
-    c.draw_side-2.new.1.1.1.1.1.1.1.1.0 c.draw_center.new.1.1.1.1.1.1.0 c.draw_side.ensures c.draw_side-2.ensures c.draw_center.ensures
+    c.side_points-right_at.ensures c.side_points.ensures a.work.now c.draw_side.new.work
+    c.draw_side-2.new.work c.draw_center.new.work c.draw_side.ensures c.draw_side-2.ensures c.draw_center.ensures

@@ -47,7 +47,7 @@ lay_out-requires c =
       near = c.requires.0.near;
       stored = c.requires.0.stored;
       few = omega (arith, c.draw.auto.1.1.1.1.1.1.1.0, c.requires.1);
-      gatherable = gather-asks a.join a.plan a.next a.reach a.gone.now a.i a.j a.lanes.now a.boundaries.now a.stop_lines.now a.crosswalks.now a.coordinates.now a.work.now c.requires.0 c.requires.1 c.Taken-of.result c.Taken-of.ensures c.side_points.result c.side_points.ensures c.redrawn_of-one.result c.redrawn_of-two.result c.redrawn_of-one.ensures c.redrawn_of-two.ensures c.draw.new.1.1.1.1.1.1.1.0 c.draw.ensures c.redraw_boundaries.new.0 c.redraw_boundaries.ensures c.redraw_followed.new.0 c.redraw_followed.ensures;
+      gatherable = gather-asks a.join a.plan a.next a.reach a.gone.now a.i a.j a.lanes.now a.boundaries.now a.stop_lines.now a.crosswalks.now a.coordinates.now a.work.now c.requires.0 c.requires.1 c.Taken-of.result c.Taken-of.ensures c.side_points.result c.side_points.ensures c.redrawn_of-one.result c.redrawn_of-two.result c.redrawn_of-one.ensures c.redrawn_of-two.ensures c.draw.new.work.0 c.draw.ensures c.redraw_boundaries.new.t c.redraw_boundaries.ensures c.redraw_followed.new.t c.redraw_followed.ensures;
     }
 
 pub shape_of-work : goal.shape_of-work
@@ -57,4 +57,4 @@ pub returns : goal.returns
 returns c =
     let a = c.args in
     let g = c.lay_out.new in
-    all-relaid a.join a.plan a.next a.reach a.gone.now a.i a.j a.lanes.now a.boundaries.now a.stop_lines.now a.crosswalks.now a.coordinates.now a.work.now c.requires.0 c.requires.1 c.Taken-of.result c.Taken-of.ensures c.side_points.result c.side_points.ensures c.redrawn_of-one.result c.redrawn_of-two.result c.redrawn_of-one.ensures c.redrawn_of-two.ensures c.draw.new.1.1.1.1.1.1.1.0 c.draw.ensures c.redraw_boundaries.new.0 c.redraw_boundaries.ensures c.redraw_followed.new.0 c.redraw_followed.ensures (line_tables g.0 g.1.0 g.1.1.0 g.1.1.1.0 g.1.1.1.1.0) c.lay_out.ensures
+    all-relaid a.join a.plan a.next a.reach a.gone.now a.i a.j a.lanes.now a.boundaries.now a.stop_lines.now a.crosswalks.now a.coordinates.now a.work.now c.requires.0 c.requires.1 c.Taken-of.result c.Taken-of.ensures c.side_points.result c.side_points.ensures c.redrawn_of-one.result c.redrawn_of-two.result c.redrawn_of-one.ensures c.redrawn_of-two.ensures c.draw.new.work.0 c.draw.ensures c.redraw_boundaries.new.t c.redraw_boundaries.ensures c.redraw_followed.new.t c.redraw_followed.ensures (line_tables g.0 g.1.0 g.1.1.0 g.1.1.1.0 g.1.1.1.1.0) c.lay_out.ensures

@@ -49,14 +49,14 @@ slice_bounds-held-end c =
 pub slice_bounds-redraw_lanes-end : goal.slice_bounds-redraw_lanes-end
 slice_bounds-redraw_lanes-end c =
     let few : length c.successors-followed.result.now ≤ 16 = rw c.successors-followed.ensures (after-short c.args.t.now c.requires.0 c.args.j c.requires.1.1.1) in
-    sym (length-take-le (length c.successors-followed.result.now) c.copy.new.1.0 (omega (arith, c.copy.auto.1.0)))
+    sym (length-take-le (length c.successors-followed.result.now) c.copy.new.to (omega (arith, c.copy.auto.1.0)))
 
 pub redraw_lanes-requires : goal.redraw_lanes-requires
 redraw_lanes-requires c =
     let few : length c.successors-followed.result.now ≤ 16 = rw c.successors-followed.ensures (after-short c.args.t.now c.requires.0 c.args.j c.requires.1.1.1) in
-    (c.requires.0, omega (arith, length-take-le (length c.successors-followed.result.now) c.copy.new.1.0 (omega (arith, c.copy.auto.1.0))))
+    (c.requires.0, omega (arith, length-take-le (length c.successors-followed.result.now) c.copy.new.to (omega (arith, c.copy.auto.1.0))))
 
 pub returns : goal.returns
 returns c =
     let few : length c.successors-followed.result.now ≤ 16 = rw c.successors-followed.ensures (after-short c.args.t.now c.requires.0 c.args.j c.requires.1.1.1) in
-    followed (replicate 16 0) c.successors-followed.result.now c.copy.new.1.0 c.copy.ensures few c.args.t.now c.args.i c.args.j c.args.taken c.successors-followed.ensures c.redraw_lanes.new.0 c.redraw_lanes.ensures
+    followed (replicate 16 0) c.successors-followed.result.now c.copy.new.to c.copy.ensures few c.args.t.now c.args.i c.args.j c.args.taken c.successors-followed.ensures c.redraw_lanes.new.t c.redraw_lanes.ensures

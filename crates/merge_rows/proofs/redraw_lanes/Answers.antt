@@ -10,9 +10,9 @@ drop_rows-requires c = (omega arith, lanes-room c.args.t.now c.requires.0)
 pub merge_rows-requires : goal.merge_rows-requires
 merge_rows-requires c =
     let a = c.args in
-    (linked-left a.t.now c.requires.0 a.second c.drop_rows.new.0 c.drop_rows.ensures, c.requires.1)
+    (linked-left a.t.now c.requires.0 a.second c.drop_rows.new.t c.drop_rows.ensures, c.requires.1)
 
 pub returns : goal.returns
 returns c =
     let a = c.args in
-    lanes_all a.t.now c.requires.0 a.second c.drop_rows.new.0 c.drop_rows.ensures a.first a.taken a.successors.now c.merge_rows.new.0 c.merge_rows.ensures
+    lanes_all a.t.now c.requires.0 a.second c.drop_rows.new.t c.drop_rows.ensures a.first a.taken a.successors.now c.merge_rows.new.t c.merge_rows.ensures

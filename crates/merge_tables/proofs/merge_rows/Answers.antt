@@ -40,7 +40,7 @@ pub loop-i-smaller : goal.loop-i-smaller
 loop-i-smaller c = omega (arith, c.loop-i-test.true)
 
 pub loop-i-preserved : goal.loop-i-preserved
-loop-i-preserved c = changed-turn 52 (row_merged c.args.first c.args.second c.args.taken c.args.successors.now) c.args.t.now (table-room 1024 52 c.args.t.now c.requires.0.counts) (merged_keeps c.args.t.now c.args.first c.args.second c.args.taken c.args.successors.now c.requires.0 c.requires.1) c.loop-i.t c.loop-i.i c.loop-i.invariant c.loop-i-test.true c.merge_row.new.0 c.merge_row.ensures
+loop-i-preserved c = changed-turn 52 (row_merged c.args.first c.args.second c.args.taken c.args.successors.now) c.args.t.now (table-room 1024 52 c.args.t.now c.requires.0.counts) (merged_keeps c.args.t.now c.args.first c.args.second c.args.taken c.args.successors.now c.requires.0 c.requires.1) c.loop-i.t c.loop-i.i c.loop-i.invariant c.loop-i-test.true c.merge_row.new.row c.merge_row.ensures
 
 pub shape_of-t : goal.shape_of-t
 shape_of-t c = changed-length 52 (row_merged c.args.first c.args.second c.args.taken c.args.successors.now) c.args.t.now (table-room 1024 52 c.args.t.now c.requires.0.counts) (merged_keeps c.args.t.now c.args.first c.args.second c.args.taken c.args.successors.now c.requires.0 c.requires.1) c.loop-i.t c.loop-i.i c.loop-i.invariant

@@ -42,7 +42,7 @@ pub loop-i-smaller : goal.loop-i-smaller
 loop-i-smaller c = omega (arith, c.loop-i-test.true)
 
 pub loop-i-preserved : goal.loop-i-preserved
-loop-i-preserved c = changed-turn 5 (pointed_row c.args.id c.args.start c.args.size) c.args.t.now (table-room 4096 5 c.args.t.now c.requires) (point-keeps c.args.t.now c.args.id c.args.start c.args.size (table-room 4096 5 c.args.t.now c.requires)) c.loop-i.t c.loop-i.i c.loop-i.invariant c.loop-i-test.true c.point_row.new.0 c.point_row.ensures
+loop-i-preserved c = changed-turn 5 (pointed_row c.args.id c.args.start c.args.size) c.args.t.now (table-room 4096 5 c.args.t.now c.requires) (point-keeps c.args.t.now c.args.id c.args.start c.args.size (table-room 4096 5 c.args.t.now c.requires)) c.loop-i.t c.loop-i.i c.loop-i.invariant c.loop-i-test.true c.point_row.new.row c.point_row.ensures
 
 pub shape_of-t : goal.shape_of-t
 shape_of-t c = changed-length 5 (pointed_row c.args.id c.args.start c.args.size) c.args.t.now (table-room 4096 5 c.args.t.now c.requires) (point-keeps c.args.t.now c.args.id c.args.start c.args.size (table-room 4096 5 c.args.t.now c.requires)) c.loop-i.t c.loop-i.i c.loop-i.invariant

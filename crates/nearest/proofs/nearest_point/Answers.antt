@@ -44,7 +44,7 @@ pub better-best-requires : goal.better-best-requires
 better-best-requires c = (c.distance-step.ensures, c.loop-i.invariant.1.1)
 
 pub overflow_add-i-in-loop-i-2 : goal.overflow_add-i-in-loop-i-2
-overflow_add-i-in-loop-i-2 c = omega (arith, c.count-n.ensures, c.loop-i-test.true, c.count-n.type-inv)
+overflow_add-i-in-loop-i-2 c = omega (arith, c.count-n.ensures, c.loop-i-test.true, c.count-n.type_inv)
 
 pub loop-i-smaller : goal.loop-i-smaller
 loop-i-smaller c = omega arith

@@ -9,7 +9,7 @@ use Rattle.nearest.proofs.surely_not_nearer.Goals as goal
 
 pub returns-then-least : goal.returns-then-least
 unfolding surely_not_nearer epsilon
-returns-then-least c = (rw (c.if-best.true, c.if-least.true), λ t e. farther c.args.best c.args.least c.args.next (subst T (sym c.well-formed.1.0.1) tt) (subst T (sym c.well-formed.1.1.0.1) tt) e c.if-best.true c.if-least.true t)
+returns-then-least c = (rw (c.if-best.true, c.if-least.true), λ t e. farther c.args.best c.args.least c.args.next (subst T (sym c.well_formed.1.0.1) tt) (subst T (sym c.well_formed.1.1.0.1) tt) e c.if-best.true c.if-least.true t)
 
 pub returns-else-least : goal.returns-else-least
 unfolding surely_not_nearer epsilon

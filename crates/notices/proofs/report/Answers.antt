@@ -11,9 +11,10 @@ use Rattle.report.proofs.Warnings.{fits-room, notices_room, notices_put}
 use Rattle.notices.proofs.report.Goals as goal
 use Rattle.notices.proofs.report.Lts as lts
 use Rattle.notices.proofs.report.Reads as reads
+use Rattle.notices.proofs.report.Tie as tie
 
 abbrev AtStart : Type 0
-AtStart = lts.Start reads.Pre reads.Post
+AtStart = lts.Start tie.the-claims reads.Pre reads.Post
 
 lanes_fit : (c : AtStart) → length c.args.ids.now * 2 ≤ length c.args.modified.now
 lanes_fit c =
@@ -37,7 +38,7 @@ note-noted-requires c = omega (arith, both-fit c.before.before.before.before.bef
 pub returns : goal.returns
 unfolding listed
 returns c =
-    let start = c.before.before.before.before.before.before.before.before.before.before.before.before.before.before.before.before in
+    let start = c in
     let a = start.args in
     let f = issues a.first in
     let s = issues a.second in
@@ -46,9 +47,9 @@ returns c =
     let two = c.note-noted in
     let m : ids.result ≡ length a.ids.now = omega (arith, ids.ensures.0) in
     let n : two.result ≡ length (f ++ s) = omega (arith, length-append f s, one.ensures.0, two.ensures.0) in
-    let h : length f * 10 ≤ length a.warnings.now = omega (arith, both-fit start) in
+    let h : length f * 10 ≤ length a.warnings.now = omega (arith, both-fit c.before.before.before.before.before.before.before.before.before.before.before.before.before.before.before.before) in
     let counted =
     ap {B = Counts} (λ (z : ℕ). record { created = 0; modified = z; deleted = 0; warnings = two.result }) m
     ∙ ap {B = Counts} (λ (z : ℕ). record { created = 0; modified = length a.ids.now; deleted = 0; warnings = z }) n in
-    let put = notices_put a.warnings.now one.new.0 two.new.0 one.result a.first a.second h one.ensures.0 one.ensures.1 two.ensures.1 in
+    let put = notices_put a.warnings.now one.new.warnings two.new.warnings one.result a.first a.second h one.ensures.0 one.ensures.1 two.ensures.1 in
     (counted, (ids.ensures.1, put))

@@ -54,7 +54,7 @@ loop-i-preserved c =
     let t = c.loop-i in
     walked_more ids t.seen t.i c.loop-i-test.true t.invariant
     (⊎_elim
-    (λ s. sym s.3.ensures ∙ s.4.left)
+    (λ s. sym s.contains.ensures ∙ s.if-contains.false)
     (λ s. unmarked-lacks ids t.seen t.i (get_or ids t.i 0) t.invariant s.if-seen-mark.false)
     c.if-seen-mark.branch-raw)
 

@@ -5,9 +5,10 @@ use mathlib.Core.Path.{refl, sym, ◌∙◌}
 use Rattle.ops.proofs.apply.Goals as goal
 use Rattle.ops.proofs.apply.Lts as lts
 use Rattle.ops.proofs.apply.Reads as reads
+use Rattle.ops.proofs.apply.Tie as tie
 
 abbrev AtStart : Type 0
-AtStart = lts.Start reads.Pre reads.Post
+AtStart = lts.Start tie.the-claims reads.Pre reads.Post
 
 -- what is lent
 abbrev lent : AtStart → Lent

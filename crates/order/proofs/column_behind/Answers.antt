@@ -17,14 +17,15 @@ use Rattle.order.proofs.Behind.{behind_more, behind-all}
 use Rattle.order.proofs.column_behind.Goals as goal
 use Rattle.order.proofs.column_behind.Lts as lts
 use Rattle.order.proofs.column_behind.Reads as reads
+use Rattle.order.proofs.column_behind.Tie as tie
 
 abbrev AtInLoopI : Type 0
-AtInLoopI = lts.In-loop reads.Pre reads.Post goal.the-invariant-loop-i goal.the-decreases-loop-i
+AtInLoopI = lts.In-loop tie.the-claims reads.Pre reads.Post goal.the-invariant-loop-i goal.the-decreases-loop-i
 
 -- in a turn: the row lies in the table
 room : (c : AtInLoopI) → 1 + c.loop-i.i * c.args.stride + c.args.stride ≤ length c.args.t.now
 room c =
-    let s = c.before.before.before.before in
+    let s = c in
     row_in 4096 s.args.stride c.loop-i.i s.args.t.now s.requires.1.1.1.1.0 c.loop-i-test.true
 
 pub bounds-t-0 : goal.bounds-t-0
@@ -34,35 +35,35 @@ pub loop-i-init : goal.loop-i-init
 loop-i-init c = let a = c.args in (omega arith, ap (behind_all a.reach a.from) (from_start (column_of a.stride a.offset a.marked) a.t.now))
 
 pub overflow_mul-row : goal.overflow_mul-row
-overflow_mul-row c = omega (arith, room (c.before), c.well-formed)
+overflow_mul-row c = omega (arith, room c.before, c.well_formed)
 
 pub overflow_add-row : goal.overflow_add-row
-overflow_add-row c = omega (arith, room (c.before), c.well-formed)
+overflow_add-row c = omega (arith, room c.before, c.well_formed)
 
 pub has_line-requires : goal.has_line-requires
-has_line-requires c = omega (arith, room (c.before), c.requires.1.0)
+has_line-requires c = omega (arith, room c.before, c.requires.1.0)
 
 pub overflow_add-at : goal.overflow_add-at
-overflow_add-at c = omega (arith, room c.before.before.before, c.requires.0, c.well-formed)
+overflow_add-at c = omega (arith, room c.before.before.before, c.requires.0, c.well_formed)
 
 pub offset_bounds-t-at : goal.offset_bounds-t-at
-offset_bounds-t-at c = omega (arith, room c.before.before.before, c.requires.0, c.well-formed)
+offset_bounds-t-at c = omega (arith, room c.before.before.before, c.requires.0, c.well_formed)
 
 pub bounds-t-at : goal.bounds-t-at
-bounds-t-at c = omega (arith, room c.before.before.before.before, c.requires.0, c.well-formed)
+bounds-t-at c = omega (arith, room c.before.before.before.before, c.requires.0, c.well_formed)
 
 pub overflow_add-at-then-has_line : goal.overflow_add-at-then-has_line
-overflow_add-at-then-has_line c = omega (arith, room c.before.before.before.before, c.requires.0, c.well-formed)
+overflow_add-at-then-has_line c = omega (arith, room c.before.before.before.before, c.requires.0, c.well_formed)
 
 pub offset_bounds-t-at-then-has_line : goal.offset_bounds-t-at-then-has_line
-offset_bounds-t-at-then-has_line c = omega (arith, room c.before.before.before.before, c.requires.0, c.well-formed)
+offset_bounds-t-at-then-has_line c = omega (arith, room c.before.before.before.before, c.requires.0, c.well_formed)
 
 pub bounds-t-at-then-has_line : goal.bounds-t-at-then-has_line
-bounds-t-at-then-has_line c = omega (arith, room c.before.before.before.before.before, c.requires.0, c.well-formed)
+bounds-t-at-then-has_line c = omega (arith, room c.before.before.before.before.before, c.requires.0, c.well_formed)
 
 pub line_behind-far-requires : goal.line_behind-far-requires
 line_behind-far-requires c =
-    let s = c.before.before.before.before.before.before.before.before.before in
+    let s = c in
     let a = s.args in
     let i = c.loop-i.i in
     let k = column_of a.stride a.offset a.marked in
@@ -82,7 +83,7 @@ loop-i-smaller c = omega (arith, c.loop-i-test.true)
 
 pub loop-i-preserved : goal.loop-i-preserved
 loop-i-preserved c =
-    let s = c.before.before.before.before.before.before.before in
+    let s = c in
     let a = s.args in
     let l = c.loop-i in
     let k = column_of a.stride a.offset a.marked in
@@ -93,7 +94,7 @@ loop-i-preserved c =
     let g = room c.before.before.before in
     let ls = column_lines k t in
     ⊎_elim
-    (λ w. (omega (arith, h), behind_more a.reach a.from l.far c.if-has_line.far ls (lines_from k t n (l.i + 1)) (lines_from k t n l.i) (line_here t (1 + l.i * a.stride + a.offset)) l.invariant.1 (from-with a.stride a.offset a.marked t n l.i s.requires.0 s.requires.1.0 h g b.result b.ensures w.if-has_line.true) (w.4 ∙ w.3.ensures)))
+    (λ w. (omega (arith, h), behind_more a.reach a.from l.far c.if-has_line.far ls (lines_from k t n (l.i + 1)) (lines_from k t n l.i) (line_here t (1 + l.i * a.stride + a.offset)) l.invariant.1 (from-with a.stride a.offset a.marked t n l.i s.requires.0 s.requires.1.0 h g b.result b.ensures w.if-has_line.true) (w.far-is ∙ w.line_behind-far.ensures)))
     (λ w. (omega (arith, h), l.invariant.1 ∙ rw (from-without a.stride a.offset a.marked t n l.i s.requires.0 s.requires.1.0 h g b.result b.ensures w.if-has_line.false, w.far-is)))
     c.if-has_line.branch-raw
 

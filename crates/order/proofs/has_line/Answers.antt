@@ -8,7 +8,7 @@ use Rattle.order.proofs.has_line.Goals as goal
 
 pub bounds-t-row : goal.bounds-t-row
 bounds-t-row c =
-    let s = c.before.before.before in
+    let s = c in
     let h : s.args.row + 7 ≤ length s.args.t.now = rw c.if-marked.true at s.requires in
     omega arith
 

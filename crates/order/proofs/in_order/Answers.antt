@@ -10,9 +10,10 @@ use Rattle.order.proofs.Behind.{columns-behind}
 use Rattle.order.proofs.in_order.Goals as goal
 use Rattle.order.proofs.in_order.Lts as lts
 use Rattle.order.proofs.in_order.Reads as reads
+use Rattle.order.proofs.in_order.Tie as tie
 
 abbrev AtStart : Type 0
-AtStart = lts.Start reads.Pre reads.Post
+AtStart = lts.Start tie.the-claims reads.Pre reads.Post
 
 abbrev tables : AtStart → Tables
 tables s = line_tables s.args.lanes.now s.args.boundaries.now s.args.stop_lines.now s.args.crosswalks.now []
@@ -34,7 +35,7 @@ column_behind-last-requires c = let s = c.before.before.before.before.before.bef
 
 pub returns : goal.returns
 returns c =
-    let s = c.before.before.before.before.before.before.before.before.before.before in
+    let s = c in
     let a = c.column_behind-centers in
     let b = c.column_behind-stops in
     let d = c.column_behind-lefts in

@@ -10,14 +10,15 @@ use Rattle.layout.proofs.Reach.{Far, far-start, far-fits, far-turn, far-done, ro
 use Rattle.reach.proofs.column_reach.Goals as goal
 use Rattle.reach.proofs.column_reach.Lts as lts
 use Rattle.reach.proofs.column_reach.Reads as reads
+use Rattle.reach.proofs.column_reach.Tie as tie
 
 abbrev AtInLoopI : Type 0
-AtInLoopI = lts.In-loop reads.Pre reads.Post goal.the-invariant-loop-i goal.the-decreases-loop-i
+AtInLoopI = lts.In-loop tie.the-claims reads.Pre reads.Post goal.the-invariant-loop-i goal.the-decreases-loop-i
 
 -- in a turn: the row lies in the table
 room : (c : AtInLoopI) → 1 + c.loop-i.i * c.args.stride + c.args.stride ≤ length c.args.t.now
 room c =
-    let s = c.before.before.before.before in
+    let s = c in
     row_in 4096 s.args.stride c.loop-i.i s.args.t.now s.requires.1.1.0 c.loop-i-test.true
 
 pub bounds-t-0 : goal.bounds-t-0
@@ -27,28 +28,28 @@ pub loop-i-init : goal.loop-i-init
 loop-i-init c = let a = c.args in (omega arith, far-start (plain a.stride a.offset) a.t.now a.most c.requires.1.1.1)
 
 pub overflow_mul-at : goal.overflow_mul-at
-overflow_mul-at c = omega (arith, room (c.before), c.well-formed)
+overflow_mul-at c = omega (arith, room c.before, c.well_formed)
 
 pub overflow_add-at : goal.overflow_add-at
-overflow_add-at c = omega (arith, room (c.before), c.well-formed)
+overflow_add-at c = omega (arith, room c.before, c.well_formed)
 
 pub overflow_add-at-in-loop-i : goal.overflow_add-at-in-loop-i
-overflow_add-at-in-loop-i c = omega (arith, room (c.before), c.well-formed)
+overflow_add-at-in-loop-i c = omega (arith, room c.before, c.well_formed)
 
 pub offset_bounds-t-at : goal.offset_bounds-t-at
-offset_bounds-t-at c = omega (arith, room (c.before), c.well-formed)
+offset_bounds-t-at c = omega (arith, room c.before, c.well_formed)
 
 pub bounds-t-at : goal.bounds-t-at
-bounds-t-at c = omega (arith, room c.before.before, c.well-formed)
+bounds-t-at c = omega (arith, room c.before.before, c.well_formed)
 
 pub overflow_add-at-in-loop-i-2 : goal.overflow_add-at-in-loop-i-2
-overflow_add-at-in-loop-i-2 c = omega (arith, room c.before.before, c.well-formed)
+overflow_add-at-in-loop-i-2 c = omega (arith, room c.before.before, c.well_formed)
 
 pub offset_bounds-t-at-in-loop-i : goal.offset_bounds-t-at-in-loop-i
-offset_bounds-t-at-in-loop-i c = omega (arith, room c.before.before, c.well-formed)
+offset_bounds-t-at-in-loop-i c = omega (arith, room c.before.before, c.well_formed)
 
 pub bounds-t-at-in-loop-i : goal.bounds-t-at-in-loop-i
-bounds-t-at-in-loop-i c = omega (arith, room c.before.before.before, c.well-formed)
+bounds-t-at-in-loop-i c = omega (arith, room c.before.before.before, c.well_formed)
 
 pub line_reach-far-requires : goal.line_reach-far-requires
 line_reach-far-requires c =

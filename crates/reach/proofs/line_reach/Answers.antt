@@ -14,13 +14,13 @@ abbrev line : AtStart → Span
 line s = record { start = s.args.start; size = s.args.size }
 
 pub returns-then-size-eq0 : goal.returns-then-size-eq0
-returns-then-size-eq0 c = end_none (line c.before.before) c.args.most c.if-size-eq0.true
+returns-then-size-eq0 c = end_none (line c.before) c.args.most c.if-size-eq0.true
 
 pub overflow_add-end : goal.overflow_add-end
-overflow_add-end c = omega (arith, within_end 65536 (line c.before.before) c.requires c.if-size-eq0.false)
+overflow_add-end c = omega (arith, within_end 65536 (line c.before) c.requires c.if-size-eq0.false)
 
 pub returns-then-most-end : goal.returns-then-most-end
-returns-then-most-end c = end_later (line c.before.before.before) c.args.most c.if-size-eq0.false c.if-most-end.true
+returns-then-most-end c = end_later (line c.before.before) c.args.most c.if-size-eq0.false c.if-most-end.true
 
 pub returns : goal.returns
-returns c = end_before (line c.before.before.before) c.args.most c.if-size-eq0.false c.if-most-end.false
+returns c = end_before (line c.before.before) c.args.most c.if-size-eq0.false c.if-most-end.false

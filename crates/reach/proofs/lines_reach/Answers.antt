@@ -8,9 +8,10 @@ use Rattle.layout.proofs.Reach.{columns-within, columns-reach}
 use Rattle.reach.proofs.lines_reach.Goals as goal
 use Rattle.reach.proofs.lines_reach.Lts as lts
 use Rattle.reach.proofs.lines_reach.Reads as reads
+use Rattle.reach.proofs.lines_reach.Tie as tie
 
 abbrev AtStart : Type 0
-AtStart = lts.Start reads.Pre reads.Post
+AtStart = lts.Start tie.the-claims reads.Pre reads.Post
 
 abbrev tables : AtStart → Tables
 tables s = line_tables s.args.lanes.now s.args.boundaries.now s.args.stop_lines.now s.args.crosswalks.now []
@@ -32,7 +33,7 @@ column_reach-requires c = let s = c.before.before.before.before.before.before.be
 
 pub returns : goal.returns
 returns c =
-    let s = c.before.before.before.before.before.before.before.before.before.before in
+    let s = c in
     let a = c.column_reach-centers in
     let b = c.centers_reach-stops in
     let d = c.column_reach-lefts in

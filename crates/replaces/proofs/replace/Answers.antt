@@ -11,19 +11,20 @@ use Rattle.mentions.proofs.Whole.{Changed, changed-none, changed-length, changed
 use Rattle.replaces.proofs.replace.Goals as goal
 use Rattle.replaces.proofs.replace.Lts as lts
 use Rattle.replaces.proofs.replace.Reads as reads
+use Rattle.replaces.proofs.replace.Tie as tie
 
 abbrev AtInLoopI : Type 0
-AtInLoopI = lts.In-loop reads.Pre reads.Post goal.the-invariant-loop-i goal.the-decreases-loop-i
+AtInLoopI = lts.In-loop tie.the-claims reads.Pre reads.Post goal.the-invariant-loop-i goal.the-decreases-loop-i
 
 -- row i lies within the table, as it was and as it is
 room : (c : AtInLoopI) → 1 + c.loop-i.i * 330 + 330 ≤ length c.args.rules.now
 room c =
-    let s = c.before.before.before.before in
+    let s = c in
     lent-room Rules s.args.rules.now s.requires 330 refl c.loop-i.i c.loop-i-test.true
 
 row : (c : AtInLoopI) → 1 + c.loop-i.i * 330 + 330 ≤ length c.loop-i.rules
 row c =
-    let s = c.before.before.before.before in
+    let s = c in
     let a = s.args in
     let l = c.loop-i in
     changed-room Rules (rule_replaces a.to a.from) (replaces-length a.to a.from) a.rules.now s.requires l.rules l.i l.invariant 330 refl c.loop-i-test.true
@@ -37,16 +38,16 @@ loop-i-init c =
     changed-none Rules (rule_replaces a.to a.from) (replaces-length a.to a.from) a.rules.now c.requires
 
 pub overflow_mul-at : goal.overflow_mul-at
-overflow_mul-at c = omega (arith, room (c.before))
+overflow_mul-at c = omega (arith, room c)
 
 pub overflow_add-at : goal.overflow_add-at
-overflow_add-at c = omega (arith, room (c.before))
+overflow_add-at c = omega (arith, room c)
 
 pub overflow_add-end : goal.overflow_add-end
-overflow_add-end c = omega (arith, room (c.before))
+overflow_add-end c = omega (arith, room c)
 
 pub offset_bounds-rules-at : goal.offset_bounds-rules-at
-offset_bounds-rules-at c = omega (arith, room (c.before))
+offset_bounds-rules-at c = omega (arith, room c)
 
 pub slice_bounds-replace_rule-count : goal.slice_bounds-replace_rule-count
 slice_bounds-replace_rule-count c = omega arith
@@ -68,7 +69,7 @@ loop-i-preserved c =
     let a = c.args in
     let l = c.loop-i in
     let f = c.replace_rule in
-    changed-turn Rules (rule_replaces a.to a.from) (replaces-length a.to a.from) a.rules.now c.requires l.rules l.i l.invariant 330 refl c.loop-i-test.true f.new.0 f.ensures
+    changed-turn Rules (rule_replaces a.to a.from) (replaces-length a.to a.from) a.rules.now c.requires l.rules l.i l.invariant 330 refl c.loop-i-test.true f.new.row f.ensures
 
 pub shape_of-rules : goal.shape_of-rules
 shape_of-rules c =

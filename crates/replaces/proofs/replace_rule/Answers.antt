@@ -6,9 +6,10 @@ use Rattle.mentions.proofs.Going.{RuleFits, lanes-room, priority-room, yielding-
 use Rattle.replaces.proofs.replace_rule.Goals as goal
 use Rattle.replaces.proofs.replace_rule.Lts as lts
 use Rattle.replaces.proofs.replace_rule.Reads as reads
+use Rattle.replaces.proofs.replace_rule.Tie as tie
 
 abbrev AtStart : Type 0
-AtStart = lts.Start reads.Pre reads.Post
+AtStart = lts.Start tie.the-claims reads.Pre reads.Post
 
 fitting : (c : AtStart) → RuleFits (replace_lane c.args.to c.args.from) (replace_lane c.args.to c.args.from) c.args.row.now
 fitting c = rule_fits_lem c.args.row.now c.requires (replace_lane c.args.to c.args.from) (replace_lane c.args.to c.args.from) (length-replace c.args.to c.args.from) (length-replace c.args.to c.args.from)
@@ -19,30 +20,30 @@ replace_list-requires c = lanes-room c.args.row.now c.requires
 pub returns-then-kind-ne-RIGHT_OF_WAY : goal.returns-then-kind-ne-RIGHT_OF_WAY
 unfolding rule_replaces
 returns-then-kind-ne-RIGHT_OF_WAY c =
-    let s = c.before.before.before.before.before.before.before.before in
+    let s = c in
     let g = replace_lane s.args.to s.args.from in
-    rule-changed-lanes s.args.row.now s.requires g g (fitting s) c.replace_list.new.0 c.replace_list.ensures c.if-kind-ne-RIGHT_OF_WAY.true
+    rule-changed-lanes s.args.row.now s.requires g g (fitting c.before.before.before.before.before.before.before.before) c.replace_list.new.row c.replace_list.ensures c.if-kind-ne-RIGHT_OF_WAY.true
 
 pub replace_list-requires-2 : goal.replace_list-requires-2
 replace_list-requires-2 c =
-    let s = c.before.before.before.before.before.before.before.before.before in
+    let s = c in
     let g = replace_lane s.args.to s.args.from in
-    priority-room s.args.row.now s.requires g g (fitting s) c.replace_list.new.0 c.replace_list.ensures c.if-kind-ne-RIGHT_OF_WAY.false
+    priority-room s.args.row.now s.requires g g (fitting c.before.before.before.before.before.before.before.before) c.replace_list.new.row c.replace_list.ensures c.if-kind-ne-RIGHT_OF_WAY.false
 
 pub replace_list-requires-3 : goal.replace_list-requires-3
 replace_list-requires-3 c =
-    let s = c.before.before.before.before.before.before.before.before.before.before.before.before.before in
+    let s = c in
     let g = replace_lane s.args.to s.args.from in
     let v = c.replace_list in
     let u = c.replace_list-2 in
-    yielding-room s.args.row.now s.requires g g (fitting s) v.new.0 v.ensures c.if-kind-ne-RIGHT_OF_WAY.false u.new.0 u.ensures
+    yielding-room s.args.row.now s.requires g g (fitting c.before.before.before.before.before.before.before.before.before.before.before.before) v.new.row v.ensures c.if-kind-ne-RIGHT_OF_WAY.false u.new.row u.ensures
 
 pub returns : goal.returns
 unfolding rule_replaces
 returns c =
-    let s = c.before.before.before.before.before.before.before.before.before.before.before.before.before.before.before.before in
+    let s = c in
     let g = replace_lane s.args.to s.args.from in
     let v = c.replace_list in
     let u = c.replace_list-2 in
     let t = c.replace_list-3 in
-    rule-changed s.args.row.now s.requires g g (fitting s) v.new.0 v.ensures c.if-kind-ne-RIGHT_OF_WAY.false u.new.0 u.ensures t.new.0 t.ensures
+    rule-changed s.args.row.now s.requires g g (fitting c.before.before.before.before.before.before.before.before.before.before.before.before.before.before.before.before) v.new.row v.ensures c.if-kind-ne-RIGHT_OF_WAY.false u.new.row u.ensures t.new.row t.ensures

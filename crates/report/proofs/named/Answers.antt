@@ -26,4 +26,4 @@ insert-requires c =
 pub returns : goal.returns
 returns c =
     let a = c.args in
-    named_new a.ids.now a.n a.id c.requires.0 c.insert.new.0 (sym c.contains.ensures ∙ c.if-contains.false) c.insert.ensures
+    named_new a.ids.now a.n a.id c.requires.0 c.insert.new.slots (sym c.contains.ensures ∙ c.if-contains.false) c.insert.ensures

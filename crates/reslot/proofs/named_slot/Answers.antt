@@ -7,7 +7,7 @@ use Rattle.reslot.proofs.named_slot.Goals as goal
 
 pub returns-in_default : goal.returns-in_default
 returns-in_default c =
-    let s = c.before.before.before.before in
+    let s = c in
     none_named s.args.slot s.args.ids.now s.args.n c.in_default.is (omega (arith, s.requires.0))
 
 pub returns : goal.returns
@@ -16,4 +16,4 @@ returns c =
     let h = c.requires in
     let g = c.slot-1.given in
     let m = c.named in
-    one-named a.slot g.0.0 a.ids.now m.new.0 a.n m.result g.1 (named-front a.ids.now a.n g.0.0.lane h.0 m.new.0 m.result h.1 m.ensures)
+    one-named a.slot g.0.0 a.ids.now m.new.ids a.n m.result g.1 (named-front a.ids.now a.n g.0.0.lane h.0 m.new.ids m.result h.1 m.ensures)

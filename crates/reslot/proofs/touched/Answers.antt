@@ -11,35 +11,36 @@ use Rattle.reslot.proofs.Reslot.{Named, first-named, next-named, named-few, name
 use Rattle.reslot.proofs.touched.Goals as goal
 use Rattle.reslot.proofs.touched.Lts as lts
 use Rattle.reslot.proofs.touched.Reads as reads
+use Rattle.reslot.proofs.touched.Tie as tie
 
 abbrev AtAfterNamedA : Type 0
-AtAfterNamedA = lts.After-named reads.Pre reads.Post
+AtAfterNamedA = lts.After-named tie.the-claims reads.Pre reads.Post
 
 abbrev AtAfterNamedSlotB : Type 0
-AtAfterNamedSlotB = lts.After-named_slot reads.Pre reads.Post
+AtAfterNamedSlotB = lts.After-named_slot tie.the-claims reads.Pre reads.Post
 
 abbrev AtAfterNamedSlotC : Type 0
-AtAfterNamedSlotC = lts.After-named_slot2 reads.Pre reads.Post
+AtAfterNamedSlotC = lts.After-named_slot2 tie.the-claims reads.Pre reads.Post
 
-front : (c : AtAfterNamedA) → (take c.named-a.result c.named-a.new.0 ≡ place c.args.lane (take 0 c.args.ids.now)) × (c.named-a.result ≡ length (place c.args.lane (take 0 c.args.ids.now)))
+front : (c : AtAfterNamedA) → (take c.named-a.result c.named-a.new.ids ≡ place c.args.lane (take 0 c.args.ids.now)) × (c.named-a.result ≡ length (place c.args.lane (take 0 c.args.ids.now)))
 front c =
-    let s = c.before.before.before.before in
-    named-front s.args.ids.now 0 s.args.lane (omega (arith, s.requires)) c.named-a.new.0 c.named-a.result nothing-up c.named-a.ensures
+    let s = c in
+    named-front s.args.ids.now 0 s.args.lane (omega (arith, s.requires)) c.named-a.new.ids c.named-a.result nothing-up c.named-a.ensures
 
-one : (c : AtAfterNamedA) → Named 1 c.named-a.result c.named-a.new.0
+one : (c : AtAfterNamedA) → Named 1 c.named-a.result c.named-a.new.ids
 one c =
     let a = c.args in
-    first-named a.lane c.named-a.result c.named-a.new.0 a.ids.now (front c)
+    first-named a.lane c.named-a.result c.named-a.new.ids a.ids.now (front c)
 
-two : (c : AtAfterNamedSlotB) → Named 2 c.named_slot-b.result c.named_slot-b.new.0
+two : (c : AtAfterNamedSlotB) → Named 2 c.named_slot-b.result c.named_slot-b.new.ids
 two c =
-    let p = c.before.before.before.before in
-    next-named 1 p.named-a.result c.named_slot-b.result c.named_slot-b.new.0 p.named-a.new.0 (neighbor_option c.args.old) (one p) c.named_slot-b.ensures
+    let p = c in
+    next-named 1 p.named-a.result c.named_slot-b.result c.named_slot-b.new.ids p.named-a.new.ids (neighbor_option c.args.old) (one c.before.before.before.before) c.named_slot-b.ensures
 
-three : (c : AtAfterNamedSlotC) → Named 3 c.named_slot-c.result c.named_slot-c.new.0
+three : (c : AtAfterNamedSlotC) → Named 3 c.named_slot-c.result c.named_slot-c.new.ids
 three c =
-    let p = c.before.before.before.before in
-    next-named 2 p.named_slot-b.result c.named_slot-c.result c.named_slot-c.new.0 p.named_slot-b.new.0 (neighbor_option c.args.new) (two p) c.named_slot-c.ensures
+    let p = c in
+    next-named 2 p.named_slot-b.result c.named_slot-c.result c.named_slot-c.new.ids p.named_slot-b.new.ids (neighbor_option c.args.new) (two c.before.before.before.before) c.named_slot-c.ensures
 
 pub named-a-requires : goal.named-a-requires
 named-a-requires c = (omega (arith, c.requires), nothing-up)
@@ -47,20 +48,20 @@ named-a-requires c = (omega (arith, c.requires), nothing-up)
 pub named_slot-b-requires : goal.named_slot-b-requires
 named_slot-b-requires c =
     let m = c.named-a in
-    let f = one c.before.before.before.before in
-    (omega (arith, named-few 1 m.result m.new.0 f, m.auto.0, c.requires), named-up 1 m.result m.new.0 f)
+    let f = one c.before.before.before in
+    (omega (arith, named-few 1 m.result m.new.ids f, m.auto.0, c.requires), named-up 1 m.result m.new.ids f)
 
 pub named_slot-c-requires : goal.named_slot-c-requires
 named_slot-c-requires c =
     let m = c.named_slot-b in
-    let f = two c.before.before.before.before in
-    (omega (arith, named-few 2 m.result m.new.0 f, c.named-a.auto.0, m.auto.0, c.requires), named-up 2 m.result m.new.0 f)
+    let f = two c.before.before.before in
+    (omega (arith, named-few 2 m.result m.new.ids f, c.named-a.auto.0, m.auto.0, c.requires), named-up 2 m.result m.new.ids f)
 
 pub named_slot-requires : goal.named_slot-requires
 named_slot-requires c =
     let m = c.named_slot-c in
-    let f = three c.before.before.before.before in
-    (omega (arith, named-few 3 m.result m.new.0 f, c.named-a.auto.0, c.named_slot-b.auto.0, m.auto.0, c.requires), named-up 3 m.result m.new.0 f)
+    let f = three c.before.before.before in
+    (omega (arith, named-few 3 m.result m.new.ids f, c.named-a.auto.0, c.named_slot-b.auto.0, m.auto.0, c.requires), named-up 3 m.result m.new.ids f)
 
 pub returns : goal.returns
 returns c =
@@ -69,5 +70,5 @@ returns c =
     let m2 = c.named_slot-b in
     let m3 = c.named_slot-c in
     let m4 = c.named_slot in
-    all_named a.skip a.lane (neighbor_option a.old) (neighbor_option a.new) (neighbor_option a.other) m1.result m2.result m3.result m4.result a.ids.now m1.new.0 m2.new.0 m3.new.0 m4.new.0
+    all_named a.skip a.lane (neighbor_option a.old) (neighbor_option a.new) (neighbor_option a.other) m1.result m2.result m3.result m4.result a.ids.now m1.new.ids m2.new.ids m3.new.ids m4.new.ids
     c.if-skip.false (front c.before.before.before.before.before.before.before.before.before.before.before.before.before.before.before).0 m2.ensures.0 m3.ensures.0 m4.ensures

@@ -10,9 +10,10 @@ use Rattle.reslot.proofs.Reslot.{ids_few, FreeEnds, free-ends}
 use Rattle.reslot_edits.proofs.free_slot.Goals as goal
 use Rattle.reslot_edits.proofs.free_slot.Lts as lts
 use Rattle.reslot_edits.proofs.free_slot.Reads as reads
+use Rattle.reslot_edits.proofs.free_slot.Tie as tie
 
 abbrev AtStart : Type 0
-AtStart = lts.Start reads.Pre reads.Post
+AtStart = lts.Start tie.the-claims reads.Pre reads.Post
 
 room : (c : AtStart) → 1 + c.args.i * 52 + 52 ≤ length c.args.lanes.now
 room c = lane_room c.args.lanes.now c.requires.0 c.args.i c.requires.1
@@ -21,14 +22,14 @@ abbrev start : tie.After-fits2 → AtStart
 start c = c.before.before.before.before.before.before.before.before.before.before.before.before.before.before
 
 ends : (c : tie.After-fits2) →
-    FreeEnds (start c).args.lanes.now (start c).args.i (start c).args.side (start c).args.modified.now (start c).args.warnings.now c.is_free-free.result c.no_op_where-first.result c.touched-n.result c.touched-n.new.1.1.1.1.1.0 c.fits2.result
+    FreeEnds (start c).args.lanes.now (start c).args.i (start c).args.side (start c).args.modified.now (start c).args.warnings.now c.is_free-free.result c.no_op_where-first.result c.touched-n.result c.touched-n.new.ids.0 c.fits2.result
 ends c =
     let a = (start c).args in
     let o = c.neighbor-old in
     let f = c.is_free-free in
     let w = c.no_op_where-first in
     let m = c.touched-n in
-    free-ends a.lanes.now a.i a.side a.modified.now a.warnings.now o.result f.result w.result m.result m.new.1.1.1.1.1.0 c.fits2.result
+    free-ends a.lanes.now a.i a.side a.modified.now a.warnings.now o.result f.result w.result m.result m.new.ids.0 c.fits2.result
     o.ensures f.ensures w.ensures m.ensures c.fits2.ensures
 
 pub overflow_mul-lane : goal.overflow_mul-lane
@@ -50,16 +51,16 @@ slice_bounds-ids-end c =
     omega (arith, m.auto.1.1.1.1.1.0, ids_few c.is_free-free.result (get_or a.lanes.now (1 + a.i * 52) 0) (neighbor_option c.neighbor-old.result) none none m.result m.ensures.1)
 
 pub slice_bounds-report-end : goal.slice_bounds-report-end
-slice_bounds-report-end c = (ends c.before.before.before).counted
+slice_bounds-report-end c = (ends c.before.before).counted
 
 pub report-counts-requires : goal.report-counts-requires
-report-counts-requires c = (ends c.before.before.before.before.before).fitting c.if-fits.true
+report-counts-requires c = (ends c.before.before.before.before).fitting c.if-fits.true
 
 pub returns-then-fits : goal.returns-then-fits
 returns-then-fits c =
     let v = c.clear_unless in
     let m = c.report-counts in
-    (ends c.before.before.before.before.before.before.before.before.before.before.before.before.before.before).changed c.if-fits.true v.new.0 m.new.1.1.1.0 m.new.1.1.1.1.0 m.result v.ensures m.ensures
+    (ends c.before.before.before.before.before.before.before.before.before.before.before.before.before.before).changed c.if-fits.true v.new.lanes m.new.modified m.new.warnings.0 m.result v.ensures m.ensures
 
 pub returns : goal.returns
-returns c = (ends c.before.before).refused c.if-fits.false
+returns c = (ends c.before).refused c.if-fits.false

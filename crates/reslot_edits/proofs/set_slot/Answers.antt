@@ -10,9 +10,10 @@ use Rattle.reslot.proofs.Reslot.{ids_few, SetEnds, set-ends}
 use Rattle.reslot_edits.proofs.set_slot.Goals as goal
 use Rattle.reslot_edits.proofs.set_slot.Lts as lts
 use Rattle.reslot_edits.proofs.set_slot.Reads as reads
+use Rattle.reslot_edits.proofs.set_slot.Tie as tie
 
 abbrev AtStart : Type 0
-AtStart = lts.Start reads.Pre reads.Post
+AtStart = lts.Start tie.the-claims reads.Pre reads.Post
 
 room : (c : AtStart) → 1 + c.args.i * 52 + 52 ≤ length c.args.lanes.now
 room c = lane_room c.args.lanes.now c.requires.0 c.args.i c.requires.1.0
@@ -24,7 +25,7 @@ abbrev start : tie.After-fits2 → AtStart
 start c = c.before.before.before.before.before.before.before.before.before.before.before.before.before.before.before.before.before.before.before.before.before
 
 ends : (c : tie.After-fits2) →
-    SetEnds (start c).args.lanes.now (start c).args.i (start c).args.side (start c).args.j (start c).args.direction (start c).args.modified.now (start c).args.warnings.now c.holds-set.result c.no_op_where-first.result c.pair_where-second.result c.touched-n.result c.touched-n.new.1.1.1.1.1.0 c.fits2.result
+    SetEnds (start c).args.lanes.now (start c).args.i (start c).args.side (start c).args.j (start c).args.direction (start c).args.modified.now (start c).args.warnings.now c.holds-set.result c.no_op_where-first.result c.pair_where-second.result c.touched-n.result c.touched-n.new.ids.0 c.fits2.result
 ends c =
     let a = (start c).args in
     let r = c.reciprocal_side-answer in
@@ -35,7 +36,7 @@ ends c =
     let u = c.unshared-apart in
     let p = c.pair_where-second in
     let m = c.touched-n in
-    set-ends a.lanes.now a.i a.side a.j a.direction a.modified.now a.warnings.now r.result o.result h.result s.result w.result u.result p.result m.result m.new.1.1.1.1.1.0 c.fits2.result
+    set-ends a.lanes.now a.i a.side a.j a.direction a.modified.now a.warnings.now r.result o.result h.result s.result w.result u.result p.result m.result m.new.ids.0 c.fits2.result
     r.ensures o.ensures h.ensures s.ensures w.ensures u.ensures p.ensures m.ensures c.fits2.ensures
 
 pub overflow_mul-lane : goal.overflow_mul-lane
@@ -69,10 +70,10 @@ slice_bounds-ids-end c =
     omega (arith, m.auto.1.1.1.1.1.0, ids_few c.holds-set.result (get_or a.lanes.now (1 + a.i * 52) 0) (neighbor_option c.neighbor-old.result) (some (record { lane = get_or a.lanes.now (1 + a.j * 52) 0; direction = a.direction })) (neighbor_option c.neighbor-other.result) m.result m.ensures.1)
 
 pub slice_bounds-report-end : goal.slice_bounds-report-end
-slice_bounds-report-end c = (ends c.before.before.before).counted
+slice_bounds-report-end c = (ends c.before.before).counted
 
 pub report-counts-requires : goal.report-counts-requires
-report-counts-requires c = (ends c.before.before.before.before.before).fitting c.if-fits.true
+report-counts-requires c = (ends c.before.before.before.before).fitting c.if-fits.true
 
 pub set_unless-requires : goal.set_unless-requires
 set_unless-requires c = c.requires
@@ -81,7 +82,7 @@ pub returns-then-fits : goal.returns-then-fits
 returns-then-fits c =
     let v = c.set_unless in
     let m = c.report-counts in
-    (ends c.before.before.before.before.before.before.before.before.before.before.before.before.before.before).changed c.if-fits.true v.new.0 m.new.1.1.1.0 m.new.1.1.1.1.0 m.result v.ensures m.ensures
+    (ends c.before.before.before.before.before.before.before.before.before.before.before.before.before.before).changed c.if-fits.true v.new.lanes m.new.modified m.new.warnings.0 m.result v.ensures m.ensures
 
 pub returns : goal.returns
-returns c = (ends c.before.before).refused c.if-fits.false
+returns c = (ends c.before).refused c.if-fits.false

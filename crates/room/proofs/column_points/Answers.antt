@@ -17,19 +17,19 @@ AtInLoopI = lts.In-loop reads.Pre reads.Post goal.the-invariant-loop-i goal.the-
 row : (c : AtInLoopI)
     → 1 + c.loop-i.i * c.args.stride + c.args.stride ≤ length c.args.t.now
 row c =
-    let s = c.before.before.before in
+    let s = c in
     row_room 4096 s.args.stride s.args.t.now s.requires.1.1.0 c.loop-i.i c.loop-i-test.true
 
 size : (c : AtInLoopI)
     → get_or c.args.t.now (1 + c.loop-i.i * c.args.stride + c.args.offset + 1) 0 ≤ 256
 size c =
-    let s = c.before.before.before in
+    let s = c in
     let m = s.requires.0 in
     size_few s.args.stride s.args.offset s.args.t.now c.loop-i.i s.requires.1.1.1 (omega arith) c.loop-i-test.true
 
 few : (c : AtInLoopI) → c.loop-i.i < 4096
 few c =
-    let s = c.before.before.before in
+    let s = c in
     omega (arith, table-few 4096 s.args.stride s.args.t.now s.requires.1.1.0, c.loop-i-test.true)
 
 pub bounds-t-0 : goal.bounds-t-0
@@ -39,22 +39,22 @@ pub loop-i-init : goal.loop-i-init
 loop-i-init c = sum-starts c.args.stride (word (c.args.offset + 1)) c.args.t.now 256
 
 pub overflow_mul-points : goal.overflow_mul-points
-overflow_mul-points c = omega (arith, row (c.before), c.well-formed)
+overflow_mul-points c = omega (arith, row c.before, c.well_formed)
 
 pub overflow_add-points : goal.overflow_add-points
-overflow_add-points c = omega (arith, row (c.before), c.well-formed)
+overflow_add-points c = omega (arith, row c.before, c.well_formed)
 
 pub overflow_add-points-in-loop-i : goal.overflow_add-points-in-loop-i
-overflow_add-points-in-loop-i c = omega (arith, row (c.before), c.well-formed)
+overflow_add-points-in-loop-i c = omega (arith, row c.before, c.well_formed)
 
 pub overflow_add-points-in-loop-i-2 : goal.overflow_add-points-in-loop-i-2
-overflow_add-points-in-loop-i-2 c = omega (arith, row (c.before), c.well-formed)
+overflow_add-points-in-loop-i-2 c = omega (arith, row c.before, c.well_formed)
 
 pub offset_bounds-t-i : goal.offset_bounds-t-i
-offset_bounds-t-i c = omega (arith, row (c.before), c.well-formed)
+offset_bounds-t-i c = omega (arith, row c.before, c.well_formed)
 
 pub bounds-t-i : goal.bounds-t-i
-bounds-t-i c = omega (arith, row c.before.before, c.well-formed)
+bounds-t-i c = omega (arith, row c.before.before, c.well_formed)
 
 pub overflow_add-points-in-loop-i-3 : goal.overflow_add-points-in-loop-i-3
 overflow_add-points-in-loop-i-3 c = omega (arith, size c.before.before, few c.before.before, c.loop-i.invariant.few)

@@ -20,9 +20,9 @@ left counter ids n e l h =
 pub returns-then-ids-eq0 : goal.returns-then-ids-eq0
 returns-then-ids-eq0 c =
     let a = c.args in
-    sym (rw (eq-eqb a.ids 0 c.if-ids-eq0.true) (le-leb a.counter last (omega (arith, c.well-formed))))
+    sym (rw (eq-eqb a.ids 0 c.if-ids-eq0.true) (le-leb a.counter last (omega (arith, c.well_formed))))
 
 pub returns : goal.returns
 returns c =
     let a = c.args in
-    left a.counter a.ids c.next_id.result c.next_id.ensures (omega (arith, c.next_id.ensures, c.well-formed)) c.if-ids-eq0.false
+    left a.counter a.ids c.next_id.result c.next_id.ensures (omega (arith, c.next_id.ensures, c.well_formed)) c.if-ids-eq0.false

@@ -10,19 +10,20 @@ use Rattle.root.proofs.Units.{positive-no-nan, no-nan-bits, bits_below}
 use Rattle.root.proofs.normal.Goals as goal
 use Rattle.root.proofs.normal.Lts as lts
 use Rattle.root.proofs.normal.Reads as reads
+use Rattle.root.proofs.normal.Tie as tie
 
 abbrev AtStart : Type 0
-AtStart = lts.Start reads.Pre reads.Post
+AtStart = lts.Start tie.the-claims reads.Pre reads.Post
 
 abbrev AtAfterNormalS : Type 0
-AtAfterNormalS = lts.After-normal reads.Pre reads.Post
+AtAfterNormalS = lts.After-normal tie.the-claims reads.Pre reads.Post
 
 abbrev AtAfterNearestQ : Type 0
-AtAfterNearestQ = lts.After-nearest reads.Pre reads.Post
+AtAfterNearestQ = lts.After-nearest tie.the-claims reads.Pre reads.Post
 
 -- what owning an `f64` tells: the format holds it
 held : (c : AtStart) → T (fits binary64 c.args.x)
-held c = subst T (sym c.well-formed.0.1) tt
+held c = subst T (sym c.well_formed.0.1) tt
 
 above : (c : AtStart) → positive c.args.x ≡ true
 above c = normal-positive c.args.x (held c) c.requires.0 c.requires.1
@@ -34,22 +35,22 @@ settled : (c : AtAfterNearestQ) → c.nearest-q.result < 2 ^ 53
 settled c = rounded-most _ _ (begun c.before.before.before.before).least (begun c.before.before.before.before).most c.nearest-q.ensures
 
 pub float_to_bits-x : goal.float_to_bits-x
-float_to_bits-x c = positive-no-nan c.args.x (above c.before)
+float_to_bits-x c = positive-no-nan c.args.x (above c)
 
 pub normal-s-requires : goal.normal-s-requires
-normal-s-requires c = (normal-bits c.args.x (held c.before) c.requires.0 c.requires.1, bits_below c.args.x (held c.before) (above c.before))
+normal-s-requires c = (normal-bits c.args.x (held c) c.requires.0 c.requires.1, bits_below c.args.x (held c) (above c))
 
 pub overflow_mul-s : goal.overflow_mul-s
-overflow_mul-s c = omega (arith, (begun c.before.before.before.before).most)
+overflow_mul-s c = omega (arith, (begun c.before.before.before).most)
 
 pub nearest-q-requires : goal.nearest-q-requires
-nearest-q-requires c = ((begun c.before.before.before.before).least, (begun c.before.before.before.before).most)
+nearest-q-requires c = ((begun c.before.before.before).least, (begun c.before.before.before).most)
 
 pub overflow_add-result : goal.overflow_add-result
-overflow_add-result c = omega (arith, settled c.before.before, (begun c.before.before.before.before.before.before).field)
+overflow_add-result c = omega (arith, settled c.before, (begun c.before.before.before.before.before).field)
 
 pub float_from_bits-result : goal.float_from_bits-result
-float_from_bits-result c = no-nan-bits _ (omega (arith, settled c.before.before, (begun c.before.before.before.before.before.before).field))
+float_from_bits-result c = no-nan-bits _ (omega (arith, settled c.before, (begun c.before.before.before.before.before).field))
 
 pub returns : goal.returns
-returns c = (begun c.before.before.before.before.before.before).ends c.nearest-q.result c.nearest-q.ensures
+returns c = (begun c.before.before.before.before.before).ends c.nearest-q.result c.nearest-q.ensures

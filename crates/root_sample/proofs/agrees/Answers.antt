@@ -5,7 +5,6 @@ use Prim.Native.Nat.{ℕ}
 use lib.Dec.{eqb}
 use lib.Ieee.{Float, binary64, of_bits, to_bits}
 use lib.Ieee.Bits.{of_bits-fits, of_bits-to_bits}
-use borrow.Author.Rules.{rules}
 use borrow.Author.Tests.{eqb-true}
 use Rattle.root.specs.Root.{root}
 use Rattle.root.proofs.Nearest.{root-fits}

@@ -1,6 +1,4 @@
-use Prim.Native.Nat.{◌≤◌, ◌-◌}
 use native.Mathlib.Omega.{arith}
-use lib.ListN.{length}
 use Rattle.root_sample.proofs.differing.Goals as goal
 
 pub loop-at-init : goal.loop-at-init

@@ -1,7 +1,6 @@
 -- `root_sample::differing` stays within the rows and ends. The loop's invariant: no more rows differ than bytes were passed.
 -- The measure is what is left of the bytes. Assumes nothing.
 use Prim.Native.Nat.{◌≤◌, ◌-◌}
-use native.Mathlib.Omega.{arith}
 use lib.ListN.{length}
 use Rattle.root_sample.proofs.differing.Given as goal
 

@@ -2,7 +2,6 @@
 use mathlib.Core.Path.{sym, ◌∙◌, subst}
 use mathlib.Core.Bool.{Bool, not}
 use lib.Dec.{T}
-use borrow.Author.Rules.{rules}
 use Rattle.root_sample.proofs.Nan.{nan-bits, no_number}
 use Rattle.root_sample.proofs.number.Goals as goal
 

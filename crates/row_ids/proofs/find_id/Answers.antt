@@ -5,7 +5,7 @@ use Rattle.row_ids.proofs.Laws.{search-found}
 use Rattle.row_ids.proofs.find_id.Goals as goal
 
 pub returns-then-ids-row : goal.returns-then-ids-row
-returns-then-ids-row c = let b = c.before.before.before.before.before in search-found b.args.ids.now b.args.n b.args.id b.requires.1 (omega (arith, b.well-formed.1.1.0.1)) c.guess-row.result c.guess-row.ensures c.if-ids-row.true
+returns-then-ids-row c = let b = c.before.before.before.before.before in search-found b.args.ids.now b.args.n b.args.id b.requires.1 (omega (arith, b.well_formed.1.1.0.1)) c.guess-row.result c.guess-row.ensures c.if-ids-row.true
 
 pub returns-then-ids-next : goal.returns-then-ids-next
-returns-then-ids-next c = let b = c.before.before.before.before.before.before.before.before in search-found b.args.ids.now b.args.n b.args.id b.requires.1 (omega (arith, b.well-formed.1.1.0.1)) c.beside-next.result c.beside-next.ensures c.if-ids-next.true
+returns-then-ids-next c = let b = c.before.before.before.before.before.before.before.before in search-found b.args.ids.now b.args.n b.args.id b.requires.1 (omega (arith, b.well_formed.1.1.0.1)) c.beside-next.result c.beside-next.ensures c.if-ids-next.true

@@ -6,21 +6,22 @@ use Rattle.row_ids.proofs.Laws.{Left, search-all, turn-less, search-turn, search
 use Rattle.row_ids.proofs.find_listed.Goals as goal
 use Rattle.row_ids.proofs.find_listed.Lts as lts
 use Rattle.row_ids.proofs.find_listed.Reads as reads
+use Rattle.row_ids.proofs.find_listed.Tie as tie
 
 abbrev AtStart : Type 0
-AtStart = lts.Start reads.Pre reads.Post goal.the-invariant-loop-left goal.the-decreases-loop-left
+AtStart = lts.Start tie.the-claims reads.Pre reads.Post goal.the-invariant-loop-left goal.the-decreases-loop-left
 
 abbrev AtAfterPastLow : Type 0
-AtAfterPastLow = lts.After-past reads.Pre reads.Post goal.the-invariant-loop-left goal.the-decreases-loop-left
+AtAfterPastLow = lts.After-past tie.the-claims reads.Pre reads.Post goal.the-invariant-loop-left goal.the-decreases-loop-left
 
 fits : (c : AtStart) → c.args.id ≤ 18446744073709551615
-fits c = omega (arith, c.well-formed.1.1.0.1)
+fits c = omega (arith, c.well_formed.1.1.0.1)
 
 less : (c : AtAfterPastLow) → c.past-low.result ≤ c.loop-left.left / 2
 less c =
-    let b = c.before.before.before.before.before in
+    let b = c in
     let l = c.loop-left in
-    turn-less b.args.ids.now b.args.n b.args.id b.requires (fits b) l.low l.left l.invariant c.loop-left-test.true c.past-low.result c.past-low.ensures
+    turn-less b.args.ids.now b.args.n b.args.id b.requires (fits c.before.before.before.before.before) l.low l.left l.invariant c.loop-left-test.true c.past-low.result c.past-low.ensures
 
 pub loop-left-init : goal.loop-left-init
 loop-left-init c = search-all c.args.ids.now c.args.n c.args.id c.requires (fits c.before.before)
@@ -38,7 +39,7 @@ pub bounds-ids-low : goal.bounds-ids-low
 bounds-ids-low c = omega (arith, c.loop-left.invariant.within, c.requires.long)
 
 pub overflow_add-low-in-loop-left : goal.overflow_add-low-in-loop-left
-overflow_add-low-in-loop-left c = omega (arith, c.loop-left.invariant.within, less (c.before))
+overflow_add-low-in-loop-left c = omega (arith, c.loop-left.invariant.within, less c.before)
 
 pub overflow_sub-left : goal.overflow_sub-left
 overflow_sub-left c = omega (arith, c.loop-left-test.true)
@@ -48,9 +49,9 @@ loop-left-smaller c = omega (arith, c.loop-left-test.true)
 
 pub loop-left-preserved : goal.loop-left-preserved
 loop-left-preserved c =
-    let b = c.before.before.before.before.before.before in
+    let b = c in
     let l = c.loop-left in
-    search-turn b.args.ids.now b.args.n b.args.id b.requires (fits b) l.low l.left l.invariant c.loop-left-test.true c.past-low.result c.past-low.ensures
+    search-turn b.args.ids.now b.args.n b.args.id b.requires (fits c.before.before.before.before.before.before) l.low l.left l.invariant c.loop-left-test.true c.past-low.result c.past-low.ensures
 
 pub offset_bounds-ids-low-then-low-n : goal.offset_bounds-ids-low-then-low-n
 offset_bounds-ids-low-then-low-n c = omega (arith, c.requires.few, c.if-low-n.true)
@@ -60,18 +61,18 @@ bounds-ids-low-then-low-n c = omega (arith, c.requires.long, c.requires.few, c.i
 
 pub returns-then-ids-low : goal.returns-then-ids-low
 returns-then-ids-low c =
-    let b = c.before.before.before.before.before.before.before in
+    let b = c in
     let l = c.loop-left in
-    search-found b.args.ids.now b.args.n b.args.id b.requires (fits b) l.low c.if-low-n.true c.if-ids-low.true
+    search-found b.args.ids.now b.args.n b.args.id b.requires (fits c.before.before.before.before.before.before.before) l.low c.if-low-n.true c.if-ids-low.true
 
 pub returns-else-ids-low : goal.returns-else-ids-low
 returns-else-ids-low c =
-    let b = c.before.before.before.before.before.before.before in
+    let b = c in
     let l = c.loop-left in
-    search-ends b.args.ids.now b.args.n b.args.id b.requires (fits b) l.low l.left l.invariant (omega (arith, c.loop-left-test.false)) (λ h e. c.if-ids-low.false e)
+    search-ends b.args.ids.now b.args.n b.args.id b.requires (fits c.before.before.before.before.before.before.before) l.low l.left l.invariant (omega (arith, c.loop-left-test.false)) (λ h e. c.if-ids-low.false e)
 
 pub returns-else-low-n : goal.returns-else-low-n
 returns-else-low-n c =
-    let b = c.before.before.before.before.before in
+    let b = c in
     let l = c.loop-left in
-    search-ends b.args.ids.now b.args.n b.args.id b.requires (fits b) l.low l.left l.invariant (omega (arith, c.loop-left-test.false)) (λ h e. omega (arith, c.if-low-n.false))
+    search-ends b.args.ids.now b.args.n b.args.id b.requires (fits c.before.before.before.before.before) l.low l.left l.invariant (omega (arith, c.loop-left-test.false)) (λ h e. omega (arith, c.if-low-n.false))

@@ -5,15 +5,15 @@ use Rattle.row_lists.proofs.place.Goals as goal
 
 pub returns-then-contains : goal.returns-then-contains
 returns-then-contains c =
-    let s = c.before.before.before.before.before.before.before in
+    let s = c in
     placed-old s.args.row.now s.args.k s.requires.0 s.args.id s.requires.1.0 c.contains.result c.contains.ensures c.if-contains.true
 
 pub insert-requires : goal.insert-requires
 insert-requires c =
-    let s = c.before.before.before.before.before.before.before.before in
+    let s = c in
     place-may s.args.row.now s.args.k s.requires.0 s.args.id s.requires.1.0 c.contains.result c.contains.ensures c.if-contains.false s.requires.1.1
 
 pub returns : goal.returns
 returns c =
-    let s = c.before.before.before.before.before.before.before.before.before.before.before in
-    placed-new s.args.row.now s.args.k s.requires.0 s.args.id s.requires.1.0 c.contains.result c.contains.ensures c.if-contains.false s.requires.1.1 c.insert.new.0 c.insert.ensures
+    let s = c in
+    placed-new s.args.row.now s.args.k s.requires.0 s.args.id s.requires.1.0 c.contains.result c.contains.ensures c.if-contains.false s.requires.1.1 c.insert.new.slots c.insert.ensures

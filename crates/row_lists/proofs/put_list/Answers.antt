@@ -5,5 +5,5 @@ use Rattle.row_lists.proofs.put_list.Goals as goal
 
 pub returns : goal.returns
 returns c =
-    let s = c.before.before.before.before.before.before.before in
-    list_copied s.args.row.now s.args.ids.now s.args.k s.requires c.copy.new.1.0 c.copy.ensures
+    let s = c in
+    list_copied s.args.row.now s.args.ids.now s.args.k s.requires c.copy.new.to c.copy.ensures

@@ -12,12 +12,13 @@ use Rattle.row_tests.proofs.Lanes.{lane_room, links-within, id-at, ids_at_lem}
 use Rattle.row_returns.proofs.lane_returned.Goals as goal
 use Rattle.row_returns.proofs.lane_returned.Lts as lts
 use Rattle.row_returns.proofs.lane_returned.Reads as reads
+use Rattle.row_returns.proofs.lane_returned.Tie as tie
 
 abbrev AtStart : Type 0
-AtStart = lts.Start reads.Pre reads.Post
+AtStart = lts.Start tie.the-claims reads.Pre reads.Post
 
 abbrev AtAfterAllNameBack : Type 0
-AtAfterAllNameBack = lts.After-all_name_back reads.Pre reads.Post
+AtAfterAllNameBack = lts.After-all_name_back tie.the-claims reads.Pre reads.Post
 
 -- the row lies in the table, and its lists in the row
 room : (c : AtStart) → 1 + c.args.i * 52 + 52 ≤ length c.args.t.now

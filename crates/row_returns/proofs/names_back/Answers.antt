@@ -12,9 +12,10 @@ use Rattle.row_tests.proofs.Lanes.{lanes-some, search-may, search-gives, lane-fo
 use Rattle.row_returns.proofs.names_back.Goals as goal
 use Rattle.row_returns.proofs.names_back.Lts as lts
 use Rattle.row_returns.proofs.names_back.Reads as reads
+use Rattle.row_returns.proofs.names_back.Tie as tie
 
 abbrev AtInAt2 : Type 0
-AtInAt2 = lts.After-found reads.Pre reads.Post
+AtInAt2 = lts.After-found tie.the-claims reads.Pre reads.Post
 
 -- the row that is found is one of the rows, and its list lies in it
 at : (c : AtInAt2) → row_with c.args.b (keys 52 (word 0 c.args.t.now) (drop 1 c.args.t.now)) ≡ At c.in-At.j

@@ -11,15 +11,16 @@ use Rattle.row_tests.proofs.Lanes.{lanes-some, search-may, search-gives, lane-fo
 use Rattle.row_returns.proofs.slot_returned.Goals as goal
 use Rattle.row_returns.proofs.slot_returned.Lts as lts
 use Rattle.row_returns.proofs.slot_returned.Reads as reads
+use Rattle.row_returns.proofs.slot_returned.Tie as tie
 
 abbrev AtStart : Type 0
-AtStart = lts.Start reads.Pre reads.Post
+AtStart = lts.Start tie.the-claims reads.Pre reads.Post
 
 abbrev AtInAt2 : Type 0
-AtInAt2 = lts.After-found reads.Pre reads.Post
+AtInAt2 = lts.After-found tie.the-claims reads.Pre reads.Post
 
 abbrev AtAfterAnswerPlace : Type 0
-AtAfterAnswerPlace = lts.After-answer_place reads.Pre reads.Post
+AtAfterAnswerPlace = lts.After-answer_place tie.the-claims reads.Pre reads.Post
 
 -- the row lies in the table, and the slot in the row
 room : (c : AtStart) → 1 + c.args.i * 52 + 52 ≤ length c.args.t.now
@@ -87,10 +88,10 @@ pub overflow_add-answer : goal.overflow_add-answer
 overflow_add-answer c = omega (arith, there c.before.before)
 
 pub overflow_add-answer-2 : goal.overflow_add-answer-2
-overflow_add-answer-2 c = omega (arith, there c.before.before.before, answer (c.before))
+overflow_add-answer-2 c = omega (arith, there c.before.before.before, answer c.before)
 
 pub offset_bounds-t-answer : goal.offset_bounds-t-answer
-offset_bounds-t-answer c = omega (arith, there c.before.before.before, answer (c.before))
+offset_bounds-t-answer c = omega (arith, there c.before.before.before, answer c.before)
 
 pub bounds-t-answer : goal.bounds-t-answer
 bounds-t-answer c = omega (arith, there c.before.before.before.before, answer c.before.before)

@@ -11,34 +11,35 @@ use Rattle.in_place.proofs.Columns.{columns-points, columns-started}
 use Rattle.settling.proofs.all_starts.Goals as goal
 use Rattle.settling.proofs.all_starts.Lts as lts
 use Rattle.settling.proofs.all_starts.Reads as reads
+use Rattle.settling.proofs.all_starts.Tie as tie
 
 abbrev AtStart : Type 0
-AtStart = lts.Start reads.Pre reads.Post
+AtStart = lts.Start tie.the-claims reads.Pre reads.Post
 
 abbrev tables : AtStart → Tables
 tables s = line_tables s.args.lanes.now s.args.boundaries.now s.args.stop_lines.now s.args.crosswalks.now []
 
 pub column_starts-centers-requires : goal.column_starts-centers-requires
 column_starts-centers-requires c =
-    let s = c.before.before.before.before.before.before in
+    let s = c in
     (omega arith, (omega arith, (omega arith, ((counts (tables s) s.requires.0).1.0, omega (arith, columns-points (tables s), s.requires.1)))))
 
 pub column_starts-stops-requires : goal.column_starts-stops-requires
 column_starts-stops-requires c =
-    let s = c.before.before.before.before.before.before.before.before.before.before in
+    let s = c in
     let g1 = c.column_starts-centers in
     (omega arith, (omega arith, (omega arith, (counted-more 1024 4096 52 s.args.lanes.now (omega arith) (counts (tables s) s.requires.0).0, omega (arith, columns-points (tables s), s.requires.1, g1.ensures.0)))))
 
 pub column_starts-lefts-requires : goal.column_starts-lefts-requires
 column_starts-lefts-requires c =
-    let s = c.before.before.before.before.before.before.before.before.before.before.before.before.before.before in
+    let s = c in
     let g1 = c.column_starts-centers in
     let g2 = c.column_starts-stops in
     (omega arith, (omega arith, (omega arith, ((counts (tables s) s.requires.0).1.1.0, omega (arith, columns-points (tables s), s.requires.1, g1.ensures.0, g2.ensures.0)))))
 
 pub column_starts-rights-requires : goal.column_starts-rights-requires
 column_starts-rights-requires c =
-    let s = c.before.before.before.before.before.before.before.before.before.before.before.before.before.before.before.before.before.before in
+    let s = c in
     let g1 = c.column_starts-centers in
     let g2 = c.column_starts-stops in
     let g3 = c.column_starts-lefts in
@@ -46,12 +47,12 @@ column_starts-rights-requires c =
 
 pub column_starts-requires : goal.column_starts-requires
 column_starts-requires c =
-    let s = c.before.before.before.before.before.before.before.before.before.before.before.before.before.before.before.before.before.before.before.before.before.before in
+    let s = c in
     let g1 = c.column_starts-centers in
     let g2 = c.column_starts-stops in
     let g3 = c.column_starts-lefts in
     let g4 = c.column_starts-rights in
-    let e = rights-ready g3.result s.args.crosswalks.now g4.new.0 g4.ensures.1 (counts (tables s) s.requires.0).1.1.1 in
+    let e = rights-ready g3.result s.args.crosswalks.now g4.new.t g4.ensures.1 (counts (tables s) s.requires.0).1.1.1 in
     (omega arith, (omega arith, (omega arith, (e.0, omega (arith, columns-points (tables s), s.requires.1, g1.ensures.0, g2.ensures.0, g3.ensures.0, g4.ensures.0, ap points_in e.1)))))
 
 pub returns : goal.returns
@@ -62,4 +63,4 @@ returns c =
     let g3 = c.column_starts-lefts in
     let g4 = c.column_starts-rights in
     let g5 = c.column_starts in
-    columns-started a.lanes.now a.boundaries.now a.stop_lines.now a.crosswalks.now g2.new.0 g1.new.0 g3.new.0 g4.new.0 g5.new.0 g1.result g2.result g3.result g4.result g1.ensures g2.ensures g3.ensures g4.ensures g5.ensures.1
+    columns-started a.lanes.now a.boundaries.now a.stop_lines.now a.crosswalks.now g2.new.t g1.new.t g3.new.t g4.new.t g5.new.t g1.result g2.result g3.result g4.result g1.ensures g2.ensures g3.ensures g4.ensures g5.ensures.1

@@ -19,18 +19,19 @@ use Rattle.in_place.proofs.Walks.{Down, down-start, down-room, down-with, down-w
 use Rattle.settling.proofs.column_down.Goals as goal
 use Rattle.settling.proofs.column_down.Lts as lts
 use Rattle.settling.proofs.column_down.Reads as reads
+use Rattle.settling.proofs.column_down.Tie as tie
 
 abbrev AtStart : Type 0
-AtStart = lts.Start reads.Pre reads.Post goal.the-invariant-loop-i goal.the-decreases-loop-i
+AtStart = lts.Start tie.the-claims reads.Pre reads.Post goal.the-invariant-loop-i goal.the-decreases-loop-i
 
 abbrev AtInLoopI : Type 0
-AtInLoopI = lts.In-loop reads.Pre reads.Post goal.the-invariant-loop-i goal.the-decreases-loop-i
+AtInLoopI = lts.In-loop tie.the-claims reads.Pre reads.Post goal.the-invariant-loop-i goal.the-decreases-loop-i
 
 abbrev AtAtLoopI : Type 0
-AtAtLoopI = lts.At-loop reads.Pre reads.Post goal.the-invariant-loop-i goal.the-decreases-loop-i
+AtAtLoopI = lts.At-loop tie.the-claims reads.Pre reads.Post goal.the-invariant-loop-i goal.the-decreases-loop-i
 
 abbrev AtAfterHasLine : Type 0
-AtAfterHasLine = lts.After-has_line reads.Pre reads.Post goal.the-invariant-loop-i goal.the-decreases-loop-i
+AtAfterHasLine = lts.After-has_line tie.the-claims reads.Pre reads.Post goal.the-invariant-loop-i goal.the-decreases-loop-i
 
 abbrev column : AtStart → Column
 column s = column_of s.args.stride s.args.offset s.args.marked
@@ -38,7 +39,7 @@ column s = column_of s.args.stride s.args.offset s.args.marked
 -- in a turn: the row lies in the table, and its line is the next one
 room : (c : AtInLoopI) → 1 + c.loop-i.i * c.args.stride + c.args.stride ≤ length c.args.t.now
 room c =
-    let s = c.before.before.before.before.before in
+    let s = c in
     row_in 4096 s.args.stride c.loop-i.i s.args.t.now s.requires.0.counts c.loop-i-test.true
 
 abbrev lines : (c : AtAtLoopI) → ℕ → List Span
@@ -49,7 +50,7 @@ line c = line_here c.args.t.now (1 + c.loop-i.i * c.args.stride + c.args.offset)
 
 next : (c : AtAfterHasLine) → c.has_line.result ≡ true → lines c.before.before c.loop-i.i ≡ line c.before.before ∷ lines c.before.before (c.loop-i.i + 1)
 next c e =
-    let s = c.before.before.before.before.before.before in
+    let s = c in
     let a = s.args in
     from-with a.stride a.offset a.marked a.t.now (word 0 a.t.now) c.loop-i.i s.requires.0.line s.requires.0.row c.loop-i-test.true (room c.before) c.has_line.result c.has_line.ensures e
 
@@ -60,35 +61,35 @@ pub loop-i-init : goal.loop-i-init
 loop-i-init c = let a = c.args in (omega arith, down-start (column_of a.stride a.offset a.marked) a.t.now a.reach a.coordinates.now a.at)
 
 pub overflow_mul-row : goal.overflow_mul-row
-overflow_mul-row c = omega (arith, room (c.before), c.well-formed)
+overflow_mul-row c = omega (arith, room c.before, c.well_formed)
 
 pub overflow_add-row : goal.overflow_add-row
-overflow_add-row c = omega (arith, room (c.before), c.well-formed)
+overflow_add-row c = omega (arith, room c.before, c.well_formed)
 
 pub has_line-requires : goal.has_line-requires
-has_line-requires c = omega (arith, room (c.before), c.requires.0.row)
+has_line-requires c = omega (arith, room c.before, c.requires.0.row)
 
 pub overflow_add-k : goal.overflow_add-k
-overflow_add-k c = omega (arith, room c.before.before.before, c.requires.0.line, c.well-formed)
+overflow_add-k c = omega (arith, room c.before.before.before, c.requires.0.line, c.well_formed)
 
 pub overflow_add-size : goal.overflow_add-size
-overflow_add-size c = omega (arith, room c.before.before.before, c.requires.0.line, c.well-formed)
+overflow_add-size c = omega (arith, room c.before.before.before, c.requires.0.line, c.well_formed)
 
 pub offset_bounds-t-k : goal.offset_bounds-t-k
-offset_bounds-t-k c = omega (arith, room c.before.before.before, c.requires.0.line, c.well-formed)
+offset_bounds-t-k c = omega (arith, room c.before.before.before, c.requires.0.line, c.well_formed)
 
 pub bounds-t-k : goal.bounds-t-k
-bounds-t-k c = omega (arith, room c.before.before.before.before, c.requires.0.line, c.well-formed)
+bounds-t-k c = omega (arith, room c.before.before.before.before, c.requires.0.line, c.well_formed)
 
 pub offset_bounds-t-k-then-has_line : goal.offset_bounds-t-k-then-has_line
-offset_bounds-t-k-then-has_line c = omega (arith, room c.before.before.before.before, c.requires.0.line, c.well-formed)
+offset_bounds-t-k-then-has_line c = omega (arith, room c.before.before.before.before, c.requires.0.line, c.well_formed)
 
 pub bounds-t-k-then-has_line : goal.bounds-t-k-then-has_line
-bounds-t-k-then-has_line c = omega (arith, room c.before.before.before.before.before, c.requires.0.line, c.well-formed)
+bounds-t-k-then-has_line c = omega (arith, room c.before.before.before.before.before, c.requires.0.line, c.well_formed)
 
 pub line_down-requires : goal.line_down-requires
 line_down-requires c =
-    let s = c.before.before.before.before.before.before.before.before.before.before.before in
+    let s = c in
     let l = c.loop-i in
     let k = column s in
     let t = s.args.t.now in
@@ -99,10 +100,10 @@ line_down-requires c =
 
 pub overflow_add-place : goal.overflow_add-place
 overflow_add-place c =
-    let s = c.before.before.before.before.before.before.before.before.before.before.before.before.before.before in
+    let s = c in
     let a = s.args in
     let l = c.loop-i in
-    omega (arith, down-room (column s) a.t.now a.reach a.coordinates.now a.at (word 0 a.t.now) l.i l.coordinates l.place l.invariant.1 (line c.before.before.before.before.before.before.before.before.before.before) (next c.before.before.before.before.before.before.before.before c.if-has_line.true), s.requires.1.room, s.well-formed)
+    omega (arith, down-room (column s) a.t.now a.reach a.coordinates.now a.at (word 0 a.t.now) l.i l.coordinates l.place l.invariant.1 (line c.before.before.before.before.before.before.before.before.before.before) (next c.before.before.before.before.before.before.before.before c.if-has_line.true), s.requires.1.room, s.well_formed)
 
 pub overflow_add-i : goal.overflow_add-i
 overflow_add-i c = omega (arith, (counted-facts 4096 c.args.stride c.args.t.now c.requires.0.counts).1.0, c.loop-i-test.true)
@@ -112,7 +113,7 @@ loop-i-smaller c = omega (arith, c.loop-i-test.true)
 
 pub loop-i-preserved : goal.loop-i-preserved
 loop-i-preserved c =
-    let s = c.before.before.before.before.before.before.before.before in
+    let s = c in
     let a = s.args in
     let l = c.loop-i in
     let k = column s in
@@ -121,8 +122,8 @@ loop-i-preserved c =
     let h = c.loop-i-test.true in
     let b = c.has_line in
     ⊎_elim
-    (λ w. (omega (arith, h), down-with k t a.reach a.coordinates.now a.at n l.i l.coordinates l.place l.invariant.1 (line c.before.before.before.before) (next c.before.before w.if-has_line.true) c.if-has_line.coordinates c.if-has_line.place (ap length w.7 ∙ w.4.kept.1.1.1.0) (w.7 ∙ w.4.ensures) w.8))
-    (λ w. (omega (arith, h), down-without k t a.reach a.coordinates.now a.at n l.i l.coordinates l.place l.invariant.1 (from-without a.stride a.offset a.marked t n l.i s.requires.0.line s.requires.0.row h (room c.before.before.before) b.result b.ensures w.if-has_line.false) c.if-has_line.coordinates c.if-has_line.place w.1 w.2))
+    (λ w. (omega (arith, h), down-with k t a.reach a.coordinates.now a.at n l.i l.coordinates l.place l.invariant.1 (line c.before.before.before.before) (next c.before.before w.if-has_line.true) c.if-has_line.coordinates c.if-has_line.place (ap length w.coordinates-is ∙ w.line_down.kept.1.1.1.0) (w.coordinates-is ∙ w.line_down.ensures) w.place-is))
+    (λ w. (omega (arith, h), down-without k t a.reach a.coordinates.now a.at n l.i l.coordinates l.place l.invariant.1 (from-without a.stride a.offset a.marked t n l.i s.requires.0.line s.requires.0.row h (room c.before.before.before) b.result b.ensures w.if-has_line.false) c.if-has_line.coordinates c.if-has_line.place w.coordinates-is w.place-is))
     c.if-has_line.branch-raw
 
 pub shape_of-coordinates : goal.shape_of-coordinates

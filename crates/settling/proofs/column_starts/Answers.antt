@@ -11,12 +11,13 @@ use Rattle.in_place.proofs.Starts.{Starts, starts-start, starts_in, line-fits, s
 use Rattle.settling.proofs.column_starts.Goals as goal
 use Rattle.settling.proofs.column_starts.Lts as lts
 use Rattle.settling.proofs.column_starts.Reads as reads
+use Rattle.settling.proofs.column_starts.Tie as tie
 
 abbrev AtStart : Type 0
-AtStart = lts.Start reads.Pre reads.Post goal.the-invariant-loop-i goal.the-decreases-loop-i
+AtStart = lts.Start tie.the-claims reads.Pre reads.Post goal.the-invariant-loop-i goal.the-decreases-loop-i
 
 abbrev AtInLoopI : Type 0
-AtInLoopI = lts.In-loop reads.Pre reads.Post goal.the-invariant-loop-i goal.the-decreases-loop-i
+AtInLoopI = lts.In-loop tie.the-claims reads.Pre reads.Post goal.the-invariant-loop-i goal.the-decreases-loop-i
 
 abbrev column : AtStart → Column
 column s = column_of s.args.stride s.args.offset s.args.marked
@@ -24,7 +25,7 @@ column s = column_of s.args.stride s.args.offset s.args.marked
 -- in a turn: the row lies in the table
 room : (c : AtInLoopI) → 1 + c.loop-i.i * c.args.stride + c.args.stride ≤ length c.loop-i.t
 room c =
-    let s = c.before.before.before.before in
+    let s = c in
     let l = c.loop-i in
     starts_in (column s) s.args.t.now s.args.at (word 0 s.args.t.now) l.i l.t l.place l.invariant.1 c.loop-i-test.true
 
@@ -35,35 +36,35 @@ pub loop-i-init : goal.loop-i-init
 loop-i-init c = let a = c.args in (omega arith, starts-start (column_of a.stride a.offset a.marked) 4096 a.t.now a.at c.requires.1.1.1.0)
 
 pub overflow_mul-row : goal.overflow_mul-row
-overflow_mul-row c = omega (arith, room (c.before), c.loop-i.invariant.1.words, c.well-formed)
+overflow_mul-row c = omega (arith, room c, c.loop-i.invariant.1.words, c.well_formed)
 
 pub overflow_add-row : goal.overflow_add-row
-overflow_add-row c = omega (arith, room (c.before), c.loop-i.invariant.1.words, c.well-formed)
+overflow_add-row c = omega (arith, room c, c.loop-i.invariant.1.words, c.well_formed)
 
 pub has_line-requires : goal.has_line-requires
-has_line-requires c = omega (arith, room c.before.before, c.requires.1.0)
+has_line-requires c = omega (arith, room c, c.requires.1.0)
 
 pub overflow_add-k : goal.overflow_add-k
-overflow_add-k c = omega (arith, room c.before.before.before.before, c.loop-i.invariant.1.words, c.requires.0, c.well-formed)
+overflow_add-k c = omega (arith, room c.before.before, c.loop-i.invariant.1.words, c.requires.0, c.well_formed)
 
 pub overflow_add-size : goal.overflow_add-size
-overflow_add-size c = omega (arith, room c.before.before.before.before, c.loop-i.invariant.1.words, c.requires.0, c.well-formed)
+overflow_add-size c = omega (arith, room c.before.before, c.loop-i.invariant.1.words, c.requires.0, c.well_formed)
 
 pub offset_bounds-t-k : goal.offset_bounds-t-k
-offset_bounds-t-k c = omega (arith, room c.before.before.before.before, c.loop-i.invariant.1.words, c.requires.0, c.well-formed)
+offset_bounds-t-k c = omega (arith, room c.before.before, c.loop-i.invariant.1.words, c.requires.0, c.well_formed)
 
 pub bounds-t-k : goal.bounds-t-k
-bounds-t-k c = omega (arith, room c.before.before.before.before.before, c.loop-i.invariant.1.words, c.requires.0, c.well-formed)
+bounds-t-k c = omega (arith, room c.before.before.before.before, c.loop-i.invariant.1.words, c.requires.0, c.well_formed)
 
 pub offset_bounds-t-k-then-has_line : goal.offset_bounds-t-k-then-has_line
-offset_bounds-t-k-then-has_line c = omega (arith, room c.before.before.before.before.before, c.loop-i.invariant.1.words, c.requires.0, c.well-formed)
+offset_bounds-t-k-then-has_line c = omega (arith, room c.before.before.before, c.loop-i.invariant.1.words, c.requires.0, c.well_formed)
 
 pub bounds-t-k-then-has_line : goal.bounds-t-k-then-has_line
-bounds-t-k-then-has_line c = omega (arith, room c.before.before.before.before.before, c.loop-i.invariant.1.words, c.requires.0, c.well-formed)
+bounds-t-k-then-has_line c = omega (arith, room c.before.before.before, c.loop-i.invariant.1.words, c.requires.0, c.well_formed)
 
 pub overflow_add-place : goal.overflow_add-place
 overflow_add-place c =
-    let s = c.before.before.before.before.before.before.before.before.before in
+    let s = c in
     let a = s.args in
     let l = c.loop-i in
     let b = c.has_line in
@@ -77,14 +78,14 @@ loop-i-smaller c = omega (arith, c.loop-i-test.true)
 
 pub loop-i-preserved : goal.loop-i-preserved
 loop-i-preserved c =
-    let s = c.before.before.before.before.before.before.before.before in
+    let s = c in
     let a = s.args in
     let l = c.loop-i in
     let h = c.loop-i-test.true in
     let b = c.has_line in
     ⊎_elim
-    (λ w. (omega (arith, h), starts-line a.stride a.offset a.marked a.t.now a.at (word 0 a.t.now) l.i l.t l.place l.invariant.1 h s.requires.0 s.requires.1.0 b.result b.ensures w.if-has_line.true c.if-has_line.t c.if-has_line.place w.2 w.3))
-    (λ w. (omega (arith, h), starts_none a.stride a.offset a.marked a.t.now a.at (word 0 a.t.now) l.i l.t l.place l.invariant.1 h s.requires.0 s.requires.1.0 b.result b.ensures w.if-has_line.false c.if-has_line.t c.if-has_line.place w.1 w.2))
+    (λ w. (omega (arith, h), starts-line a.stride a.offset a.marked a.t.now a.at (word 0 a.t.now) l.i l.t l.place l.invariant.1 h s.requires.0 s.requires.1.0 b.result b.ensures w.if-has_line.true c.if-has_line.t c.if-has_line.place w.t-is w.place-is))
+    (λ w. (omega (arith, h), starts_none a.stride a.offset a.marked a.t.now a.at (word 0 a.t.now) l.i l.t l.place l.invariant.1 h s.requires.0 s.requires.1.0 b.result b.ensures w.if-has_line.false c.if-has_line.t c.if-has_line.place w.t-is w.place-is))
     c.if-has_line.branch-raw
 
 pub shape_of-t : goal.shape_of-t
@@ -94,4 +95,4 @@ pub returns : goal.returns
 returns c =
     let a = c.args in
     let l = c.loop-i in
-    starts-done (column c.before.before.before.before.before) a.t.now a.at (word 0 a.t.now) l.i l.t l.place l.invariant.1 c.loop-i-test.false
+    starts-done (column c.before.before.before.before) a.t.now a.at (word 0 a.t.now) l.i l.t l.place l.invariant.1 c.loop-i-test.false

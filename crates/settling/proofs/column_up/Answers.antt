@@ -18,18 +18,19 @@ use Rattle.in_place.proofs.Walks.{Up, up-begin, up_room, up-with, up-without, up
 use Rattle.settling.proofs.column_up.Goals as goal
 use Rattle.settling.proofs.column_up.Lts as lts
 use Rattle.settling.proofs.column_up.Reads as reads
+use Rattle.settling.proofs.column_up.Tie as tie
 
 abbrev AtStart : Type 0
-AtStart = lts.Start reads.Pre reads.Post goal.the-invariant-loop-i goal.the-decreases-loop-i
+AtStart = lts.Start tie.the-claims reads.Pre reads.Post goal.the-invariant-loop-i goal.the-decreases-loop-i
 
 abbrev AtAtLoopI : Type 0
-AtAtLoopI = lts.At-loop reads.Pre reads.Post goal.the-invariant-loop-i goal.the-decreases-loop-i
+AtAtLoopI = lts.At-loop tie.the-claims reads.Pre reads.Post goal.the-invariant-loop-i goal.the-decreases-loop-i
 
 abbrev AtInLoopI : Type 0
-AtInLoopI = lts.In-loop reads.Pre reads.Post goal.the-invariant-loop-i goal.the-decreases-loop-i
+AtInLoopI = lts.In-loop tie.the-claims reads.Pre reads.Post goal.the-invariant-loop-i goal.the-decreases-loop-i
 
 abbrev AtAfterHasLine : Type 0
-AtAfterHasLine = lts.After-has_line reads.Pre reads.Post goal.the-invariant-loop-i goal.the-decreases-loop-i
+AtAfterHasLine = lts.After-has_line tie.the-claims reads.Pre reads.Post goal.the-invariant-loop-i goal.the-decreases-loop-i
 
 abbrev column : AtStart → Column
 column s = column_of s.args.stride s.args.offset s.args.marked
@@ -43,12 +44,12 @@ line c = line_here c.args.t.now (1 + (c.loop-i.i - 1) * c.args.stride + c.args.o
 -- in a turn: the row lies in the table, its line is the next one, and there is room for it before the place
 room : (c : AtInLoopI) → 1 + (c.loop-i.i - 1) * c.args.stride + c.args.stride ≤ length c.args.t.now
 room c =
-    let s = c.before.before.before.before.before.before in
+    let s = c in
     row_in 4096 s.args.stride (c.loop-i.i - 1) s.args.t.now s.requires.0.counts (omega (arith, c.loop-i-test.true, c.loop-i.invariant.0))
 
 next : (c : AtAfterHasLine) → c.has_line.result ≡ true → lines c.before.before (c.loop-i.i - 1) ≡ line c.before.before ∷ lines c.before.before (c.loop-i.i - 1 + 1)
 next c e =
-    let s = c.before.before.before.before.before.before.before in
+    let s = c in
     let a = s.args in
     let i = c.loop-i.i in
     from-with a.stride a.offset a.marked a.t.now (word 0 a.t.now) (i - 1) s.requires.0.line s.requires.0.row (omega (arith, c.loop-i-test.true, c.loop-i.invariant.0)) (room c.before) c.has_line.result c.has_line.ensures e
@@ -59,7 +60,7 @@ before-i c = omega (arith, c.loop-i-test.true)
 
 fits : (c : AtAfterHasLine) → c.has_line.result ≡ true → (line c.before.before).size ≤ c.loop-i.place
 fits c e =
-    let s = c.before.before.before.before.before.before.before in
+    let s = c in
     let a = s.args in
     let k = column s in
     let l = c.loop-i in
@@ -78,38 +79,38 @@ pub overflow_sub-i : goal.overflow_sub-i
 overflow_sub-i c = omega (arith, c.loop-i-test.true)
 
 pub overflow_mul-row : goal.overflow_mul-row
-overflow_mul-row c = omega (arith, room (c.before), c.well-formed)
+overflow_mul-row c = omega (arith, room c.before, c.well_formed)
 
 pub overflow_add-row : goal.overflow_add-row
-overflow_add-row c = omega (arith, room (c.before), c.well-formed)
+overflow_add-row c = omega (arith, room c.before, c.well_formed)
 
 pub has_line-requires : goal.has_line-requires
-has_line-requires c = omega (arith, room (c.before), c.requires.0.row)
+has_line-requires c = omega (arith, room c.before, c.requires.0.row)
 
 pub overflow_add-k : goal.overflow_add-k
-overflow_add-k c = omega (arith, room c.before.before.before, c.requires.0.line, c.well-formed)
+overflow_add-k c = omega (arith, room c.before.before.before, c.requires.0.line, c.well_formed)
 
 pub overflow_add-size : goal.overflow_add-size
-overflow_add-size c = omega (arith, room c.before.before.before, c.requires.0.line, c.well-formed)
+overflow_add-size c = omega (arith, room c.before.before.before, c.requires.0.line, c.well_formed)
 
 pub offset_bounds-t-k : goal.offset_bounds-t-k
-offset_bounds-t-k c = omega (arith, room c.before.before.before, c.requires.0.line, c.well-formed)
+offset_bounds-t-k c = omega (arith, room c.before.before.before, c.requires.0.line, c.well_formed)
 
 pub bounds-t-k : goal.bounds-t-k
-bounds-t-k c = omega (arith, room c.before.before.before.before, c.requires.0.line, c.well-formed)
+bounds-t-k c = omega (arith, room c.before.before.before.before, c.requires.0.line, c.well_formed)
 
 pub overflow_sub-place : goal.overflow_sub-place
 overflow_sub-place c = omega (arith, fits c.before.before.before c.if-has_line.true)
 
 pub offset_bounds-t-k-then-has_line : goal.offset_bounds-t-k-then-has_line
-offset_bounds-t-k-then-has_line c = omega (arith, room c.before.before.before.before, c.requires.0.line, c.well-formed)
+offset_bounds-t-k-then-has_line c = omega (arith, room c.before.before.before.before, c.requires.0.line, c.well_formed)
 
 pub bounds-t-k-then-has_line : goal.bounds-t-k-then-has_line
-bounds-t-k-then-has_line c = omega (arith, room c.before.before.before.before.before, c.requires.0.line, c.well-formed)
+bounds-t-k-then-has_line c = omega (arith, room c.before.before.before.before.before, c.requires.0.line, c.well_formed)
 
 pub line_up-requires : goal.line_up-requires
 line_up-requires c =
-    let s = c.before.before.before.before.before.before.before.before.before.before.before.before in
+    let s = c in
     let l = c.loop-i in
     let k = column s in
     let t = s.args.t.now in
@@ -129,19 +130,19 @@ loop-i-smaller-then-has_line c = omega (arith, c.loop-i-test.true)
 
 pub loop-i-preserved-then-has_line : goal.loop-i-preserved-then-has_line
 loop-i-preserved-then-has_line c =
-    let s = c.before.before.before.before.before.before.before.before.before.before.before.before.before.before.before in
+    let s = c in
     let a = s.args in
     let l = c.loop-i in
     let g = c.line_up in
     let h = c.if-has_line.true in
-    (omega (arith, l.invariant.0), up-with (column s) a.t.now a.drawn.now a.reach a.coordinates.now a.end (word 0 a.t.now) l.i (l.i - 1) l.coordinates l.place l.invariant.1 (before-i c.before.before.before.before.before.before.before.before.before) (line c.before.before.before.before.before.before.before.before.before.before) (next c.before.before.before.before.before.before.before.before h) g.new.1.1.1.1.0 (l.place - (line c.before.before.before.before.before.before.before.before.before.before).size) g.auto.1.1.1.1.0 g.ensures (omega (arith, fits c.before.before.before.before.before.before.before.before h)))
+    (omega (arith, l.invariant.0), up-with (column s) a.t.now a.drawn.now a.reach a.coordinates.now a.end (word 0 a.t.now) l.i (l.i - 1) l.coordinates l.place l.invariant.1 (before-i c.before.before.before.before.before.before.before.before.before) (line c.before.before.before.before.before.before.before.before.before.before) (next c.before.before.before.before.before.before.before.before h) g.new.coordinates (l.place - (line c.before.before.before.before.before.before.before.before.before.before).size) g.auto.1.1.1.1.0 g.ensures (omega (arith, fits c.before.before.before.before.before.before.before.before h)))
 
 pub loop-i-smaller : goal.loop-i-smaller
 loop-i-smaller c = omega (arith, c.loop-i-test.true)
 
 pub loop-i-preserved : goal.loop-i-preserved
 loop-i-preserved c =
-    let s = c.before.before.before.before.before.before.before.before.before in
+    let s = c in
     let a = s.args in
     let l = c.loop-i in
     let t = a.t.now in

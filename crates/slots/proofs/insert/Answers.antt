@@ -41,7 +41,7 @@ shape_of-slots-then-before-id c = simp length-set c.loop-i.invariant.1.0
 
 pub returns-then-before-id : goal.returns-then-before-id
 returns-then-before-id c =
-    let s = c.before.before.before.before.before in
+    let s = c in
     let a = s.args in
     let t = c.loop-i in
     room-found a.slots.now t.slots a.n t.i t.invariant.0 s.requires.0 t.invariant.1.1.0 a.id s.requires.1.0 c.loop-i-test.true c.if-before-id.true t.invariant.1.1.1
@@ -60,7 +60,7 @@ loop-i-smaller c = omega arith
 
 pub loop-i-preserved : goal.loop-i-preserved
 loop-i-preserved c =
-    let s = c.before.before.before.before.before in
+    let s = c in
     let a = s.args in
     let t = c.loop-i in
     let l = c.loop-i-test.true in
@@ -76,7 +76,7 @@ shape_of-slots c = simp length-set c.loop-i.invariant.1.0
 
 pub returns : goal.returns
 returns c =
-    let s = c.before.before.before in
+    let s = c in
     let a = s.args in
     let t = c.loop-i in
     room-first a.slots.now t.slots a.n t.i t.invariant.0 s.requires.0 t.invariant.1.1.0 a.id (omega arith) t.invariant.1.1.1

@@ -51,11 +51,11 @@ loop-i-preserved c =
     let e = t.invariant.1.1.1.1 in
     ⊎_elim
     (λ s.
-    let k : p x ≡ true = rw (ne_eqb a.id x s.0.taken) in
-    (omega arith, (omega arith, (ap length s.1 ∙ simp length-set t.invariant.1.1.0, (s.2 ∙ keep-count p w t.slots t.i t.left 0 h m e k, s.1 ∙ keep-store p w t.slots t.i t.left 0 h m e k)))))
+    let k : p x ≡ true = rw (ne_eqb a.id x s.if-id-x.true) in
+    (omega arith, (omega arith, (ap length s.slots-is ∙ simp length-set t.invariant.1.1.0, (s.left-is ∙ keep-count p w t.slots t.i t.left 0 h m e k, s.slots-is ∙ keep-store p w t.slots t.i t.left 0 h m e k)))))
     (λ s.
-    let k = keep-not p w t.slots t.i t.left 0 h m e (rw (eq-eqb a.id x s.0.left)) in
-    (omega arith, (omega arith, (ap length s.1 ∙ t.invariant.1.1.0, (rw k (s.2 ∙ m), rw k (s.1 ∙ e))))))
+    let k = keep-not p w t.slots t.i t.left 0 h m e (rw (eq-eqb a.id x s.if-id-x.false)) in
+    (omega arith, (omega arith, (ap length s.slots-is ∙ t.invariant.1.1.0, (rw k (s.left-is ∙ m), rw k (s.slots-is ∙ e))))))
     c.if-id-x.branch-raw
 
 pub shape_of-slots : goal.shape_of-slots

@@ -35,7 +35,7 @@ loop-j-smaller c = omega arith
 pub loop-j-preserved : goal.loop-j-preserved
 loop-j-preserved c =
     ⊎_elim
-    (λ s. (omega arith, cross-one (row_crosses c.args.coordinates.now c.args.boundaries.now c.args.point) c.args.seen.now c.args.lanes.now c.loop-j.j c.loop-j.invariant.1 c.loop-j-test.true c.requires.1 s.if-seen-j.true (sym s.3.given.1 ∙ s.1.ensures)))
+    (λ s. (omega arith, cross-one (row_crosses c.args.coordinates.now c.args.boundaries.now c.args.point) c.args.seen.now c.args.lanes.now c.loop-j.j c.loop-j.invariant.1 c.loop-j-test.true c.requires.1 s.if-seen-j.true (sym s.in-All.is ∙ s.row_crosses-crossed.ensures)))
     (λ s. (omega arith, cross-none (row_crosses c.args.coordinates.now c.args.boundaries.now c.args.point) c.args.seen.now c.args.lanes.now c.loop-j.j c.loop-j.invariant.1 c.loop-j-test.true c.requires.1 s.if-seen-j.false))
     c.if-seen-j.branch-raw
 

@@ -22,4 +22,4 @@ pub shape_of-row : goal.shape_of-row
 shape_of-row c = let a = c.args in let w = c.in-At in omega (arith, c.requires.1.words, c.come_from.auto.0, ⊎_elim (λ x. (half-asks a.pieces.now a.m a.cut.now a.next a.centers.now a.row.now c.requires.1 x.1.given.0.0 w.row (x.7 ∙ x.4.ensures)).words) (λ x. ap length x.2 ∙ c.requires.1.words) w.branch)
 
 pub returns : goal.returns
-returns c = let a = c.args in let w = c.in-At in ⊎_elim (λ x. cut-first a.pieces.now a.m a.cut.now a.next a.centers.now a.row.now c.requires.1 c.find_row-found.result c.find_row-found.ensures x.1.given.0.0 x.1.given.1 w.row (x.7 ∙ x.4.ensures) c.come_from.new.0 c.come_from.ensures) (λ x. cut-other a.pieces.now a.m a.cut.now a.next a.centers.now a.row.now c.requires.1 c.find_row-found.result c.find_row-found.ensures x.1.given.1 w.row x.2 c.come_from.new.0 c.come_from.ensures) w.branch
+returns c = let a = c.args in let w = c.in-At in ⊎_elim (λ x. cut-first a.pieces.now a.m a.cut.now a.next a.centers.now a.row.now c.requires.1 c.find_row-found.result c.find_row-found.ensures x.1.given.0.0 x.1.given.1 w.row (x.7 ∙ x.4.ensures) c.come_from.new.row c.come_from.ensures) (λ x. cut-other a.pieces.now a.m a.cut.now a.next a.centers.now a.row.now c.requires.1 c.find_row-found.result c.find_row-found.ensures x.1.given.1 w.row x.2 c.come_from.new.row c.come_from.ensures) w.branch

@@ -40,7 +40,7 @@ pub loop-i-smaller : goal.loop-i-smaller
 loop-i-smaller c = omega (arith, c.loop-i-test.true)
 
 pub loop-i-preserved : goal.loop-i-preserved
-loop-i-preserved c = let a = c.args in let l = c.loop-i in changed-turn 52 (lane_cut a.pieces.now a.m a.cut.now a.next a.centers.now) a.t.now (table-room 1024 52 a.t.now c.requires.1.0) (cut_keeps a.pieces.now a.m a.cut.now a.next a.centers.now a.t.now c.requires.0 c.requires.1.1) l.t l.i l.invariant c.loop-i-test.true c.cut_row.new.0 c.cut_row.ensures
+loop-i-preserved c = let a = c.args in let l = c.loop-i in changed-turn 52 (lane_cut a.pieces.now a.m a.cut.now a.next a.centers.now) a.t.now (table-room 1024 52 a.t.now c.requires.1.0) (cut_keeps a.pieces.now a.m a.cut.now a.next a.centers.now a.t.now c.requires.0 c.requires.1.1) l.t l.i l.invariant c.loop-i-test.true c.cut_row.new.row c.cut_row.ensures
 
 pub shape_of-t : goal.shape_of-t
 shape_of-t c = let a = c.args in let l = c.loop-i in changed-length 52 (lane_cut a.pieces.now a.m a.cut.now a.next a.centers.now) a.t.now (table-room 1024 52 a.t.now c.requires.1.0) (cut_keeps a.pieces.now a.m a.cut.now a.next a.centers.now a.t.now c.requires.0 c.requires.1.1) l.t l.i l.invariant

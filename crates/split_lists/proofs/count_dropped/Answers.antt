@@ -32,8 +32,8 @@ loop-i-smaller c = omega (arith, c.loop-i-test.true)
 pub loop-i-preserved : goal.loop-i-preserved
 loop-i-preserved c =
     ⊎_elim
-    (λ s. (numbers-one c.args.cut.now c.args.next c.args.seen.now c.args.lanes.now c.requires c.loop-i.i c.loop-i.second c.loop-i.invariant.0 c.loop-i-test.true s.if-seen-i.true c.if-seen-i.second s.2, count-one c.args.cut.now c.args.next c.args.seen.now c.args.lanes.now c.requires c.loop-i.i c.loop-i.count c.loop-i.invariant.1 c.loop-i.second c.loop-i.invariant.0 c.loop-i-test.true s.if-seen-i.true s.1.result c.if-seen-i.count s.1.ensures s.3))
-    (λ s. (numbers-none c.args.cut.now c.args.next c.args.seen.now c.args.lanes.now c.requires c.loop-i.i c.loop-i.second c.loop-i.invariant.0 c.loop-i-test.true s.if-seen-i.false c.if-seen-i.second s.1, count_none c.args.cut.now c.args.next c.args.seen.now c.args.lanes.now c.requires c.loop-i.i c.loop-i.count c.loop-i.invariant.1 c.loop-i.second c.loop-i.invariant.0 c.loop-i-test.true s.if-seen-i.false c.if-seen-i.count s.2))
+    (λ s. (numbers-one c.args.cut.now c.args.next c.args.seen.now c.args.lanes.now c.requires c.loop-i.i c.loop-i.second c.loop-i.invariant.0 c.loop-i-test.true s.if-seen-i.true c.if-seen-i.second s.second-is, count-one c.args.cut.now c.args.next c.args.seen.now c.args.lanes.now c.requires c.loop-i.i c.loop-i.count c.loop-i.invariant.1 c.loop-i.second c.loop-i.invariant.0 c.loop-i-test.true s.if-seen-i.true s.count_row-count.result c.if-seen-i.count s.count_row-count.ensures s.count-is))
+    (λ s. (numbers-none c.args.cut.now c.args.next c.args.seen.now c.args.lanes.now c.requires c.loop-i.i c.loop-i.second c.loop-i.invariant.0 c.loop-i-test.true s.if-seen-i.false c.if-seen-i.second s.second-is, count_none c.args.cut.now c.args.next c.args.seen.now c.args.lanes.now c.requires c.loop-i.i c.loop-i.count c.loop-i.invariant.1 c.loop-i.second c.loop-i.invariant.0 c.loop-i-test.true s.if-seen-i.false c.if-seen-i.count s.count-is))
     c.if-seen-i.branch-raw
 
 pub returns : goal.returns

@@ -60,8 +60,8 @@ loop-i-smaller c = omega (arith, c.loop-i-test.true)
 pub loop-i-preserved : goal.loop-i-preserved
 loop-i-preserved c =
     ⊎_elim
-    (λ s. listing-one c.args.s c.args.marks.now c.args.t.now c.number-number.result c.args.at c.args.out.now c.args.kind c.number-number.ensures c.requires.0 c.requires.1 c.loop-i.i c.loop-i.place c.loop-i.out c.loop-i.invariant c.loop-i-test.true s.if-marks-i.true c.if-marks-i.place c.if-marks-i.out s.3 s.2)
-    (λ s. listing_none c.args.s c.args.marks.now c.args.t.now c.number-number.result c.args.at c.args.out.now c.args.kind c.number-number.ensures c.requires.0 c.requires.1 c.loop-i.i c.loop-i.place c.loop-i.out c.loop-i.invariant c.loop-i-test.true s.if-marks-i.false c.if-marks-i.place c.if-marks-i.out s.2 s.1)
+    (λ s. listing-one c.args.s c.args.marks.now c.args.t.now c.number-number.result c.args.at c.args.out.now c.args.kind c.number-number.ensures c.requires.0 c.requires.1 c.loop-i.i c.loop-i.place c.loop-i.out c.loop-i.invariant c.loop-i-test.true s.if-marks-i.true c.if-marks-i.place c.if-marks-i.out s.place-is s.out-is)
+    (λ s. listing_none c.args.s c.args.marks.now c.args.t.now c.number-number.result c.args.at c.args.out.now c.args.kind c.number-number.ensures c.requires.0 c.requires.1 c.loop-i.i c.loop-i.place c.loop-i.out c.loop-i.invariant c.loop-i-test.true s.if-marks-i.false c.if-marks-i.place c.if-marks-i.out s.place-is s.out-is)
     c.if-marks-i.branch-raw
 
 pub shape_of-out : goal.shape_of-out

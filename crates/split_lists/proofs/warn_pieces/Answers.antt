@@ -22,7 +22,7 @@ pub loop-j-smaller : goal.loop-j-smaller
 loop-j-smaller c = omega (arith, c.loop-j-test.true)
 
 pub loop-j-preserved : goal.loop-j-preserved
-loop-j-preserved c = (omega (arith, c.loop-j-test.true), piece-noted c.args.pieces.now c.args.warnings.now c.args.m c.requires.1 c.loop-j.j c.loop-j.warnings c.loop-j.at c.loop-j.invariant.1 c.loop-j-test.true c.piece_notice.result c.piece_notice.ensures c.note-at.result c.note-at.new.0 c.note-at.ensures.0 c.note-at.ensures.1)
+loop-j-preserved c = (omega (arith, c.loop-j-test.true), piece-noted c.args.pieces.now c.args.warnings.now c.args.m c.requires.1 c.loop-j.j c.loop-j.warnings c.loop-j.at c.loop-j.invariant.1 c.loop-j-test.true c.piece_notice.result c.piece_notice.ensures c.note-at.result c.note-at.new.warnings c.note-at.ensures.0 c.note-at.ensures.1)
 
 pub shape_of-warnings : goal.shape_of-warnings
 shape_of-warnings c = (pieces-done c.args.pieces.now c.args.warnings.now c.args.m c.requires.1 c.loop-j.j c.loop-j.warnings c.loop-j.at c.loop-j.invariant.1 c.loop-j.invariant.0 c.loop-j-test.false).1

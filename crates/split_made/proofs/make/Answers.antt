@@ -111,4 +111,4 @@ shape_of-warnings c = c.write_lists.auto.1.1.1.1.1.1.1.1.1.1.1.1.1.1.0
 
 -- src/lib.rt:268:1
 pub returns : goal.returns
-returns c = let s = c.before.before.before.before.before.before.before.before.before.before.before.before.before.before.before.before.before.before.before.before.before.before.before.before.before.before.before.before.before.before.before.before.before.before.before.before.before.before.before.before.before.before.before.before.before.before.before.before.before.before.before.before.before.before.before.before.before.before.before.before.before.before.before.before.before.before.before.before.before.before.before.before.before.before in split-made s.args.drawn (cutting_of s.args.drawn s.args.seen.now s.args.cut.now s.args.marks.now s.args.pieces.now s.args.lines.now s.args.centers.now) s.args.anchored.now s.args.past.now (tables_of s.args.lanes.now s.args.boundaries.now s.args.roads.now s.args.junctions.now s.args.rules.now s.args.stop_lines.now s.args.crosswalks.now s.args.coordinates.now) s.args.created.now s.args.modified.now s.args.deleted.now s.args.warnings.now c.count-counts.result c.count-counts.ensures c.lists_fit.result c.lists_fit.ensures (on c.lists_fit.result c.if-not-lists_fit.false) (tables_of c.write.new.0 c.write.new.1.0 c.write.new.1.1.0 c.write.new.1.1.1.0 c.write.new.1.1.1.1.0 c.write.new.1.1.1.1.1.0 c.write.new.1.1.1.1.1.1.0 c.write.new.1.1.1.1.1.1.1.0) c.write.ensures c.write_lists.new.1.1.1.1.1.1.1.1.1.1.1.1.0 c.write_lists.new.1.1.1.1.1.1.1.1.1.1.1.1.1.0 c.write_lists.new.1.1.1.1.1.1.1.1.1.1.1.1.1.1.0 c.write_lists.ensures c.answer.result c.answer.ensures
+returns c = let s = c.before.before.before.before.before.before.before.before.before.before.before.before.before.before.before.before.before.before.before.before.before.before.before.before.before.before.before.before.before.before.before.before.before.before.before.before.before.before.before.before.before.before.before.before.before.before.before.before.before.before.before.before.before.before.before.before.before.before.before.before.before.before.before.before.before.before.before.before.before.before.before.before.before.before in split-made s.args.drawn (cutting_of s.args.drawn s.args.seen.now s.args.cut.now s.args.marks.now s.args.pieces.now s.args.lines.now s.args.centers.now) s.args.anchored.now s.args.past.now (tables_of s.args.lanes.now s.args.boundaries.now s.args.roads.now s.args.junctions.now s.args.rules.now s.args.stop_lines.now s.args.crosswalks.now s.args.coordinates.now) s.args.created.now s.args.modified.now s.args.deleted.now s.args.warnings.now c.count-counts.result c.count-counts.ensures c.lists_fit.result c.lists_fit.ensures (on c.lists_fit.result c.if-not-lists_fit.false) (tables_of c.write.new.lanes c.write.new.boundaries c.write.new.roads c.write.new.junctions c.write.new.rules c.write.new.stop_lines c.write.new.crosswalks c.write.new.coordinates) c.write.ensures c.write_lists.new.created c.write_lists.new.modified c.write_lists.new.warnings.0 c.write_lists.ensures c.answer.result c.answer.ensures

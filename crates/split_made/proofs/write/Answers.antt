@@ -53,4 +53,4 @@ shape_of-coordinates c = c.relay.auto.1.1.1.1.0
 
 -- src/lib.rt:208:1
 pub returns : goal.returns
-returns c = let s = c.before.before.before.before.before.before.before.before.before.before.before.before.before.before.before.before.before.before.before.before.before.before.before.before.before.before.before.before.before.before.before.before.before.before.before.before.before.before.before.before.before.before.before.before.before in all-written (cutting_of s.args.drawn s.args.seen.now s.args.cut.now s.args.marks.now s.args.pieces.now s.args.lines.now s.args.centers.now) s.args.drawn.points s.args.anchored.now s.args.past.now (tables_of s.args.lanes.now s.args.boundaries.now s.args.roads.now s.args.junctions.now s.args.rules.now s.args.stop_lines.now s.args.crosswalks.now s.args.coordinates.now) c.grow_rows.new.0 c.grow_rows-2.new.0 c.follow_rules.new.0 c.relay.new.0 c.relay.new.1.0 c.relay.new.1.1.0 c.relay.new.1.1.1.0 c.relay.new.1.1.1.1.0 c.grow_rows.ensures c.grow_rows-2.ensures c.follow_rules.ensures c.relay.ensures
+returns c = let s = c.before.before.before.before.before.before.before.before.before.before.before.before.before.before.before.before.before.before.before.before.before.before.before.before.before.before.before.before.before.before.before.before.before.before.before.before.before.before.before.before.before.before.before.before.before in all-written (cutting_of s.args.drawn s.args.seen.now s.args.cut.now s.args.marks.now s.args.pieces.now s.args.lines.now s.args.centers.now) s.args.drawn.points s.args.anchored.now s.args.past.now (tables_of s.args.lanes.now s.args.boundaries.now s.args.roads.now s.args.junctions.now s.args.rules.now s.args.stop_lines.now s.args.crosswalks.now s.args.coordinates.now) c.grow_rows.new.t c.grow_rows-2.new.t c.follow_rules.new.t c.relay.new.lanes c.relay.new.boundaries c.relay.new.stop_lines c.relay.new.crosswalks c.relay.new.coordinates c.grow_rows.ensures c.grow_rows-2.ensures c.follow_rules.ensures c.relay.ensures

@@ -49,8 +49,8 @@ pub loop-i-preserved : goal.loop-i-preserved
 loop-i-preserved c =
     let a = c.args in let t = c.loop-i in
     ⊎_elim
-    (λ s. let w = alone-cut a.cut.now a.n a.pieces.now a.marks.now c.requires.0 c.requires.1.0 t.j t.i t.marks t.invariant.1 c.loop-i-test.true s.if-cut-i.true in (omega arith, rw (s.3, s.4) w))
-    (λ s. let w = alone-left a.cut.now a.n a.pieces.now a.marks.now c.requires.0 c.requires.1.0 t.j t.i t.marks t.invariant.1 c.loop-i-test.true s.if-cut-i.false in (omega arith, rw (s.1, s.2) w))
+    (λ s. let w = alone-cut a.cut.now a.n a.pieces.now a.marks.now c.requires.0 c.requires.1.0 t.j t.i t.marks t.invariant.1 c.loop-i-test.true s.if-cut-i.true in (omega arith, rw (s.marks-is, s.j-is) w))
+    (λ s. let w = alone-left a.cut.now a.n a.pieces.now a.marks.now c.requires.0 c.requires.1.0 t.j t.i t.marks t.invariant.1 c.loop-i-test.true s.if-cut-i.false in (omega arith, rw (s.marks-is, s.j-is) w))
     c.if-cut-i.branch-raw
 
 pub shape_of-marks : goal.shape_of-marks

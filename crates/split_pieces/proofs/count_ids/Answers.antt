@@ -52,7 +52,7 @@ loop-x-preserved c =
     let t = c.loop-x in
     let l = c.loop-x-test.true in
     ⊎_elim
-    (λ s. (omega (arith, l), rw s.3 (count-one a.seen.now a.lanes.now a.boundaries.now a.marks.now t.x t.ids t.invariant.1 l c.requires.0.1.1 s.if-marks-x.true s.2.result s.2.ensures)))
+    (λ s. (omega (arith, l), rw s.ids-is (count-one a.seen.now a.lanes.now a.boundaries.now a.marks.now t.x t.ids t.invariant.1 l c.requires.0.1.1 s.if-marks-x.true s.ids_for-ids.result s.ids_for-ids.ensures)))
     (λ s. (omega (arith, l), rw s.ids-is (count_none a.seen.now a.lanes.now a.boundaries.now a.marks.now t.x t.ids t.invariant.1 l c.requires.0.1.1 s.if-marks-x.false)))
     c.if-marks-x.branch-raw
 

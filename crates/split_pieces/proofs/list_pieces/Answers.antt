@@ -60,11 +60,11 @@ loop-x-preserved c =
     let l = c.loop-x-test.true in
     ⊎_elim
     (λ s.
-    let w = list-one a.seen.now a.lanes.now a.boundaries.now a.marks.now a.next a.pieces.now t.x t.m t.id t.pieces t.invariant.1 l p.0.0.1.1 s.0.taken s.3.result s.3.ensures p.1.1 s.4.result s.4.last.0 s.4.ensures in
-    (omega (arith, l), rw (s.7, s.8, s.9) w))
+    let w = list-one a.seen.now a.lanes.now a.boundaries.now a.marks.now a.next a.pieces.now t.x t.m t.id t.pieces t.invariant.1 l p.0.0.1.1 s.if-marks-x.true s.used_beyond.result s.used_beyond.ensures p.1.1 s.put_piece-id.result s.put_piece-id.last.0 s.put_piece-id.ensures in
+    (omega (arith, l), rw (s.pieces-is, s.id-is, s.m-is) w))
     (λ s.
-    let w = list-none a.seen.now a.lanes.now a.boundaries.now a.marks.now a.next a.pieces.now t.x t.m t.id t.pieces t.invariant.1 l p.0.0.1.1 s.0.left in
-    (omega (arith, l), rw (s.1, s.2, s.3) w))
+    let w = list-none a.seen.now a.lanes.now a.boundaries.now a.marks.now a.next a.pieces.now t.x t.m t.id t.pieces t.invariant.1 l p.0.0.1.1 s.if-marks-x.false in
+    (omega (arith, l), rw (s.pieces-is, s.id-is, s.m-is) w))
     c.if-marks-x.branch-raw
 
 pub shape_of-pieces : goal.shape_of-pieces

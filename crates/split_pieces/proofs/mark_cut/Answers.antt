@@ -15,7 +15,7 @@ bounds-lanes-0 c = omega (arith, sorted-room 1024 52 c.args.lanes.now c.requires
 
 pub loop-j-init : goal.loop-j-init
 loop-j-init c =
-    let u = c.before.before.before.before.before.before in
+    let u = c in
     (omega arith, (refl, mark-begins u.args.seen.now u.args.lanes.now u.args.boundaries.now u.args.marks.now u.requires.1.1 u.requires.0.1.1))
 
 pub bounds-seen-j : goal.bounds-seen-j
@@ -31,7 +31,7 @@ mark_side-requires-then-seen-j c =
     let u = c.requires.0 in
     let a = c.args in
     let t = c.loop-j in
-    let e = side-length a.lanes.now t.j Left a.boundaries.now t.marks c.mark_side.new.1.1.1.1.0 c.mark_side.ensures in
+    let e = side-length a.lanes.now t.j Left a.boundaries.now t.marks c.mark_side.new.marks.0 c.mark_side.ensures in
     ((u.0, (u.1.0, omega (arith, u.1.1, t.invariant.1.0, e))), c.loop-j-test.true)
 
 pub overflow_add-j : goal.overflow_add-j
@@ -48,11 +48,11 @@ loop-j-preserved c =
     let l = c.loop-j-test.true in
     ⊎_elim
     (λ s.
-    let x = s.2.last.1.1.1.1.0 in
-    let y = s.6.last.1.1.1.1.0 in
-    let d = side-length a.lanes.now t.j Left a.boundaries.now t.marks x s.2.ensures in
-    let e = side-length a.lanes.now t.j Right a.boundaries.now x y s.6.ensures in
-    (omega (arith, l), (ap length s.9 ∙ e ∙ d ∙ t.invariant.1.0, s.9 ∙ mark-one a.seen.now a.lanes.now a.boundaries.now a.marks.now t.j t.marks t.invariant.1.1 l p.1.0 p.0.1.0 s.0.taken x y s.2.ensures s.6.ensures)))
+    let x = s.mark_side.last.1.1.1.1.0 in
+    let y = s.mark_side-then-seen-j.last.1.1.1.1.0 in
+    let d = side-length a.lanes.now t.j Left a.boundaries.now t.marks x s.mark_side.ensures in
+    let e = side-length a.lanes.now t.j Right a.boundaries.now x y s.mark_side-then-seen-j.ensures in
+    (omega (arith, l), (ap length s.marks-is ∙ e ∙ d ∙ t.invariant.1.0, s.marks-is ∙ mark-one a.seen.now a.lanes.now a.boundaries.now a.marks.now t.j t.marks t.invariant.1.1 l p.1.0 p.0.1.0 s.if-seen-j.true x y s.mark_side.ensures s.mark_side-then-seen-j.ensures)))
     (λ s. (omega (arith, l), (ap length s.marks-is ∙ t.invariant.1.0, s.marks-is ∙ mark-none a.seen.now a.lanes.now a.boundaries.now a.marks.now t.j t.marks t.invariant.1.1 l p.1.0 s.if-seen-j.false)))
     c.if-seen-j.branch-raw
 

@@ -30,11 +30,11 @@ loop-j-smaller c = omega (arith, c.loop-j-test.true)
 
 pub loop-j-preserved : goal.loop-j-preserved
 loop-j-preserved c =
-    let u = c.before.before.before.before.before.before.before.before in
+    let u = c in
     let t = c.loop-j in
     let l = c.loop-j-test.true in
     ⊎_elim
-    (λ s. (omega (arith, l), beyond-none u.args.seen.now u.args.lanes.now u.args.id t.j t.invariant.1 l u.requires.1 s.if-not-seen-j.true s.1.result s.1.ensures s.2.left))
+    (λ s. (omega (arith, l), beyond-none u.args.seen.now u.args.lanes.now u.args.id t.j t.invariant.1 l u.requires.1 s.if-not-seen-j.true s.row_uses.result s.row_uses.ensures s.if-row_uses.false))
     (λ s. (omega (arith, l), beyond-marked u.args.seen.now u.args.lanes.now u.args.id t.j t.invariant.1 l u.requires.1 s.if-not-seen-j.false))
     c.if-not-seen-j.branch-raw
 

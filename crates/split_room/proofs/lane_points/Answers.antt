@@ -59,8 +59,8 @@ loop-i-smaller c = omega (arith, c.loop-i-test.true)
 pub loop-i-preserved : goal.loop-i-preserved
 loop-i-preserved c =
     ⊎_elim
-    (λ s. between-one c.args.centers.now c.args.seen.now c.args.lanes.now c.requires c.loop-i.i c.loop-i.r c.loop-i.points c.loop-i.invariant c.loop-i-test.true s.if-seen-i.true c.if-seen-i.r c.if-seen-i.points s.4 s.3)
-    (λ s. between_none c.args.centers.now c.args.seen.now c.args.lanes.now c.requires c.loop-i.i c.loop-i.r c.loop-i.points c.loop-i.invariant c.loop-i-test.true s.if-seen-i.false s.1.result c.if-seen-i.r c.if-seen-i.points s.1.ensures s.3 s.2)
+    (λ s. between-one c.args.centers.now c.args.seen.now c.args.lanes.now c.requires c.loop-i.i c.loop-i.r c.loop-i.points c.loop-i.invariant c.loop-i-test.true s.if-seen-i.true c.if-seen-i.r c.if-seen-i.points s.r-is s.points-is)
+    (λ s. between_none c.args.centers.now c.args.seen.now c.args.lanes.now c.requires c.loop-i.i c.loop-i.r c.loop-i.points c.loop-i.invariant c.loop-i-test.true s.if-seen-i.false s.center_points-points.result c.if-seen-i.r c.if-seen-i.points s.center_points-points.ensures s.r-is s.points-is)
     c.if-seen-i.branch-raw
 
 pub returns : goal.returns

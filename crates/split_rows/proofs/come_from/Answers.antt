@@ -60,7 +60,7 @@ pub loop-i-smaller : goal.loop-i-smaller
 loop-i-smaller c = let a = c.args in let l = c.loop-i in omega (arith, l.invariant.0.upto, l.invariant.1, coming-bounds a.cut.now a.next a.row.now (replicate 16 0) c.requires.0 c.requires.1 refl l.row l.seconds l.left l.branch l.i l.invariant.0)
 
 pub loop-i-preserved : goal.loop-i-preserved
-loop-i-preserved c = let a = c.args in let l = c.loop-i in (⊎_elim (λ x. coming-cut a.cut.now a.next a.row.now (replicate 16 0) c.requires.0 c.requires.1 refl l.row l.seconds l.left l.branch l.i l.invariant.0 (omega (arith, c.loop-i-test, l.invariant.1)) c.find_row-found.result c.find_row-found.ensures c.in-At.row c.in-At.seconds c.in-At.left c.in-At.came x.1.given.0.0 x.1.given.1 x.3 x.4 x.5 x.6) (λ x. coming-stays a.cut.now a.next a.row.now (replicate 16 0) c.requires.0 c.requires.1 refl l.row l.seconds l.left l.branch l.i l.invariant.0 (omega (arith, c.loop-i-test, l.invariant.1)) c.find_row-found.result c.find_row-found.ensures c.in-At.row c.in-At.seconds c.in-At.left c.in-At.came x.1.given.1 x.2 x.3 x.4 x.5) c.in-At.branch, l.invariant.1)
+loop-i-preserved c = let a = c.args in let l = c.loop-i in (⊎_elim (λ x. coming-cut a.cut.now a.next a.row.now (replicate 16 0) c.requires.0 c.requires.1 refl l.row l.seconds l.left l.branch l.i l.invariant.0 (omega (arith, c.loop-i-test, l.invariant.1)) c.find_row-found.result c.find_row-found.ensures c.in-At.row c.in-At.seconds c.in-At.left c.in-At.came x.in-At.given.0.0 x.in-At.is x.left-is x.came-is x.came-is x.came-is) (λ x. coming-stays a.cut.now a.next a.row.now (replicate 16 0) c.requires.0 c.requires.1 refl l.row l.seconds l.left l.branch l.i l.invariant.0 (omega (arith, c.loop-i-test, l.invariant.1)) c.find_row-found.result c.find_row-found.ensures c.in-At.row c.in-At.seconds c.in-At.left c.in-At.came x.in-Nothing.is x.seconds-is x.left-is x.came-is x.came-is) c.match-found.branch-raw, l.invariant.1)
 
 pub slice_bounds-seconds-end : goal.slice_bounds-seconds-end
 slice_bounds-seconds-end c = let a = c.args in let l = c.loop-i in omega (arith, l.invariant.0.upto, l.invariant.1, coming-bounds a.cut.now a.next a.row.now (replicate 16 0) c.requires.0 c.requires.1 refl l.row l.seconds l.left l.branch l.i l.invariant.0)

@@ -5,7 +5,7 @@ use Rattle.split_rows.proofs.Pieces.{piece-room, piece-taken, piece-whole}
 use Rattle.split_rows.proofs.half_ref.Goals as goal
 
 pub overflow_mul-result : goal.overflow_mul-result
-overflow_mul-result c = let a = c.args in omega (arith, c.well-formed, piece-room a.pieces.now a.m a.boundary a.second a.reversed c.requires.0 c.find_row-found.result c.find_row-found.ensures c.in-At.x c.in-At.is)
+overflow_mul-result c = let a = c.args in omega (arith, c.well_formed, piece-room a.pieces.now a.m a.boundary a.second a.reversed c.requires.0 c.find_row-found.result c.find_row-found.ensures c.in-At.x c.in-At.is)
 
 pub overflow_add-result : goal.overflow_add-result
 overflow_add-result c = let a = c.args in omega (arith, c.piece_word.ensures.1, piece-room a.pieces.now a.m a.boundary a.second a.reversed c.requires.0 c.find_row-found.result c.find_row-found.ensures c.in-At.x c.in-At.is)

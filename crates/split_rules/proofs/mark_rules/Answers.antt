@@ -33,7 +33,7 @@ pub loop-i-smaller : goal.loop-i-smaller
 loop-i-smaller c = omega (arith, c.loop-i-test.true)
 
 pub loop-i-preserved : goal.loop-i-preserved
-loop-i-preserved c = let a = c.args in done_more a.join a.coordinates.now a.lanes.now a.boundaries.now a.point a.cut.now a.stations.now a.rules.now a.stop_lines.now a.crosswalks.now a.anchored.now a.past.now c.requires c.loop-i.i c.loop-i-test.true c.loop-i.anchored c.loop-i.past c.loop-i.invariant c.mark_rule.result c.mark_rule.new.1.1.1.1.1.1.1.1.1.1.1.0 c.mark_rule.ensures
+loop-i-preserved c = let a = c.args in done_more a.join a.coordinates.now a.lanes.now a.boundaries.now a.point a.cut.now a.stations.now a.rules.now a.stop_lines.now a.crosswalks.now a.anchored.now a.past.now c.requires c.loop-i.i c.loop-i-test.true c.loop-i.anchored c.loop-i.past c.loop-i.invariant c.mark_rule.result c.mark_rule.new.past.0 c.mark_rule.ensures
 
 pub shape_of-anchored : goal.shape_of-anchored
 shape_of-anchored c = c.loop-i.invariant.tested.same

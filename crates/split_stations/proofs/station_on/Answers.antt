@@ -10,9 +10,10 @@ use Rattle.split_plan.proofs.Leaves.{station_pointless, station-there, station-o
 use Rattle.split_stations.proofs.station_on.Goals as goal
 use Rattle.split_stations.proofs.station_on.Lts as lts
 use Rattle.split_stations.proofs.station_on.Reads as reads
+use Rattle.split_stations.proofs.station_on.Tie as tie
 
 abbrev AtJoinedLaneOwn : Type 0
-AtJoinedLaneOwn = lts.Joined1 reads.Pre reads.Post
+AtJoinedLaneOwn = lts.Joined1 tie.the-claims reads.Pre reads.Post
 
 -- the own lane's station is the given one
 chosen : (c : AtJoinedLaneOwn) → c.if-lane-own.station ≡ cond (eqb c.args.lane c.args.own) c.args.cut.station c.in-Some.near.station

@@ -43,7 +43,7 @@ pub loop-i-smaller : goal.loop-i-smaller
 loop-i-smaller c = omega (arith, c.loop-i-test.true)
 
 pub loop-i-preserved : goal.loop-i-preserved
-loop-i-preserved c = let a = c.args in changed-turn 5 (pointed_piece a.pieces.now a.m a.lines.now) a.t.now (table-room 4096 5 a.t.now c.requires.0) (point-keeps a.t.now a.pieces.now a.m a.lines.now (table-room 4096 5 a.t.now c.requires.0)) c.loop-i.t c.loop-i.i c.loop-i.invariant c.loop-i-test.true c.point_row.new.0 c.point_row.ensures
+loop-i-preserved c = let a = c.args in changed-turn 5 (pointed_piece a.pieces.now a.m a.lines.now) a.t.now (table-room 4096 5 a.t.now c.requires.0) (point-keeps a.t.now a.pieces.now a.m a.lines.now (table-room 4096 5 a.t.now c.requires.0)) c.loop-i.t c.loop-i.i c.loop-i.invariant c.loop-i-test.true c.point_row.new.row c.point_row.ensures
 
 pub shape_of-t : goal.shape_of-t
 shape_of-t c = let a = c.args in changed-length 5 (pointed_piece a.pieces.now a.m a.lines.now) a.t.now (table-room 4096 5 a.t.now c.requires.0) (point-keeps a.t.now a.pieces.now a.m a.lines.now (table-room 4096 5 a.t.now c.requires.0)) c.loop-i.t c.loop-i.i c.loop-i.invariant

@@ -14,9 +14,10 @@ use Rattle.polyline.specs.declared.OptionPoint3.{OptionPoint3}
 use Rattle.stations.proofs.centerline.Goals as goal
 use Rattle.stations.proofs.centerline.Lts as lts
 use Rattle.stations.proofs.centerline.Reads as reads
+use Rattle.stations.proofs.centerline.Tie as tie
 
 abbrev AtInLoopI : Type 0
-AtInLoopI = lts.In-loop reads.Pre reads.Post goal.the-invariant-loop-i goal.the-decreases-loop-i
+AtInLoopI = lts.In-loop tie.the-claims reads.Pre reads.Post goal.the-invariant-loop-i goal.the-decreases-loop-i
 
 -- the two sides, the next point between them with what is left behind it, the room for all, and that neither side is empty
 abbrev left-of : AtInLoopI → List Point3
@@ -75,7 +76,7 @@ put_optional-requires c =
     (fits_more _ _ _ _ (centerline (left-of c.before.before.before.before.before.before.before) (right_of c.before.before.before.before.before.before.before)) (piece c.before.before.before.before.before.before.before) (rest c.before.before.before.before.before.before.before) (room c.before.before.before.before.before.before.before) (next c.before.before.before.before.before.before.before))
 
 pub overflow_add-i : goal.overflow_add-i
-overflow_add-i c = omega (arith, c.loop-i-test.true, c.centerline_points-n.type-inv)
+overflow_add-i c = omega (arith, c.loop-i-test.true, c.centerline_points-n.type_inv)
 
 pub loop-i-smaller : goal.loop-i-smaller
 loop-i-smaller c = omega (arith, c.loop-i-test.true)

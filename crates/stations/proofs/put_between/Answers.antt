@@ -17,9 +17,10 @@ use Rattle.polyline.proofs.Walk.{at}
 use Rattle.stations.proofs.put_between.Goals as goal
 use Rattle.stations.proofs.put_between.Lts as lts
 use Rattle.stations.proofs.put_between.Reads as reads
+use Rattle.stations.proofs.put_between.Tie as tie
 
 abbrev AtInLoopI : Type 0
-AtInLoopI = lts.In-loop reads.Pre reads.Post goal.the-invariant-loop-i goal.the-decreases-loop-i
+AtInLoopI = lts.In-loop tie.the-claims reads.Pre reads.Post goal.the-invariant-loop-i goal.the-decreases-loop-i
 
 -- the line, the next station, the points to write, and the next of them, if it is one, with what is left behind it
 abbrev line_of : AtInLoopI → List Point3
@@ -60,7 +61,7 @@ point-q-requires c = omega (arith, c.count-n.ensures, c.loop-i-test.true)
 pub overflow_add-k : goal.overflow_add-k
 overflow_add-k c =
     let l = c.loop-i in
-    omega (arith, l.invariant.1.total, c.requires, c.well-formed.1.1.1.0.0)
+    omega (arith, l.invariant.1.total, c.requires, c.well_formed.1.1.1.0.0)
 
 pub put_if-found-requires : goal.put_if-found-requires
 put_if-found-requires c = rw (c.inside.ensures, c.distance-at.ensures, c.point-q.ensures) (fits_more _ _ _ _ (whole c.before.before.before.before.before) (piece c.before.before.before.before.before) (rest c.before.before.before.before.before) c.requires (next c.before.before.before.before.before))
@@ -69,10 +70,10 @@ pub overflow_add-found : goal.overflow_add-found
 overflow_add-found c =
     let r = fits_more _ _ _ _ (whole c.before.before.before.before.before.before.before.before) (piece c.before.before.before.before.before.before.before.before) (rest c.before.before.before.before.before.before.before.before) c.requires (next c.before.before.before.before.before.before.before.before) in
     let e = rw (c.inside.ensures, c.distance-at.ensures, c.point-q.ensures) at c.put_if-found.ensures in
-    omega (arith, r, e.0, c.loop-i.invariant.1.same, c.well-formed.1.1.1.0.0)
+    omega (arith, r, e.0, c.loop-i.invariant.1.same, c.well_formed.1.1.1.0.0)
 
 pub overflow_add-i : goal.overflow_add-i
-overflow_add-i c = omega (arith, c.count-n.type-inv, c.loop-i-test.true)
+overflow_add-i c = omega (arith, c.count-n.type_inv, c.loop-i-test.true)
 
 pub loop-i-smaller : goal.loop-i-smaller
 loop-i-smaller c = omega (arith, c.loop-i-test.true)

@@ -14,12 +14,13 @@ use Rattle.polyline.proofs.Lines.{slice-short, slice_empty, slice-whole, room-th
 use Rattle.stations.proofs.put_slice.Goals as goal
 use Rattle.stations.proofs.put_slice.Lts as lts
 use Rattle.stations.proofs.put_slice.Reads as reads
+use Rattle.stations.proofs.put_slice.Tie as tie
 
 abbrev AtStart : Type 0
-AtStart = lts.Start reads.Pre reads.Post
+AtStart = lts.Start tie.the-claims reads.Pre reads.Post
 
 abbrev AtElseBA : Type 0
-AtElseBA = lts.Else2 reads.Pre reads.Post
+AtElseBA = lts.Else2 tie.the-claims reads.Pre reads.Post
 
 -- The slice where the line has no two points, or the interval is empty: the point at its start.
 short : (c : AtStart) → length (points c.args.line.now) < 2 → slice (points c.args.line.now) c.args.from c.args.to ≡ optional c.args.start
@@ -74,19 +75,19 @@ pub put_optional-head-requires : goal.put_optional-head-requires
 put_optional-head-requires c = omega (arith, room c.before.before)
 
 pub put_between-middle-requires : goal.put_between-middle-requires
-put_between-middle-requires c = omega (arith, room c.before.before.before.before.before.before, c.put_optional-head.ensures.0, c.put_optional-head.auto.0)
+put_between-middle-requires c = omega (arith, room c.before.before.before.before.before.before, c.put_optional-head.ensures.0, c.put_optional-head.auto.out)
 
 pub overflow_add-head : goal.overflow_add-head
-overflow_add-head c = omega (arith, room c.before.before.before.before.before.before.before.before.before.before, c.put_optional-head.ensures.0, c.put_between-middle.ensures.0, c.well-formed.1.1.1.1.1.1.0.0)
+overflow_add-head c = omega (arith, room c.before.before.before.before.before.before.before.before.before.before, c.put_optional-head.ensures.0, c.put_between-middle.ensures.0, c.well_formed.1.1.1.1.1.1.0.0)
 
 pub put_optional-requires-2 : goal.put_optional-requires-2
-put_optional-requires-2 c = omega (arith, room c.before.before.before.before.before.before.before.before.before.before, c.put_optional-head.ensures.0, c.put_between-middle.ensures.0, c.put_optional-head.auto.0, c.put_between-middle.auto.1.1.1.0)
+put_optional-requires-2 c = omega (arith, room c.before.before.before.before.before.before.before.before.before.before, c.put_optional-head.ensures.0, c.put_between-middle.ensures.0, c.put_optional-head.auto.out, c.put_between-middle.auto.out)
 
 pub overflow_add-result : goal.overflow_add-result
-overflow_add-result c = omega (arith, room c.before.before.before.before.before.before.before.before.before.before.before.before.before, c.put_between-middle.ensures.0, c.put_optional-2.ensures.0, c.well-formed.1.1.1.1.1.1.0.0)
+overflow_add-result c = omega (arith, room c.before.before.before.before.before.before.before.before.before.before.before.before.before, c.put_between-middle.ensures.0, c.put_optional-2.ensures.0, c.well_formed.1.1.1.1.1.1.0.0)
 
 pub overflow_add-result-2 : goal.overflow_add-result-2
-overflow_add-result-2 c = omega (arith, room c.before.before.before.before.before.before.before.before.before.before.before.before.before, c.put_optional-head.ensures.0, c.put_between-middle.ensures.0, c.put_optional-2.ensures.0, c.well-formed.1.1.1.1.1.1.0.0)
+overflow_add-result-2 c = omega (arith, room c.before.before.before.before.before.before.before.before.before.before.before.before.before, c.put_optional-head.ensures.0, c.put_between-middle.ensures.0, c.put_optional-2.ensures.0, c.well_formed.1.1.1.1.1.1.0.0)
 
 pub returns : goal.returns
 returns c =

@@ -12,9 +12,10 @@ use Rattle.geometry.specs.declared.Point3.{Point3}
 use Rattle.stations.proofs.resample_count.Goals as goal
 use Rattle.stations.proofs.resample_count.Lts as lts
 use Rattle.stations.proofs.resample_count.Reads as reads
+use Rattle.stations.proofs.resample_count.Tie as tie
 
 abbrev AtInLoopI : Type 0
-AtInLoopI = lts.In-loop reads.Pre reads.Post goal.the-invariant-loop-i goal.the-decreases-loop-i
+AtInLoopI = lts.In-loop tie.the-claims reads.Pre reads.Post goal.the-invariant-loop-i goal.the-decreases-loop-i
 
 -- the line, all points of it that are asked for, the next of them with what is left behind it, and the room for all
 abbrev line_of : AtInLoopI → List Point3
@@ -54,7 +55,7 @@ pub put_optional-requires : goal.put_optional-requires
 put_optional-requires c = rw (c.point_at.ensures, c.share.ensures, c.length-len.ensures) (fits_more _ _ _ _ (whole c.before.before.before.before) (piece c.before.before.before.before) (rest c.before.before.before.before) (room c.before.before.before.before) (next c.before.before.before.before))
 
 pub overflow_add-i : goal.overflow_add-i
-overflow_add-i c = omega (arith, c.loop-i-test.true, c.at_least_two-wanted.type-inv)
+overflow_add-i c = omega (arith, c.loop-i-test.true, c.at_least_two-wanted.type_inv)
 
 pub loop-i-smaller : goal.loop-i-smaller
 loop-i-smaller c = omega (arith, c.loop-i-test.true)

@@ -27,7 +27,7 @@ overflow_add-result c =
       optional-few c.point_at-3.result,
       length-between c.clamp-a.result c.clamp-b.result (points c.args.line.now),
       length-points c.args.line.now,
-      c.well-formed.0,
+      c.well_formed.0,
     )
 
 pub overflow_add-result-2 : goal.overflow_add-result-2
@@ -41,7 +41,7 @@ overflow_add-result-2 c =
       optional-few c.point_at-2.result,
       length-between c.clamp-a.result c.clamp-b.result (points c.args.line.now),
       length-points c.args.line.now,
-      c.well-formed.0,
+      c.well_formed.0,
     )
 
 pub returns : goal.returns

@@ -16,27 +16,31 @@ put_slice-first-requires c = (c.length-len.ensures, (rw (← c.clamp.ensures) c.
 
 pub overflow_mul-behind : goal.overflow_mul-behind
 unfolding first_piece
-overflow_mul-behind c = omega (arith, c.put_slice-first.ensures.0, c.requires, c.well-formed.1.1.0.0)
+overflow_mul-behind c = omega (arith, c.put_slice-first.ensures.0, c.requires, c.well_formed.1.1.0.0)
 
 pub offset_bounds-out-behind : goal.offset_bounds-out-behind
 unfolding first_piece
-offset_bounds-out-behind c = omega (arith, c.put_slice-first.ensures.0, c.requires, c.well-formed.1.1.0.1)
+offset_bounds-out-behind c = omega (arith, c.put_slice-first.ensures.0, c.requires, c.well_formed.1.1.0.1)
 
 pub slice_bounds-put_slice-count : goal.slice_bounds-put_slice-count
 unfolding first_piece
-slice_bounds-put_slice-count c = omega (arith, c.put_slice-first.ensures.0, c.put_slice-first.auto.1.1.1.1.1.1.0, c.requires)
+slice_bounds-put_slice-count c = omega (arith, c.put_slice-first.ensures.0, c.put_slice-first.auto.out, c.requires)
+
+pub slice_bounds-put_slice-start : goal.slice_bounds-put_slice-start
+unfolding first_piece
+slice_bounds-put_slice-start c = omega (arith, c.put_slice-first.ensures.0, c.put_slice-first.auto.out, c.requires)
 
 pub put_slice-second-requires : goal.put_slice-second-requires
 unfolding first_piece second_piece
 put_slice-second-requires c =
-    let w = c.put_slice-first.new.1.1.1.1.1.1.0 in (
+    let w = c.put_slice-first.new.out in (
       c.length-len.ensures,
       (
         rw (← c.clamp-2.ensures) c.point_at-cut.ensures,
         (
           rw (← c.clamp-3.ensures) c.point_at-end.ensures,
           rw c.length-len.ensures
-              (omega (arith, mid_len (c.put_slice-first.result * 3) (length w) w (le_refl (length w)), c.put_slice-first.ensures.0, c.put_slice-first.auto.1.1.1.1.1.1.0, c.requires)),
+              (omega (arith, mid_len (c.put_slice-first.result * 3) (length w) w (le_refl (length w)), c.put_slice-first.ensures.0, c.put_slice-first.auto.out, c.requires)),
         ),
       ),
     )
@@ -50,7 +54,7 @@ returns c =
       e.0,
       (
         s.0,
-        writes-part c.args.out.now c.put_slice-first.new.1.1.1.1.1.1.0 c.put_slice-second.new.1.1.1.1.1.1.0 c.put_slice-first.result
+        writes-part c.args.out.now c.put_slice-first.new.out c.put_slice-second.new.out c.put_slice-first.result
             (slice ps zeroᶠ c.args.station) (slice ps c.args.station (line_length ps)) e.0 c.requires e.1 s.1,
       ),
     )

@@ -49,7 +49,7 @@ loop-i-preserved c =
     let a = c.args in
     let l = c.loop-i in
     let k = c.keep_row-kept in
-    moved-turn a.s (λ i. not (has i a.gone.now)) a.t.now c.requires.1 l.t l.i l.auto l.invariant c.requires.0 c.loop-i-test.true (not c.contains-stay.result) (ap not c.contains-stay.ensures) k.new.0 k.result k.ensures.0 k.ensures.1
+    moved-turn a.s (λ i. not (has i a.gone.now)) a.t.now c.requires.1 l.t l.i l.auto l.invariant c.requires.0 c.loop-i-test.true (not c.contains-stay.result) (ap not c.contains-stay.ensures) k.new.t k.result k.ensures.0 k.ensures.1
 
 pub bounds-t-0-2 : goal.bounds-t-0-2
 bounds-t-0-2 c =

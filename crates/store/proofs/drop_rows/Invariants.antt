@@ -12,7 +12,7 @@ use Rattle.lists.proofs.Rows.{row_within}
 use Rattle.store.proofs.drop_rows.Given as goal
 
 abbrev pub invariant-loop-i : goal.invariant-loop-i
-invariant-loop-i l = Moved l.s (λ l.i. not (has l.i l.gone)) l.initial.t l.t l.i l.kept
+invariant-loop-i l = Moved l.s (λ i. not (has i l.gone)) l.initial.t l.t l.i l.kept
 
 abbrev pub decreases-loop-i : goal.decreases-loop-i
 decreases-loop-i l = l.n - l.i

@@ -23,7 +23,7 @@ overflow_add-result c = omega (arith, at_least c.args.i c.args.s c.requires.0, c
 pub returns-then-stay : goal.returns-then-stay
 returns-then-stay c =
     let a = c.args in
-    row_kept a.stay (a.kept + 1) a.kept c.move_down.new.0 (over a.t.now (1 + a.kept * a.s) (take a.s (drop (1 + a.i * a.s) a.t.now))) a.t.now c.if-stay.true c.move_down.ensures
+    row_kept a.stay (a.kept + 1) a.kept c.move_down.new.words (over a.t.now (1 + a.kept * a.s) (take a.s (drop (1 + a.i * a.s) a.t.now))) a.t.now c.if-stay.true c.move_down.ensures
 
 pub returns : goal.returns
 returns c =

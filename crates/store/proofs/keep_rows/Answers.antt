@@ -49,7 +49,7 @@ loop-i-preserved c =
     let l = c.loop-i in
     let k = c.keep_row-kept in
     let id = word (1 + l.i * a.s) l.t in
-    moved-turn a.s (stays a.a a.b) a.t.now c.requires.1 l.t l.i l.auto l.invariant c.requires.0 c.loop-i-test.true c.both.result (neither (eqb id a.a) (eqb id a.b) c.both.result c.both.ensures) k.new.0 k.result k.ensures.0 k.ensures.1
+    moved-turn a.s (stays a.a a.b) a.t.now c.requires.1 l.t l.i l.auto l.invariant c.requires.0 c.loop-i-test.true c.both.result (neither (eqb id a.a) (eqb id a.b) c.both.result c.both.ensures) k.new.t k.result k.ensures.0 k.ensures.1
 
 pub bounds-t-0-2 : goal.bounds-t-0-2
 bounds-t-0-2 c =

@@ -1,4 +1,3 @@
-use borrow.Author.Rules.{rules}
 use native.Mathlib.Omega.{arith}
 use Prim.Native.Nat.{◌+◌}
 use Rattle.stream.proofs.Numbers.{past_end}
@@ -6,7 +5,7 @@ use Rattle.stream.proofs.byte.Goals as goal
 
 -- src/lib.rt:144:13
 pub returns-then-i-s : goal.returns-then-i-s
-returns-then-i-s c = (c.wide.ensures, omega (arith, c.wide.ensures, c.shared_slice_known-then-i-s-1.given (c.args.at + c.args.i)))
+returns-then-i-s c = (c.wide.ensures, omega (arith, c.wide.ensures))
 
 -- src/lib.rt:139:1
 pub returns-else-i-s : goal.returns-else-i-s

@@ -1,11 +1,8 @@
-use mathlib.Core.Path.{◌≡◌, refl, ap, ◌∙◌}
+use mathlib.Core.Path.{refl, ap, ◌∙◌}
 use native.Mathlib.Omega.{arith}
-use borrow.Author.Rules.{rules}
-use Prim.Native.Nat.{◌-◌, ◌≤◌}
-use mathlib.Core.List.{◌++◌}
-use lib.ListN.{length, length-set, take}
+use Prim.Native.Nat.{◌≤◌}
+use lib.ListN.{length, length-set}
 use Rattle.stream.specs.declared.Taken.{Taken}
-use Rattle.stream.specs.Numbers.{words_at, behind_all}
 use Rattle.stream.proofs.Tables.{begins, begins-behind, turn, turn-behind, ends, ends-behind}
 use Rattle.stream.proofs.fill.Goals as goal
 

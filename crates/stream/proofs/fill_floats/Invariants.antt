@@ -1,13 +1,8 @@
-use mathlib.Core.Path.{◌≡◌, refl, ap, ◌∙◌}
-use native.Mathlib.Omega.{arith}
-use borrow.Author.Rules.{rules}
+use mathlib.Core.Path.{◌≡◌}
 use Prim.Native.Nat.{◌-◌, ◌≤◌}
 use mathlib.Core.List.{◌++◌}
-use lib.ListN.{length, length-set, take}
-use lib.Ieee.{binary64, of_bits}
-use Rattle.stream.specs.declared.Taken.{Taken}
+use lib.ListN.{length, take}
 use Rattle.stream.specs.Numbers.{floats_at, behind_all}
-use Rattle.stream.proofs.Tables.{begins, begins-behind, turn, turn-behind, ends, ends-behind}
 use Rattle.stream.proofs.fill_floats.Given as goal
 
 abbrev pub invariant-loop-i : goal.invariant-loop-i

@@ -1,4 +1,3 @@
-use borrow.Author.Rules.{rules}
 use mathlib.Core.Path.{sym}
 use lib.Seq.{length-take-le}
 use lib.Ieee.{binary64, of_bits}
@@ -22,9 +21,9 @@ returns c =
     let n = c.number-n in
     let l = c.least-size in
     let f = c.fill_floats-next in (
-      part-told (of_bits binary64) s from t f.new.1.1.0 n.result l.result f.result n.ensures l.ensures.0 l.ensures.1 f.ensures.0 f.ensures.1,
+      part-told (of_bits binary64) s from t f.new.table n.result l.result f.result n.ensures l.ensures.0 l.ensures.1 f.ensures.0 f.ensures.1,
       (
-        part-over (of_bits binary64) s from t f.new.1.1.0 n.result l.result f.result n.ensures l.ensures.0 l.ensures.1 f.ensures.0 f.ensures.1,
-        part-counts (of_bits binary64) s from t f.new.1.1.0 n.result l.result f.result n.ensures l.ensures.0 l.ensures.1 f.ensures.0 f.ensures.1,
+        part-over (of_bits binary64) s from t f.new.table n.result l.result f.result n.ensures l.ensures.0 l.ensures.1 f.ensures.0 f.ensures.1,
+        part-counts (of_bits binary64) s from t f.new.table n.result l.result f.result n.ensures l.ensures.0 l.ensures.1 f.ensures.0 f.ensures.1,
       ),
     )

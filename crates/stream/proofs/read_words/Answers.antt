@@ -1,4 +1,3 @@
-use borrow.Author.Rules.{rules}
 use mathlib.Core.Path.{sym}
 use lib.Seq.{length-take-le}
 use Rattle.stream.proofs.Tables.{part-told, part-over, part-counts}
@@ -21,9 +20,9 @@ returns c =
     let n = c.number-n in
     let l = c.least-size in
     let f = c.fill-next in (
-      part-told (λ n. n) s from t f.new.1.1.0 n.result l.result f.result n.ensures l.ensures.0 l.ensures.1 f.ensures.0 f.ensures.1,
+      part-told (λ n. n) s from t f.new.table n.result l.result f.result n.ensures l.ensures.0 l.ensures.1 f.ensures.0 f.ensures.1,
       (
-        part-over (λ n. n) s from t f.new.1.1.0 n.result l.result f.result n.ensures l.ensures.0 l.ensures.1 f.ensures.0 f.ensures.1,
-        part-counts (λ n. n) s from t f.new.1.1.0 n.result l.result f.result n.ensures l.ensures.0 l.ensures.1 f.ensures.0 f.ensures.1,
+        part-over (λ n. n) s from t f.new.table n.result l.result f.result n.ensures l.ensures.0 l.ensures.1 f.ensures.0 f.ensures.1,
+        part-counts (λ n. n) s from t f.new.table n.result l.result f.result n.ensures l.ensures.0 l.ensures.1 f.ensures.0 f.ensures.1,
       ),
     )

@@ -1,4 +1,3 @@
-use borrow.Author.Rules.{rules}
 use Rattle.stream.specs.Numbers.{word_at}
 use Rattle.stream.proofs.word.Goals as goal
 

@@ -8,9 +8,10 @@ use Rattle.row_tests.proofs.Tables.{rest_rows, table-some, table-few, row_room, 
 use Rattle.table_tests.proofs.crosswalks_good.Goals as goal
 use Rattle.table_tests.proofs.crosswalks_good.Lts as lts
 use Rattle.table_tests.proofs.crosswalks_good.Reads as reads
+use Rattle.table_tests.proofs.crosswalks_good.Tie as tie
 
 abbrev AtInLoopI : Type 0
-AtInLoopI = lts.In-loop reads.Pre reads.Post goal.the-invariant-loop-i goal.the-decreases-loop-i
+AtInLoopI = lts.In-loop tie.the-claims reads.Pre reads.Post goal.the-invariant-loop-i goal.the-decreases-loop-i
 
 -- row i lies within the table
 row : (c : AtInLoopI) → 1 + c.loop-i.i * 7 + 7 ≤ length c.args.t.now

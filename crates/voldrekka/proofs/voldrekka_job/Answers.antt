@@ -6,12 +6,13 @@ use Rattle.voldrekka.proofs.Jobs.{all-jobs}
 use Rattle.voldrekka.proofs.voldrekka_job.Goals as goal
 use Rattle.voldrekka.proofs.voldrekka_job.Lts as lts
 use Rattle.voldrekka.proofs.voldrekka_job.Reads as reads
+use Rattle.voldrekka.proofs.voldrekka_job.Tie as tie
 
 abbrev AtStart : Type 0
-AtStart = lts.Start reads.Pre reads.Post
+AtStart = lts.Start tie.the-claims reads.Pre reads.Post
 
 abbrev AtAfterApplyEnd : Type 0
-AtAfterApplyEnd = lts.After-apply reads.Pre reads.Post
+AtAfterApplyEnd = lts.After-apply tie.the-claims reads.Pre reads.Post
 
 -- what is lent
 abbrev lentOn : AtStart → Lent

@@ -8,28 +8,28 @@ use Rattle.warnings.proofs.put_notice.Goals as goal
 
 pub put_single-requires : goal.put_single-requires
 put_single-requires c =
-    let s = c.before.before.before.before.before.before in
+    let s = c in
     let a = s.args in
     let g = c.notice-1.given in
     omega (arith, notice_room a.notice (NoOp g.0.0) a.at (length a.warnings.now) g.1 s.requires)
 
 pub put_pair-requires : goal.put_pair-requires
 put_pair-requires c =
-    let s = c.before.before.before.before.before.before in
+    let s = c in
     let a = s.args in
     let g = c.notice-in-Pair-1.given in
     omega (arith, notice_room a.notice (Pair g.0.0 g.0.1.0 g.0.1.1.0) a.at (length a.warnings.now) g.1 s.requires)
 
 pub put_single-requires-in-Unshared : goal.put_single-requires-in-Unshared
 put_single-requires-in-Unshared c =
-    let s = c.before.before.before.before.before.before in
+    let s = c in
     let a = s.args in
     let g = c.notice-in-Unshared-1.given in
     omega (arith, notice_room a.notice (Unshared g.0.0) a.at (length a.warnings.now) g.1 s.requires)
 
 pub put_pieces-requires : goal.put_pieces-requires
 put_pieces-requires c =
-    let s = c.before.before.before.before.before.before in
+    let s = c in
     let a = s.args in
     let g = c.notice-in-Pieces-1.given in
     omega (arith, notice_room a.notice (Pieces g.0.0 g.0.1.0 g.0.1.1.0) a.at (length a.warnings.now) g.1 s.requires)
@@ -43,22 +43,22 @@ pub returns-in-NoOp : goal.returns-in-NoOp
 returns-in-NoOp c =
     let a = c.args in
     let g = c.notice-1.given in
-    notice_put a.notice (NoOp g.0.0) a.at a.warnings.now c.put_single.new.0 g.1 c.put_single.ensures
+    notice_put a.notice (NoOp g.0.0) a.at a.warnings.now c.put_single.new.warnings g.1 c.put_single.ensures
 
 pub returns-in-Pair : goal.returns-in-Pair
 returns-in-Pair c =
     let a = c.args in
     let g = c.notice-in-Pair-1.given in
-    notice_put a.notice (Pair g.0.0 g.0.1.0 g.0.1.1.0) a.at a.warnings.now c.put_pair.new.0 g.1 c.put_pair.ensures
+    notice_put a.notice (Pair g.0.0 g.0.1.0 g.0.1.1.0) a.at a.warnings.now c.put_pair.new.warnings g.1 c.put_pair.ensures
 
 pub returns-in-Unshared : goal.returns-in-Unshared
 returns-in-Unshared c =
     let a = c.args in
     let g = c.notice-in-Unshared-1.given in
-    notice_put a.notice (Unshared g.0.0) a.at a.warnings.now c.put_single-in-Unshared.new.0 g.1 c.put_single-in-Unshared.ensures
+    notice_put a.notice (Unshared g.0.0) a.at a.warnings.now c.put_single-in-Unshared.new.warnings g.1 c.put_single-in-Unshared.ensures
 
 pub returns-in-Pieces : goal.returns-in-Pieces
 returns-in-Pieces c =
     let a = c.args in
     let g = c.notice-in-Pieces-1.given in
-    notice_put a.notice (Pieces g.0.0 g.0.1.0 g.0.1.1.0) a.at a.warnings.now c.put_pieces.new.0 g.1 c.put_pieces.ensures
+    notice_put a.notice (Pieces g.0.0 g.0.1.0 g.0.1.1.0) a.at a.warnings.now c.put_pieces.new.warnings g.1 c.put_pieces.ensures

@@ -11,31 +11,32 @@ use Rattle.relink.proofs.Reported.{nothing-up, pair-first, pair-second}
 use Rattle.relink.proofs.links.pair_unless.Goals as goal
 use Rattle.relink.proofs.links.pair_unless.Lts as lts
 use Rattle.relink.proofs.links.pair_unless.Reads as reads
+use Rattle.relink.proofs.links.pair_unless.Tie as tie
 
 abbrev AtAfterNamedN : Type 0
-AtAfterNamedN = lts.After-named reads.Pre reads.Post
+AtAfterNamedN = lts.After-named tie.the-claims reads.Pre reads.Post
 
 -- the first lane named, and the second
-first : (c : AtAfterNamedN) → (take c.named-n.result c.named-n.new.0 ≡ place c.args.a (take 0 c.args.ids.now)) × (c.named-n.result ≡ length (place c.args.a (take 0 c.args.ids.now)))
+first : (c : AtAfterNamedN) → (take c.named-n.result c.named-n.new.ids ≡ place c.args.a (take 0 c.args.ids.now)) × (c.named-n.result ≡ length (place c.args.a (take 0 c.args.ids.now)))
 first c =
-    let s = c.before.before.before.before in
-    named-front s.args.ids.now 0 s.args.a (omega (arith, s.requires)) c.named-n.new.0 c.named-n.result nothing-up c.named-n.ensures
+    let s = c in
+    named-front s.args.ids.now 0 s.args.a (omega (arith, s.requires)) c.named-n.new.ids c.named-n.result nothing-up c.named-n.ensures
 
-may : (c : AtAfterNamedN) → (c.named-n.result < length c.named-n.new.0) × (ascending (take c.named-n.result c.named-n.new.0) ≡ true)
+may : (c : AtAfterNamedN) → (c.named-n.result < length c.named-n.new.ids) × (ascending (take c.named-n.result c.named-n.new.ids) ≡ true)
 may c =
-    let s = c.before.before.before.before in
-    pair-first s.args.a c.named-n.result c.named-n.new.0 s.args.ids.now (first c).0 (first c).1 (omega (arith, s.requires, c.named-n.auto.0))
+    let s = c in
+    pair-first s.args.a c.named-n.result c.named-n.new.ids s.args.ids.now (first c).0 (first c).1 (omega (arith, s.requires, c.named-n.auto.0))
 
 pub named-n-requires : goal.named-n-requires
 named-n-requires c = (omega (arith, c.requires), nothing-up)
 
 pub named-requires : goal.named-requires
-named-requires c = may c.before.before.before.before
+named-requires c = may c.before.before.before
 
 pub returns : goal.returns
 returns c =
-    let one = c.before.before.before.before.before.before.before in
+    let one = c in
     let a = c.args in
     let m = c.named in
-    pair-second a.skip a.a a.b one.named-n.result m.result m.new.0 one.named-n.new.0 a.ids.now c.if-skip.false (first one).0
-    (named-front one.named-n.new.0 one.named-n.result a.b (may one).0 m.new.0 m.result (may one).1 m.ensures)
+    pair-second a.skip a.a a.b one.named-n.result m.result m.new.ids one.named-n.new.ids a.ids.now c.if-skip.false (first c.before.before.before.before.before.before.before).0
+    (named-front one.named-n.new.ids one.named-n.result a.b (may c.before.before.before.before.before.before.before).0 m.new.ids m.result (may c.before.before.before.before.before.before.before).1 m.ensures)

@@ -27,12 +27,12 @@ loop-i-smaller c = omega arith
 
 pub loop-i-preserved : goal.loop-i-preserved
 loop-i-preserved c =
-    let b = c.before.before.before.before.before.before.before in
+    let b = c in
     let l = c.loop-i in
     (omega arith, reach-on b.args.line.now b.args.n b.requires l.good l.i l.invariant.1 _ c.coordinate.result c.both-good.result c.loop-i-test.true c.coordinate.ensures c.both-good.ensures)
 
 pub returns : goal.returns
 returns c =
-    let b = c.before.before.before.before in
+    let b = c in
     let l = c.loop-i in
     reach-done b.args.line.now b.args.n b.requires l.good l.i l.invariant.1 (omega (arith, c.loop-i-test.false))

@@ -1,10 +1,7 @@
-use mathlib.Core.Path.{◌≡◌, refl, sym, ap, ◌∙◌}
+use mathlib.Core.Path.{refl, sym, ap, ◌∙◌}
 use native.Mathlib.Omega.{arith}
-use borrow.Author.Rules.{rules}
-use Prim.Native.Nat.{◌-◌, ◌≤◌}
-use lib.ListN.{length, drop}
 use lib.Ieee.{nan, binary64, to_bits}
-use Rattle.stream.specs.Digest.{mix, of_floats}
+use Rattle.stream.specs.Digest.{mix}
 use Rattle.stream.proofs.Digests.{taken_in, all_in}
 use Rattle.stream.proofs.digest.floats.Goals as goal
 

@@ -1,11 +1,7 @@
-use mathlib.Core.Path.{◌≡◌, refl, sym, ap, ◌∙◌}
-use native.Mathlib.Omega.{arith}
-use borrow.Author.Rules.{rules}
+use mathlib.Core.Path.{◌≡◌}
 use Prim.Native.Nat.{◌-◌, ◌≤◌}
 use lib.ListN.{length, drop}
-use lib.Ieee.{nan, binary64, to_bits}
-use Rattle.stream.specs.Digest.{mix, of_floats}
-use Rattle.stream.proofs.Digests.{taken_in, all_in}
+use Rattle.stream.specs.Digest.{of_floats}
 use Rattle.stream.proofs.digest.floats.Given as goal
 
 abbrev pub invariant-loop-i : goal.invariant-loop-i

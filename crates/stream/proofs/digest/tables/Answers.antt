@@ -1,4 +1,3 @@
-use borrow.Author.Rules.{rules}
 use Rattle.stream.proofs.digest.tables.Goals as goal
 
 -- src/digest.rt:44:1

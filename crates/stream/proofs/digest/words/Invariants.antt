@@ -1,10 +1,7 @@
-use mathlib.Core.Path.{◌≡◌, refl, sym, ◌∙◌}
-use native.Mathlib.Omega.{arith}
-use borrow.Author.Rules.{rules}
+use mathlib.Core.Path.{◌≡◌}
 use Prim.Native.Nat.{◌-◌, ◌≤◌}
 use lib.ListN.{length, drop}
 use Rattle.stream.specs.Digest.{of_words}
-use Rattle.stream.proofs.Digests.{taken_in, all_in}
 use Rattle.stream.proofs.digest.words.Given as goal
 
 abbrev pub invariant-loop-i : goal.invariant-loop-i

@@ -1,9 +1,8 @@
-use mathlib.Core.Path.{◌≡◌, refl, sym, ◌∙◌}
+use mathlib.Core.Path.{refl, sym, ◌∙◌}
 use native.Mathlib.Omega.{arith}
-use borrow.Author.Rules.{rules}
-use Prim.Native.Nat.{◌*◌, ◌-◌, ◌≤◌}
+use Prim.Native.Nat.{◌≤◌}
 use lib.ListN.{length, get_or}
-use Rattle.stream.proofs.Texts.{Left, row-begins, row-turn, row_ends, short}
+use Rattle.stream.proofs.Texts.{row-begins, row-turn, row_ends, short}
 use lib.Seq.{length-take-le}
 use Rattle.stream.proofs.text.row.Goals as goal
 
@@ -23,7 +22,7 @@ loop-i-preserved c =
     let h = c.loop-i-test.true in (
       omega arith,
       (
-        s.auto.0 ∙ i.1.0,
+        s.auto.out ∙ i.1.0,
         (
           omega (arith, s.ensures.1, short (get_or c.args.numbers.now c.loop-i.i 0), i.1.1.0),
           row-turn _ _ _ _ _ _ _ h (omega (arith, c.requires, i.1.0, i.1.1.0)) s.ensures i.1.1.1,

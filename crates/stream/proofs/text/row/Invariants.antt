@@ -1,10 +1,7 @@
-use mathlib.Core.Path.{◌≡◌, refl, sym, ◌∙◌}
-use native.Mathlib.Omega.{arith}
-use borrow.Author.Rules.{rules}
+use mathlib.Core.Path.{◌≡◌}
 use Prim.Native.Nat.{◌*◌, ◌-◌, ◌≤◌}
-use lib.ListN.{length, get_or}
-use Rattle.stream.proofs.Texts.{Left, row-begins, row-turn, row_ends, short}
-use lib.Seq.{length-take-le}
+use lib.ListN.{length}
+use Rattle.stream.proofs.Texts.{Left}
 use Rattle.stream.proofs.text.row.Given as goal
 
 abbrev pub invariant-loop-i : goal.invariant-loop-i

@@ -1,4 +1,3 @@
-use borrow.Author.Rules.{rules}
 use mathlib.Core.Path.{◌∙◌}
 use native.Mathlib.Omega.{arith}
 use lib.ListN.{length-set}
@@ -11,7 +10,7 @@ decimal-requires c = simp length-set (omega arith)
 
 -- src/text.rt:41:1
 pub shape_of-out : goal.shape_of-out
-shape_of-out c = c.decimal.auto.0 ∙ simp length-set
+shape_of-out c = c.decimal.auto.out ∙ simp length-set
 
 -- src/text.rt:41:1
 pub returns : goal.returns
