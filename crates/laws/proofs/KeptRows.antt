@@ -1,5 +1,5 @@
 -- A table whose keys ascend, with some rows left out: which keys go, and which rows are found as before. Assumes nothing.
-use mathlib.Core.Path.{◌≡◌, refl, sym, ap, ◌∙◌}
+use mathlib.Core.Path.{◌≡◌, refl, sym, ap, subst, ◌∙◌}
 use mathlib.Core.Bool.{Bool, true, false, not, ◌&&◌, ◌||◌, cond, true≢false}
 use mathlib.Core.List.{List, [], ◌∷◌, map}
 use mathlib.Core.Option.{Option, none, some}
@@ -99,7 +99,7 @@ module _ {A : Type 0} (key : A → ℕ) where
           → map key (cond b (y ∷ keep (λ z. eqb (key z) i) ys) (keep (λ z. eqb (key z) i) ys)) ≡ i ∷ []
       go true t r =
           let u : key y ≡ i = eqb-true (key y) i t in
-          rw (← u) (ap (λ zs. key y ∷ map key zs) (none-later ys (above-all (key y) (map key ys) h)))
+          subst (λ k. map key (y ∷ keep (λ z. eqb (key z) k) ys) ≡ k ∷ []) u (ap (λ zs. key y ∷ map key zs) (none-later ys (above-all (key y) (map key ys) h)))
       go false t r = r (rw t at e)
 
   -- a key of the rows that pass is the key of a row that is found and passes

@@ -19,13 +19,13 @@ pub returns-then-size-eq0 : goal.returns-then-size-eq0
 returns-then-size-eq0 c = take_none c.args.marks.now (line c.before.before.before) c.if-size-eq0.true
 
 pub unmarked-requires : goal.unmarked-requires
-unmarked-requires c = within_end (length c.args.marks.now) (line c.before.before.before) c.requires c.if-size-eq0.false
+unmarked-requires c = within_end (length c.args.marks.now) (line c.before.before) c.requires c.if-size-eq0.false
 
 pub mark_line-requires : goal.mark_line-requires
-mark_line-requires c = within_end (length c.args.marks.now) (line c.before.before.before.before.before.before) c.requires c.if-size-eq0.false
+mark_line-requires c = within_end (length c.args.marks.now) (line c.before.before.before.before.before) c.requires c.if-size-eq0.false
 
 pub returns-then-unmarked : goal.returns-then-unmarked
-returns-then-unmarked c = take-free c.args.marks.now c.mark_line.new.marks (line c.before.before.before.before.before.before.before.before.before.before) (sym c.unmarked.ensures ∙ c.if-unmarked.true) c.mark_line.ensures
+returns-then-unmarked c = take-free c.args.marks.now c.mark_line.new.marks (line c.before.before.before.before.before.before.before.before.before) (sym c.unmarked.ensures ∙ c.if-unmarked.true) c.mark_line.ensures
 
 pub returns : goal.returns
-returns c = take-used c.args.marks.now (line c.before.before.before.before.before) (sym c.unmarked.ensures ∙ c.if-unmarked.false)
+returns c = take-used c.args.marks.now (line c.before.before.before.before) (sym c.unmarked.ensures ∙ c.if-unmarked.false)

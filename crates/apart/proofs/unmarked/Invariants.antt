@@ -11,7 +11,7 @@ use Rattle.apart.proofs.Marks.{points-step, points-end}
 use Rattle.apart.proofs.unmarked.Given as goal
 
 abbrev pub invariant-loop-i : goal.invariant-loop-i
-invariant-loop-i l = (l.i ≤ l.size) × (unmarked l.marks (record { l.start = l.start; l.size = l.size }) ≡ all not (drop l.i (take l.size (drop l.start l.marks))))
+invariant-loop-i l = (l.i ≤ l.size) × (unmarked l.marks (record { start = l.start; size = l.size }) ≡ all not (drop l.i (take l.size (drop l.start l.marks))))
 
 abbrev pub decreases-loop-i : goal.decreases-loop-i
 decreases-loop-i l = l.size - l.i

@@ -30,7 +30,7 @@ abbrev side_of : AtAfterOrientedBoundaryR → Side → Option Line
 side_of c side = oriented_boundary (drawn c.args.coordinates.now c.args.boundaries.now) side (lane_of c.args.coordinates.now (row_at 52 c.args.lanes.now c.args.i))
 
 abbrev leftOut : AtAfterOrientedBoundaryR → List Float
-leftOut c = c.oriented_boundary-l.new.out.0
+leftOut c = c.oriented_boundary-l.new.out
 
 abbrev rightOut : AtAfterOrientedBoundaryR → List Float
 rightOut c = c.oriented-boundary2.new.1.1.1.1.1.0
@@ -73,30 +73,30 @@ returns-in_default-r c = let x = written_none _ c.args.out.now (right-absent (si
     (x.0, (x.1, (c.oriented_boundary-l.ensures.1, c.oriented_boundary-r.ensures.1)))
 
 pub overflow_mul-left_end : goal.overflow_mul-left_end
-overflow_mul-left_end c = omega (arith, left-small c.before.before.before.before.before.before.before.before.before c.in-Some.a (sym c.in-Some.is ∙ c.oriented_boundary-l.ensures.0))
+overflow_mul-left_end c = omega (arith, left-small c.before.before.before.before.before c.in-Some.a (sym c.in-Some.is ∙ c.oriented_boundary-l.ensures.0))
 
 pub overflow_mul-right_end : goal.overflow_mul-right_end
-overflow_mul-right_end c = omega (arith, right-small c.before.before.before.before.before.before.before.before.before c.in-Some-r.b (sym c.in-Some-r.is ∙ c.oriented_boundary-r.ensures.0))
+overflow_mul-right_end c = omega (arith, right-small c.before.before.before.before.before c.in-Some-r.b (sym c.in-Some-r.is ∙ c.oriented_boundary-r.ensures.0))
 
 pub slice_bounds-centerline-end : goal.slice_bounds-centerline-end
-slice_bounds-centerline-end c = omega (arith, left-small c.before.before.before.before.before.before.before.before.before c.in-Some.a (sym c.in-Some.is ∙ c.oriented_boundary-l.ensures.0), left-long c.before.before.before.before.before.before.before.before.before, c.requires.1.1.0)
+slice_bounds-centerline-end c = omega (arith, left-small c.before.before.before.before.before c.in-Some.a (sym c.in-Some.is ∙ c.oriented_boundary-l.ensures.0), left-long c.before.before.before.before.before, c.requires.1.1.0)
 
 pub slice_bounds-centerline-end-2 : goal.slice_bounds-centerline-end-2
-slice_bounds-centerline-end-2 c = sym (length-take-le (c.in-Some.a * 3) (leftOut c.before.before.before.before.before.before.before.before.before.before) (omega (arith, left-small c.before.before.before.before.before.before.before.before.before c.in-Some.a (sym c.in-Some.is ∙ c.oriented_boundary-l.ensures.0), left-long c.before.before.before.before.before.before.before.before.before, c.requires.1.1.0)))
+slice_bounds-centerline-end-2 c = sym (length-take-le (c.in-Some.a * 3) (leftOut c.before.before.before.before.before.before.before.before.before.before) (omega (arith, left-small c.before.before.before.before.before c.in-Some.a (sym c.in-Some.is ∙ c.oriented_boundary-l.ensures.0), left-long c.before.before.before.before.before, c.requires.1.1.0)))
 
 pub slice_bounds-centerline-end-3 : goal.slice_bounds-centerline-end-3
-slice_bounds-centerline-end-3 c = omega (arith, right-small c.before.before.before.before.before.before.before.before.before c.in-Some-r.b (sym c.in-Some-r.is ∙ c.oriented_boundary-r.ensures.0), right-long c.before.before.before.before.before.before.before.before.before, c.requires.1.1.1.0)
+slice_bounds-centerline-end-3 c = omega (arith, right-small c.before.before.before.before.before c.in-Some-r.b (sym c.in-Some-r.is ∙ c.oriented_boundary-r.ensures.0), right-long c.before.before.before.before.before, c.requires.1.1.1.0)
 
 pub slice_bounds-centerline-end-4 : goal.slice_bounds-centerline-end-4
-slice_bounds-centerline-end-4 c = sym (length-take-le (c.in-Some-r.b * 3) (rightOut c.before.before.before.before.before.before.before.before.before.before.before) (omega (arith, right-small c.before.before.before.before.before.before.before.before.before c.in-Some-r.b (sym c.in-Some-r.is ∙ c.oriented_boundary-r.ensures.0), right-long c.before.before.before.before.before.before.before.before.before, c.requires.1.1.1.0)))
+slice_bounds-centerline-end-4 c = sym (length-take-le (c.in-Some-r.b * 3) (rightOut c.before.before.before.before.before.before.before.before.before.before.before) (omega (arith, right-small c.before.before.before.before.before c.in-Some-r.b (sym c.in-Some-r.is ∙ c.oriented_boundary-r.ensures.0), right-long c.before.before.before.before.before, c.requires.1.1.1.0)))
 
 pub centerline-n-requires : goal.centerline-n-requires
-centerline-n-requires c = center_room (points (take (c.in-Some.a * 3) (leftOut c.before.before.before.before.before.before.before.before.before.before.before.before))) (points (take (c.in-Some-r.b * 3) (rightOut c.before.before.before.before.before.before.before.before.before.before.before.before))) _ (left_few c.before.before.before.before.before.before.before.before.before.before c.in-Some.a (sym c.in-Some.is ∙ c.oriented_boundary-l.ensures.0)) (right_few c.before.before.before.before.before.before.before.before.before.before c.in-Some-r.b (sym c.in-Some-r.is ∙ c.oriented_boundary-r.ensures.0)) c.requires.1.1.1.1
+centerline-n-requires c = center_room (points (take (c.in-Some.a * 3) (leftOut c.before.before.before.before.before.before.before.before.before.before.before.before))) (points (take (c.in-Some-r.b * 3) (rightOut c.before.before.before.before.before.before.before.before.before.before.before.before))) _ (left_few c.before.before.before.before.before.before c.in-Some.a (sym c.in-Some.is ∙ c.oriented_boundary-l.ensures.0)) (right_few c.before.before.before.before.before.before c.in-Some-r.b (sym c.in-Some-r.is ∙ c.oriented_boundary-r.ensures.0)) c.requires.1.1.1.1
 
 pub returns-then-n-eq0 : goal.returns-then-n-eq0
-returns-then-n-eq0 c = let x = center_empty (side_of c.before.before.before.before.before.before.before.before.before.before.before.before.before.before.before.before Left) (side_of c.before.before.before.before.before.before.before.before.before.before.before.before.before.before.before.before Right) (points (take (c.in-Some.a * 3) (leftOut c.before.before.before.before.before.before.before.before.before.before.before.before.before.before.before.before))) (points (take (c.in-Some-r.b * 3) (rightOut c.before.before.before.before.before.before.before.before.before.before.before.before.before.before.before.before))) (left_there c.before.before.before.before.before.before.before.before.before.before.before.before.before.before c.in-Some.a (sym c.in-Some.is ∙ c.oriented_boundary-l.ensures.0)) (right_there c.before.before.before.before.before.before.before.before.before.before.before.before.before.before c.in-Some-r.b (sym c.in-Some-r.is ∙ c.oriented_boundary-r.ensures.0)) c.centerline-n.result c.centerline-n.ensures.0 c.args.out.now c.centerline-n.new.out.0 c.centerline-n.ensures.1 c.if-n-eq0.true in
+returns-then-n-eq0 c = let x = center_empty (side_of c.before.before.before.before.before.before.before.before.before.before.before.before.before.before.before.before Left) (side_of c.before.before.before.before.before.before.before.before.before.before.before.before.before.before.before.before Right) (points (take (c.in-Some.a * 3) (leftOut c.before.before.before.before.before.before.before.before.before.before.before.before.before.before.before.before))) (points (take (c.in-Some-r.b * 3) (rightOut c.before.before.before.before.before.before.before.before.before.before.before.before.before.before.before.before))) (left_there c.before.before.before.before.before.before.before.before.before.before c.in-Some.a (sym c.in-Some.is ∙ c.oriented_boundary-l.ensures.0)) (right_there c.before.before.before.before.before.before.before.before.before.before c.in-Some-r.b (sym c.in-Some-r.is ∙ c.oriented_boundary-r.ensures.0)) c.centerline-n.result c.centerline-n.ensures.0 c.args.out.now c.centerline-n.new.out c.centerline-n.ensures.1 c.if-n-eq0.true in
     (x.0, (x.1, (c.oriented_boundary-l.ensures.1, c.oriented_boundary-r.ensures.1)))
 
 pub returns : goal.returns
-returns c = let x = center_some (side_of c.before.before.before.before.before.before.before.before.before.before.before.before.before.before.before.before Left) (side_of c.before.before.before.before.before.before.before.before.before.before.before.before.before.before.before.before Right) (points (take (c.in-Some.a * 3) (leftOut c.before.before.before.before.before.before.before.before.before.before.before.before.before.before.before.before))) (points (take (c.in-Some-r.b * 3) (rightOut c.before.before.before.before.before.before.before.before.before.before.before.before.before.before.before.before))) (left_there c.before.before.before.before.before.before.before.before.before.before.before.before.before.before c.in-Some.a (sym c.in-Some.is ∙ c.oriented_boundary-l.ensures.0)) (right_there c.before.before.before.before.before.before.before.before.before.before.before.before.before.before c.in-Some-r.b (sym c.in-Some-r.is ∙ c.oriented_boundary-r.ensures.0)) c.centerline-n.result c.centerline-n.ensures.0 c.args.out.now c.centerline-n.new.out.0 c.centerline-n.ensures.1 c.if-n-eq0.false in
+returns c = let x = center_some (side_of c.before.before.before.before.before.before.before.before.before.before.before.before.before.before.before.before Left) (side_of c.before.before.before.before.before.before.before.before.before.before.before.before.before.before.before.before Right) (points (take (c.in-Some.a * 3) (leftOut c.before.before.before.before.before.before.before.before.before.before.before.before.before.before.before.before))) (points (take (c.in-Some-r.b * 3) (rightOut c.before.before.before.before.before.before.before.before.before.before.before.before.before.before.before.before))) (left_there c.before.before.before.before.before.before.before.before.before.before c.in-Some.a (sym c.in-Some.is ∙ c.oriented_boundary-l.ensures.0)) (right_there c.before.before.before.before.before.before.before.before.before.before c.in-Some-r.b (sym c.in-Some-r.is ∙ c.oriented_boundary-r.ensures.0)) c.centerline-n.result c.centerline-n.ensures.0 c.args.out.now c.centerline-n.new.out c.centerline-n.ensures.1 c.if-n-eq0.false in
     (x.0, (x.1, (c.oriented_boundary-l.ensures.1, c.oriented_boundary-r.ensures.1)))

@@ -47,13 +47,13 @@ pub returns-in_default : goal.returns-in_default
 returns-in_default c = (length_none (center c.before.before.before.before.before) (count_none (center c.before.before.before.before.before) (sym c.in_default.is ∙ c.centerline-found.ensures.0)), c.centerline-found.ensures.1)
 
 pub overflow_mul-end : goal.overflow_mul-end
-overflow_mul-end c = omega (arith, small c.before.before.before.before.before.before c.in-Some.n (sym c.in-Some.is ∙ c.centerline-found.ensures.0))
+overflow_mul-end c = omega (arith, small c.before.before.before.before c.in-Some.n (sym c.in-Some.is ∙ c.centerline-found.ensures.0))
 
 pub slice_bounds-length-end : goal.slice_bounds-length-end
-slice_bounds-length-end c = within c.before.before.before.before.before.before c.in-Some.n (sym c.in-Some.is ∙ c.centerline-found.ensures.0)
+slice_bounds-length-end c = within c.before.before.before.before c.in-Some.n (sym c.in-Some.is ∙ c.centerline-found.ensures.0)
 
 pub slice_bounds-length-end-2 : goal.slice_bounds-length-end-2
-slice_bounds-length-end-2 c = sym (length-take-le (c.in-Some.n * 3) (lineOut c.before.before.before.before.before.before.before) (within c.before.before.before.before.before.before c.in-Some.n (sym c.in-Some.is ∙ c.centerline-found.ensures.0)))
+slice_bounds-length-end-2 c = sym (length-take-le (c.in-Some.n * 3) (lineOut c.before.before.before.before.before.before.before) (within c.before.before.before.before c.in-Some.n (sym c.in-Some.is ∙ c.centerline-found.ensures.0)))
 
 pub returns : goal.returns
-returns c = (length_some (center c.before.before.before.before.before.before.before.before) (points (take (c.in-Some.n * 3) (lineOut c.before.before.before.before.before.before.before.before))) c.length.result (there c.before.before.before.before.before.before.before c.in-Some.n (sym c.in-Some.is ∙ c.centerline-found.ensures.0)) c.length.ensures, c.centerline-found.ensures.1)
+returns c = (length_some (center c.before.before.before.before.before.before.before.before) (points (take (c.in-Some.n * 3) (lineOut c.before.before.before.before.before.before.before.before))) c.length.result (there c.before.before.before.before.before c.in-Some.n (sym c.in-Some.is ∙ c.centerline-found.ensures.0)) c.length.ensures, c.centerline-found.ensures.1)

@@ -9,7 +9,7 @@ use Rattle.layout.proofs.Laws.{copy_start, copy_step}
 use Rattle.layout.proofs.copy.Given as goal
 
 abbrev pub invariant-loop-i : goal.invariant-loop-i
-invariant-loop-i l = (l.i ≤ l.n) × ((length l.out ≡ length l.initial.out) × (l.out ≡ over l.initial.out l.at (take l.i (drop l.start «l.from»))))
+invariant-loop-i l = (l.i ≤ l.n) × ((length l.out ≡ length l.initial.out) × (l.out ≡ over l.initial.out l.at (take l.i (drop l.start l.from))))
 
 abbrev pub decreases-loop-i : goal.decreases-loop-i
 decreases-loop-i l = l.n - l.i

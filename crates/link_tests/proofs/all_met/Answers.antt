@@ -44,7 +44,7 @@ returns-else-lane_met c =
     lane-stops b.args.t.now b.requires.0.0.sorted b.requires.0.1 c.loop-i.i c.loop-i-test.true (sym c.lane_met.ensures.0 ∙ c.if-lane_met.false)
 
 pub ends_met-requires : goal.ends_met-requires
-ends_met-requires c = let b = c.before.before.before.before.before.before.before.before in (b.requires.0.0.sorted, ap length c.loop-i.invariant.1.1.0 ∙ cursors-many b.args.t.now c.loop-i.i 0)
+ends_met-requires c = let b = c.before.before.before.before.before.before.before in (b.requires.0.0.sorted, ap length c.loop-i.invariant.1.1.0 ∙ cursors-many b.args.t.now c.loop-i.i 0)
 
 pub shape_of-met : goal.shape_of-met
 shape_of-met c = c.loop-i.invariant.1.0

@@ -15,6 +15,7 @@ use Rattle.row_tests.proofs.Lanes.{lane_room, links-within, lane-found, word_at}
 use Rattle.link_tests.specs.Met.{lane_ids}
 use Rattle.link_tests.proofs.Steps.{link_at, ids-ready, id-found, cursors-many, link-absent, link-past, link-there, link-moved}
 use Rattle.link_tests.proofs.link_met.Goals as goal
+use Rattle.link_tests.proofs.link_met.Goals.{In-At}
 use Rattle.link_tests.proofs.link_met.Lts as lts
 use Rattle.link_tests.proofs.link_met.Reads as reads
 use Rattle.link_tests.proofs.link_met.Tie as tie
@@ -24,9 +25,6 @@ AtStart = lts.Start tie.the-claims reads.Pre reads.Post
 
 abbrev AtAfterFindIdFound : Type 0
 AtAfterFindIdFound = lts.After-find_id tie.the-claims reads.Pre reads.Post
-
-abbrev AtInAt2 : Type 0
-AtInAt2 = lts.After-found tie.the-claims reads.Pre reads.Post
 
 -- the row lies in the table, and its links in the row
 abbrev words : (c : AtStart) → List ℕ
@@ -57,23 +55,23 @@ sought c =
     id-found (words c.before.before.before.before.before.before) b.args.ids.now b.requires.0.0 (lane c.before.before.before.before.before.before) c.find_id-found.result (rw (← linked c.before.before.before.before.before.before) c.find_id-found.ensures)
 
 -- the row that is found is one of the rows, and its list lies in it
-abbrev row : (c : AtInAt2) → ℕ
-row c = c.found-1.given.0.0
+abbrev row : (c : In-At) → ℕ
+row c = c.in-At.j
 
-at : (c : AtInAt2) → row_with (lane c.before.before.before.before.before.before.before.before) (lane_ids (words c.before.before.before.before.before.before.before.before)) ≡ At (row c)
-at c = sought c.before.before ∙ c.found-1.given.1
+at : (c : In-At) → row_with (lane c.before.before.before.before.before.before.before) (lane_ids (words c.before.before.before.before.before.before.before)) ≡ At (row c)
+at c = sought c.before ∙ c.in-At.is
 
-low : (c : AtInAt2) → row c < word 0 (words c.before.before.before.before.before.before.before.before)
-low c = let b = c in lane-found (words c.before.before.before.before.before.before.before.before) (sorted c.before.before.before.before.before.before.before.before) (lane c.before.before.before.before.before.before.before.before) (row c) (at c)
+low : (c : In-At) → row c < word 0 (words c.before.before.before.before.before.before.before)
+low c = let b = c in lane-found (words c.before.before.before.before.before.before.before) (sorted c.before.before.before.before.before.before.before) (lane c.before.before.before.before.before.before.before) (row c) (at c)
 
-there : (c : AtInAt2) → 1 + row c * 52 + 52 ≤ length (words c.before.before.before.before.before.before.before.before)
-there c = let b = c in lane_room (words c.before.before.before.before.before.before.before.before) (sorted c.before.before.before.before.before.before.before.before) (row c) (low c)
+there : (c : In-At) → 1 + row c * 52 + 52 ≤ length (words c.before.before.before.before.before.before.before)
+there c = let b = c in lane_room (words c.before.before.before.before.before.before.before) (sorted c.before.before.before.before.before.before.before) (row c) (low c)
 
-count : (c : AtInAt2) → get_or (words c.before.before.before.before.before.before.before.before) (1 + row c * 52 + 18) 0 ≡ word 18 (lane_at (words c.before.before.before.before.before.before.before.before) (row c))
-count c = word_at (words c.before.before.before.before.before.before.before.before) (row c) 18 (omega arith)
+count : (c : In-At) → get_or (words c.before.before.before.before.before.before.before) (1 + row c * 52 + 18) 0 ≡ word 18 (lane_at (words c.before.before.before.before.before.before.before) (row c))
+count c = word_at (words c.before.before.before.before.before.before.before) (row c) 18 (omega arith)
 
-before : (c : AtInAt2) → 18 + 1 + word 18 (lane_at (words c.before.before.before.before.before.before.before.before) (row c)) ≤ 52
-before c = let b = c in omega (arith, links-within (words c.before.before.before.before.before.before.before.before) (sorted c.before.before.before.before.before.before.before.before) (row c) (low c) 18 (inl refl), count c)
+before : (c : In-At) → 18 + 1 + word 18 (lane_at (words c.before.before.before.before.before.before.before) (row c)) ≤ 52
+before c = let b = c in omega (arith, links-within (words c.before.before.before.before.before.before.before) (sorted c.before.before.before.before.before.before.before) (row c) (low c) 18 (inl refl), count c)
 
 pub overflow_mul-at : goal.overflow_mul-at
 overflow_mul-at c = omega (arith, room c.before.before.before.before)
@@ -105,69 +103,69 @@ find_id-found-requires c = (c.requires.1.0, ids-ready (words c.before.before.bef
 pub returns-in_default : goal.returns-in_default
 returns-in_default c =
     let b = c in
-    let e = link-absent (words c.before.before.before.before.before.before.before.before.before) (sorted c.before.before.before.before.before.before.before.before.before) b.requires.0.1 b.args.i b.requires.1.0 b.args.k b.requires.1.1.0 (sought c.before.before.before ∙ c.in_default.is) in
+    let e = link-absent (words c.before.before.before.before.before.before.before) (sorted c.before.before.before.before.before.before.before) b.requires.0.1 b.args.i b.requires.1.0 b.args.k b.requires.1.1.0 (sought c.before ∙ c.in_default.is) in
     (e, λ z. absurd (true≢false (sym z)))
 
 pub overflow_mul-before : goal.overflow_mul-before
-overflow_mul-before c = omega (arith, there c.before.before)
+overflow_mul-before c = omega (arith, there c)
 
 pub overflow_add-before : goal.overflow_add-before
-overflow_add-before c = omega (arith, there c.before.before)
+overflow_add-before c = omega (arith, there c)
 
 pub overflow_add-before-2 : goal.overflow_add-before-2
-overflow_add-before-2 c = omega (arith, there c.before.before)
+overflow_add-before-2 c = omega (arith, there c)
 
 pub bounds-met-j : goal.bounds-met-j
-bounds-met-j c = rw (many c.before.before.before.before.before.before.before.before.before.before.before) (low c.before.before.before)
+bounds-met-j c = rw (many c.before.before.before.before.before.before.before.before.before) (low (goal.at.bounds-met-j c).In-At)
 
 pub overflow_cast-cursor : goal.overflow_cast-cursor
-overflow_cast-cursor c = omega (arith, c.slice_known-2-1.given (row c.before.before.before))
+overflow_cast-cursor c = omega (arith, c.slice_known-2-1.given (row (goal.at.overflow_cast-cursor c).In-At))
 
 pub offset_bounds-t-before : goal.offset_bounds-t-before
-offset_bounds-t-before c = omega (arith, there c.before.before.before)
+offset_bounds-t-before c = omega (arith, there (goal.at.offset_bounds-t-before c).In-At)
 
 pub bounds-t-before : goal.bounds-t-before
-bounds-t-before c = omega (arith, there c.before.before.before.before)
+bounds-t-before c = omega (arith, there (goal.at.bounds-t-before c).In-At)
 
 pub overflow_add-met : goal.overflow_add-met
-overflow_add-met c = omega (arith, before c.before.before.before.before.before, count c.before.before.before.before.before, c.if-cursor-t.true)
+overflow_add-met c = omega (arith, before (goal.at.overflow_add-met c).In-At, count (goal.at.overflow_add-met c).In-At, c.if-cursor-t.true)
 
 pub bounds-met-j-then-cursor-t : goal.bounds-met-j-then-cursor-t
-bounds-met-j-then-cursor-t c = rw (many c.before.before.before.before.before.before.before.before.before.before.before.before.before) (low c.before.before.before.before.before)
+bounds-met-j-then-cursor-t c = rw (many c.before.before.before.before.before.before.before.before.before.before.before) (low (goal.at.bounds-met-j-then-cursor-t c).In-At)
 
 pub overflow_add-result : goal.overflow_add-result
-overflow_add-result c = omega (arith, there c.before.before.before.before.before)
+overflow_add-result c = omega (arith, there (goal.at.overflow_add-result c).In-At)
 
 pub overflow_cast-result : goal.overflow_cast-result
-overflow_cast-result c = omega (arith, before c.before.before.before.before.before, count c.before.before.before.before.before, c.if-cursor-t.true)
+overflow_cast-result c = omega (arith, before (goal.at.overflow_cast-result c).In-At, count (goal.at.overflow_cast-result c).In-At, c.if-cursor-t.true)
 
 pub overflow_add-result-then-cursor-t : goal.overflow_add-result-then-cursor-t
-overflow_add-result-then-cursor-t c = omega (arith, there c.before.before.before.before.before, before c.before.before.before.before.before, count c.before.before.before.before.before, c.if-cursor-t.true)
+overflow_add-result-then-cursor-t c = omega (arith, there (goal.at.overflow_add-result-then-cursor-t c).In-At, before (goal.at.overflow_add-result-then-cursor-t c).In-At, count (goal.at.overflow_add-result-then-cursor-t c).In-At, c.if-cursor-t.true)
 
 pub offset_bounds-t-before-then-cursor-t : goal.offset_bounds-t-before-then-cursor-t
-offset_bounds-t-before-then-cursor-t c = omega (arith, there c.before.before.before.before.before, before c.before.before.before.before.before, count c.before.before.before.before.before, c.if-cursor-t.true)
+offset_bounds-t-before-then-cursor-t c = omega (arith, there (goal.at.offset_bounds-t-before-then-cursor-t c).In-At, before (goal.at.offset_bounds-t-before-then-cursor-t c).In-At, count (goal.at.offset_bounds-t-before-then-cursor-t c).In-At, c.if-cursor-t.true)
 
 pub bounds-t-before-then-cursor-t : goal.bounds-t-before-then-cursor-t
-bounds-t-before-then-cursor-t c = omega (arith, there c.before.before.before.before.before.before, before c.before.before.before.before.before.before, count c.before.before.before.before.before.before, c.if-cursor-t.true)
+bounds-t-before-then-cursor-t c = omega (arith, there (goal.at.bounds-t-before-then-cursor-t c).In-At, before (goal.at.bounds-t-before-then-cursor-t c).In-At, count (goal.at.bounds-t-before-then-cursor-t c).In-At, c.if-cursor-t.true)
 
 pub offset_bounds-t-at-then-cursor-t : goal.offset_bounds-t-at-then-cursor-t
-offset_bounds-t-at-then-cursor-t c = omega (arith, room c.before.before.before.before.before.before.before.before.before.before.before.before.before.before)
+offset_bounds-t-at-then-cursor-t c = omega (arith, room c.before.before.before.before.before.before.before.before.before.before.before.before)
 
 pub bounds-t-at-then-cursor-t : goal.bounds-t-at-then-cursor-t
-bounds-t-at-then-cursor-t c = omega (arith, room c.before.before.before.before.before.before.before.before.before.before.before.before.before.before.before)
+bounds-t-at-then-cursor-t c = omega (arith, room c.before.before.before.before.before.before.before.before.before.before.before.before.before)
 
 pub returns-then-cursor-t : goal.returns-then-cursor-t
 returns-then-cursor-t c =
     let b = c in
     let f = c in (
-      link-there (words c.before.before.before.before.before.before.before.before.before.before.before.before.before.before.before) (sorted c.before.before.before.before.before.before.before.before.before.before.before.before.before.before.before) b.requires.0.1 b.args.i b.requires.1.0 b.args.k b.requires.1.1.0 (row c.before.before.before.before.before.before.before) (at c.before.before.before.before.before.before.before) b.args.met.now b.requires.1.1.1 c.if-cursor-t.true,
-      λ z. link-moved (words c.before.before.before.before.before.before.before.before.before.before.before.before.before.before.before) (sorted c.before.before.before.before.before.before.before.before.before.before.before.before.before.before.before) b.requires.0.1 b.args.i b.requires.1.0 b.args.k b.requires.1.1.0 (row c.before.before.before.before.before.before.before) (at c.before.before.before.before.before.before.before) b.args.met.now b.requires.1.1.1,
+      link-there (words c.before.before.before.before.before.before.before.before.before.before.before.before.before) (sorted c.before.before.before.before.before.before.before.before.before.before.before.before.before) b.requires.0.1 b.args.i b.requires.1.0 b.args.k b.requires.1.1.0 (row (goal.at.returns-then-cursor-t c).In-At) (at (goal.at.returns-then-cursor-t c).In-At) b.args.met.now b.requires.1.1.1 c.if-cursor-t.true,
+      λ z. link-moved (words c.before.before.before.before.before.before.before.before.before.before.before.before.before) (sorted c.before.before.before.before.before.before.before.before.before.before.before.before.before) b.requires.0.1 b.args.i b.requires.1.0 b.args.k b.requires.1.1.0 (row (goal.at.returns-then-cursor-t c).In-At) (at (goal.at.returns-then-cursor-t c).In-At) b.args.met.now b.requires.1.1.1,
     )
 
 pub returns : goal.returns
 returns c =
     let b = c in
     let f = c in (
-      link-past (words c.before.before.before.before.before.before.before.before.before.before.before.before.before) (sorted c.before.before.before.before.before.before.before.before.before.before.before.before.before) b.requires.0.1 b.args.i b.requires.1.0 b.args.k b.requires.1.1.0 (row c.before.before.before.before.before) (at c.before.before.before.before.before) b.args.met.now b.requires.1.1.1 (omega (arith, c.if-cursor-t.false)),
+      link-past (words c.before.before.before.before.before.before.before.before.before.before.before) (sorted c.before.before.before.before.before.before.before.before.before.before.before) b.requires.0.1 b.args.i b.requires.1.0 b.args.k b.requires.1.1.0 (row (goal.at.returns c).In-At) (at (goal.at.returns c).In-At) b.args.met.now b.requires.1.1.1 (omega (arith, c.if-cursor-t.false)),
       λ z. absurd (true≢false (sym z)),
     )

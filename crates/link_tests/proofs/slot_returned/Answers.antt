@@ -13,6 +13,7 @@ use Rattle.row_tests.proofs.Lanes.{lane-found, lane_room, slot-within, answer-wi
 use Rattle.link_tests.specs.Met.{lane_ids}
 use Rattle.link_tests.proofs.Steps.{ids-ready, id-found}
 use Rattle.link_tests.proofs.slot_returned.Goals as goal
+use Rattle.link_tests.proofs.slot_returned.Goals.{In-At}
 use Rattle.link_tests.proofs.slot_returned.Lts as lts
 use Rattle.link_tests.proofs.slot_returned.Reads as reads
 use Rattle.link_tests.proofs.slot_returned.Tie as tie
@@ -22,9 +23,6 @@ AtStart = lts.Start tie.the-claims reads.Pre reads.Post
 
 abbrev AtAfterFindIdFound : Type 0
 AtAfterFindIdFound = lts.After-find_id tie.the-claims reads.Pre reads.Post
-
-abbrev AtInAt2 : Type 0
-AtInAt2 = lts.After-found tie.the-claims reads.Pre reads.Post
 
 abbrev AtAfterAnswerPlace : Type 0
 AtAfterAnswerPlace = lts.After-answer_place tie.the-claims reads.Pre reads.Post
@@ -52,16 +50,16 @@ sought c =
     id-found (words c.before.before.before.before.before.before.before) b.args.ids.now b.requires.0 (named c.before.before.before.before.before.before.before) c.find_id-found.result c.find_id-found.ensures
 
 -- the row that is found is one of the rows, and the answering slot lies in it
-abbrev first : (c : AtInAt2) → AtStart
+abbrev first : (c : In-At) → AtStart
 first c = c.before.before.before.before.before.before.before.before.before
 
-abbrev row : (c : AtInAt2) → ℕ
-row c = c.found-1.given.0.0
+abbrev row : (c : In-At) → ℕ
+row c = c.in-At.j
 
-at : (c : AtInAt2) → row_with (named (first c)) (lane_ids (words (first c))) ≡ At (row c)
-at c = sought c.before.before ∙ c.found-1.given.1
+at : (c : In-At) → row_with (named (first c)) (lane_ids (words (first c))) ≡ At (row c)
+at c = sought c.before ∙ c.in-At.is
 
-there : (c : AtInAt2) → 1 + row c * 52 + 52 ≤ length (words (first c))
+there : (c : In-At) → 1 + row c * 52 + 52 ≤ length (words (first c))
 there c = let b = first c in lane_room (words b) (sorted b) (row c) (lane-found (words b) (sorted b) (named b) (row c) (at c))
 
 answer : (c : AtAfterAnswerPlace) → c.answer_place.result + 2 ≤ 52
@@ -106,40 +104,40 @@ pub find_id-found-requires : goal.find_id-found-requires
 find_id-found-requires c = let b = c.before.before.before.before.before.before.before in (b.requires.1.1, ids-ready (words c.before.before.before.before.before.before.before) b.args.ids.now b.requires.0)
 
 pub returns-in_default : goal.returns-in_default
-returns-in_default c = let b = c.before.before.before.before.before.before.before.before.before.before in slot-absent (words c.before.before.before.before.before.before.before.before.before.before) b.args.i b.args.k (slot c.before.before.before.before.before.before.before.before.before.before) c.if-mark-eq0.false (sought c.before.before.before ∙ c.in_default.is)
+returns-in_default c = let b = c.before.before.before.before.before.before.before.before.before in slot-absent (words c.before.before.before.before.before.before.before.before) b.args.i b.args.k (slot c.before.before.before.before.before.before.before.before) c.if-mark-eq0.false (sought c.before ∙ c.in_default.is)
 
 pub overflow_mul-answer : goal.overflow_mul-answer
-overflow_mul-answer c = omega (arith, there c.before.before)
+overflow_mul-answer c = omega (arith, there c)
 
 pub overflow_add-answer : goal.overflow_add-answer
-overflow_add-answer c = omega (arith, there c.before.before)
+overflow_add-answer c = omega (arith, there c)
 
 pub overflow_add-answer-2 : goal.overflow_add-answer-2
-overflow_add-answer-2 c = omega (arith, there c.before.before.before, answer c.before)
+overflow_add-answer-2 c = omega (arith, there (goal.at.overflow_add-answer-2 c).In-At, answer c.before)
 
 pub offset_bounds-t-answer : goal.offset_bounds-t-answer
-offset_bounds-t-answer c = omega (arith, there c.before.before.before, answer c.before)
+offset_bounds-t-answer c = omega (arith, there (goal.at.offset_bounds-t-answer c).In-At, answer c.before)
 
 pub bounds-t-answer : goal.bounds-t-answer
-bounds-t-answer c = omega (arith, there c.before.before.before.before, answer c.before.before)
+bounds-t-answer c = omega (arith, there (goal.at.bounds-t-answer c).In-At, answer c.before.before)
 
 pub overflow_add-answer-3 : goal.overflow_add-answer-3
-overflow_add-answer-3 c = omega (arith, there c.before.before.before.before, answer c.before.before)
+overflow_add-answer-3 c = omega (arith, there (goal.at.overflow_add-answer-3 c).In-At, answer c.before.before)
 
 pub offset_bounds-t-answer-2 : goal.offset_bounds-t-answer-2
-offset_bounds-t-answer-2 c = omega (arith, there c.before.before.before.before, answer c.before.before)
+offset_bounds-t-answer-2 c = omega (arith, there (goal.at.offset_bounds-t-answer-2 c).In-At, answer c.before.before)
 
 pub bounds-t-answer-2 : goal.bounds-t-answer-2
-bounds-t-answer-2 c = omega (arith, there c.before.before.before.before.before, answer c.before.before.before)
+bounds-t-answer-2 c = omega (arith, there (goal.at.bounds-t-answer-2 c).In-At, answer c.before.before.before)
 
 pub offset_bounds-t-at-3 : goal.offset_bounds-t-at-3
-offset_bounds-t-at-3 c = omega (arith, room c.before.before.before.before.before.before.before.before.before.before.before.before.before.before)
+offset_bounds-t-at-3 c = omega (arith, room c.before.before.before.before.before.before.before.before.before.before.before.before)
 
 pub bounds-t-at-3 : goal.bounds-t-at-3
-bounds-t-at-3 c = omega (arith, room c.before.before.before.before.before.before.before.before.before.before.before.before.before.before.before)
+bounds-t-at-3 c = omega (arith, room c.before.before.before.before.before.before.before.before.before.before.before.before.before)
 
 pub returns : goal.returns
 returns c =
     let b = c in
     let p = c.answer_place in
-    c.both.ensures ∙ slot-there (words c.before.before.before.before.before.before.before.before.before.before.before.before.before.before.before.before) b.args.i b.args.k (slot c.before.before.before.before.before.before.before.before.before.before.before.before.before.before.before.before) c.if-mark-eq0.false (row c.before.before.before.before.before.before.before) p.result (answer c.before.before.before.before.before) (at c.before.before.before.before.before.before.before) p.ensures
+    c.both.ensures ∙ slot-there (words c.before.before.before.before.before.before.before.before.before.before.before.before.before.before) b.args.i b.args.k (slot c.before.before.before.before.before.before.before.before.before.before.before.before.before.before) c.if-mark-eq0.false (row (goal.at.returns c).In-At) p.result (answer c.before.before.before.before.before) (at (goal.at.returns c).In-At) p.ensures

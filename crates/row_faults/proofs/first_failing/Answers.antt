@@ -31,6 +31,12 @@ offset_bounds-t-at c = omega (arith, row_room c.args.limit c.args.row c.args.t.n
 pub slice_bounds-row_passes-count : goal.slice_bounds-row_passes-count
 slice_bounds-row_passes-count c = omega arith
 
+pub slice_bounds-row_passes-start : goal.slice_bounds-row_passes-start
+slice_bounds-row_passes-start c = omega arith
+
+pub slice_bounds-row_passes-end : goal.slice_bounds-row_passes-end
+slice_bounds-row_passes-end c = omega (arith, row_room c.args.limit c.args.row c.args.t.now c.requires.1 c.loop-i.i c.loop-i-test.true)
+
 pub row_passes-requires : goal.row_passes-requires
 row_passes-requires c = row-length c.args.limit c.args.row c.args.t.now c.requires.1 c.loop-i.i c.loop-i-test.true ∙ c.requires.0
 

@@ -15,6 +15,12 @@ overflow_add-before c = omega (arith, lane-before c.args.w.now (sym c.lane_forme
 pub overflow_add-after : goal.overflow_add-after
 overflow_add-after c = omega (arith, lane-after c.args.w.now (sym c.lane_formed.ensures ∙ and-fst c.lane_formed.result c.lane_numbers.result (sym c.both.ensures ∙ c.if-both.true)))
 
+pub slice_bounds-all_at_most-end : goal.slice_bounds-all_at_most-end
+slice_bounds-all_at_most-end c = omega (arith, lane-before c.args.w.now (sym c.lane_formed.ensures ∙ and-fst c.lane_formed.result c.lane_numbers.result (sym c.both.ensures ∙ c.if-both.true)))
+
+pub slice_bounds-all_at_most-end-then-both : goal.slice_bounds-all_at_most-end-then-both
+slice_bounds-all_at_most-end-then-both c = omega (arith, lane-after c.args.w.now (sym c.lane_formed.ensures ∙ and-fst c.lane_formed.result c.lane_numbers.result (sym c.both.ensures ∙ c.if-both.true)))
+
 pub returns-then-both : goal.returns-then-both
 unfolding lane_named
 returns-then-both c =

@@ -14,6 +14,12 @@ overflow_add-before c = omega (arith, lane-before c.args.w.now (sym c.lane_forme
 pub overflow_add-after : goal.overflow_add-after
 overflow_add-after c = omega (arith, lane-after c.args.w.now (sym c.lane_formed.ensures ∙ c.if-lane_formed.true))
 
+pub slice_bounds-ascends-end : goal.slice_bounds-ascends-end
+slice_bounds-ascends-end c = omega (arith, lane-before c.args.w.now (sym c.lane_formed.ensures ∙ c.if-lane_formed.true))
+
+pub slice_bounds-ascends-end-then-lane_formed : goal.slice_bounds-ascends-end-then-lane_formed
+slice_bounds-ascends-end-then-lane_formed c = omega (arith, lane-after c.args.w.now (sym c.lane_formed.ensures ∙ c.if-lane_formed.true))
+
 pub returns-then-lane_formed : goal.returns-then-lane_formed
 unfolding links_rise
 returns-then-lane_formed c =

@@ -26,7 +26,7 @@ road_passes-requires c = c.requires ∙ rw (ne_eqb c.args.table 0 c.if-table-eq-
 
 pub returns-then-table-eq-ROAD_TABLE : goal.returns-then-table-eq-ROAD_TABLE
 unfolding row_passes
-returns-then-table-eq-ROAD_TABLE c = rw (ne_eqb c.args.table 0 c.if-table-eq-LANE_TABLE.false, ne_eqb c.args.table 1 c.if-table-eq-BOUNDARY_TABLE.false, eq-eqb c.args.table 2 c.if-table-eq-ROAD_TABLE.true, c.road_passes_lem.ensures)
+returns-then-table-eq-ROAD_TABLE c = rw (ne_eqb c.args.table 0 c.if-table-eq-LANE_TABLE.false, ne_eqb c.args.table 1 c.if-table-eq-BOUNDARY_TABLE.false, eq-eqb c.args.table 2 c.if-table-eq-ROAD_TABLE.true, c.road_passes.ensures)
 
 pub junction_passes-requires : goal.junction_passes-requires
 unfolding row_words
@@ -34,7 +34,7 @@ junction_passes-requires c = c.requires ∙ rw (ne_eqb c.args.table 0 c.if-table
 
 pub returns-then-table-eq-JUNCTION_TABLE : goal.returns-then-table-eq-JUNCTION_TABLE
 unfolding row_passes
-returns-then-table-eq-JUNCTION_TABLE c = rw (ne_eqb c.args.table 0 c.if-table-eq-LANE_TABLE.false, ne_eqb c.args.table 1 c.if-table-eq-BOUNDARY_TABLE.false, ne_eqb c.args.table 2 c.if-table-eq-ROAD_TABLE.false, eq-eqb c.args.table 3 c.if-table-eq-JUNCTION_TABLE.true, c.junction_passes_lem.ensures)
+returns-then-table-eq-JUNCTION_TABLE c = rw (ne_eqb c.args.table 0 c.if-table-eq-LANE_TABLE.false, ne_eqb c.args.table 1 c.if-table-eq-BOUNDARY_TABLE.false, ne_eqb c.args.table 2 c.if-table-eq-ROAD_TABLE.false, eq-eqb c.args.table 3 c.if-table-eq-JUNCTION_TABLE.true, c.junction_passes.ensures)
 
 pub rule_passes-requires : goal.rule_passes-requires
 unfolding row_words

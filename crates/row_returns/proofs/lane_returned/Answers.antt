@@ -66,6 +66,9 @@ overflow_add-after_end-2 c = omega (arith, room c.before.before.before.before, b
 pub offset_bounds-t-after : goal.offset_bounds-t-after
 offset_bounds-t-after c = omega (arith, room c.before.before.before.before, before c.before.before.before.before, after c.before.before.before.before)
 
+pub slice_bounds-all_name_back-end : goal.slice_bounds-all_name_back-end
+slice_bounds-all_name_back-end c = omega (arith, room c.before.before.before.before, before c.before.before.before.before, after c.before.before.before.before)
+
 pub all_name_back-requires : goal.all_name_back-requires
 all_name_back-requires c = (c.requires.0, inl refl)
 
@@ -89,6 +92,9 @@ overflow_add-before_end-then-all_name_back c = omega (arith, room c.before.befor
 
 pub offset_bounds-t-before : goal.offset_bounds-t-before
 offset_bounds-t-before c = omega (arith, room c.before.before.before.before.before.before.before.before, before c.before.before.before.before.before.before.before.before, after c.before.before.before.before.before.before.before.before)
+
+pub slice_bounds-all_name_back-end-then-all_name_back : goal.slice_bounds-all_name_back-end-then-all_name_back
+slice_bounds-all_name_back-end-then-all_name_back c = omega (arith, room c.before.before.before.before.before.before.before.before, before c.before.before.before.before.before.before.before.before, after c.before.before.before.before.before.before.before.before)
 
 pub all_name_back-requires-then-all_name_back : goal.all_name_back-requires-then-all_name_back
 all_name_back-requires-then-all_name_back c = (c.requires.0, inr refl)

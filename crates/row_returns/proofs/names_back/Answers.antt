@@ -10,24 +10,19 @@ use Rattle.tables.specs.View.{word}
 use Rattle.row_tests.specs.Returned.{row_test}
 use Rattle.row_tests.proofs.Lanes.{lanes-some, search-may, search-gives, lane-found, lane_room, links-within, ids_at_lem}
 use Rattle.row_returns.proofs.names_back.Goals as goal
-use Rattle.row_returns.proofs.names_back.Lts as lts
-use Rattle.row_returns.proofs.names_back.Reads as reads
-use Rattle.row_returns.proofs.names_back.Tie as tie
-
-abbrev AtInAt2 : Type 0
-AtInAt2 = lts.After-found tie.the-claims reads.Pre reads.Post
+use Rattle.row_returns.proofs.names_back.Goals.{In-At}
 
 -- the row that is found is one of the rows, and its list lies in it
-at : (c : AtInAt2) → row_with c.args.b (keys 52 (word 0 c.args.t.now) (drop 1 c.args.t.now)) ≡ At c.in-At.j
+at : (c : In-At) → row_with c.args.b (keys 52 (word 0 c.args.t.now) (drop 1 c.args.t.now)) ≡ At c.in-At.j
 at c = search-gives c.args.t.now c.requires.0 c.args.b c.find_row-found.result c.find_row-found.ensures ∙ c.in-At.is
 
-row : (c : AtInAt2) → c.in-At.j < word 0 c.args.t.now
+row : (c : In-At) → c.in-At.j < word 0 c.args.t.now
 row c = lane-found c.args.t.now c.requires.0 c.args.b c.in-At.j (at c)
 
-room : (c : AtInAt2) → 1 + c.in-At.j * 52 + 52 ≤ length c.args.t.now
+room : (c : In-At) → 1 + c.in-At.j * 52 + 52 ≤ length c.args.t.now
 room c = lane_room c.args.t.now c.requires.0 c.in-At.j (row c)
 
-within : (c : AtInAt2) → c.args.k + 1 + get_or c.args.t.now (1 + c.in-At.j * 52 + c.args.k) 0 ≤ 52
+within : (c : In-At) → c.args.k + 1 + get_or c.args.t.now (1 + c.in-At.j * 52 + c.args.k) 0 ≤ 52
 within c = links-within c.args.t.now c.requires.0 c.in-At.j (row c) c.args.k c.requires.1
 
 pub bounds-t-0 : goal.bounds-t-0
@@ -35,6 +30,9 @@ bounds-t-0 c = omega (arith, lanes-some c.args.t.now c.requires.0)
 
 pub slice_bounds-find_row-count : goal.slice_bounds-find_row-count
 slice_bounds-find_row-count c = omega (arith, lanes-some c.args.t.now c.requires.0)
+
+pub slice_bounds-find_row-start : goal.slice_bounds-find_row-start
+slice_bounds-find_row-start c = omega (arith, lanes-some c.args.t.now c.requires.0)
 
 pub find_row-found-requires : goal.find_row-found-requires
 find_row-found-requires c = search-may c.args.t.now c.requires.0
@@ -44,29 +42,32 @@ unfolding row_test
 returns-in_default c = rw (search-gives c.args.t.now c.requires.0 c.args.b c.find_row-found.result c.find_row-found.ensures, c.in_default.is)
 
 pub overflow_mul-at : goal.overflow_mul-at
-overflow_mul-at c = omega (arith, room c.before.before)
+overflow_mul-at c = omega (arith, room c)
 
 pub overflow_add-at : goal.overflow_add-at
-overflow_add-at c = omega (arith, room c.before.before)
+overflow_add-at c = omega (arith, room c)
 
 pub overflow_add-at-2 : goal.overflow_add-at-2
-overflow_add-at-2 c = omega (arith, room c.before.before, within c.before.before)
+overflow_add-at-2 c = omega (arith, room c, within c)
 
 pub overflow_add-start : goal.overflow_add-start
-overflow_add-start c = omega (arith, room c.before.before, within c.before.before)
+overflow_add-start c = omega (arith, room c, within c)
 
 pub offset_bounds-t-at : goal.offset_bounds-t-at
-offset_bounds-t-at c = omega (arith, room c.before.before, within c.before.before)
+offset_bounds-t-at c = omega (arith, room c, within c)
 
 pub bounds-t-at : goal.bounds-t-at
-bounds-t-at c = omega (arith, room c.before.before.before, within c.before.before.before)
+bounds-t-at c = omega (arith, room (goal.at.bounds-t-at c).In-At, within (goal.at.bounds-t-at c).In-At)
 
 pub overflow_add-end : goal.overflow_add-end
-overflow_add-end c = omega (arith, room c.before.before.before, within c.before.before.before)
+overflow_add-end c = omega (arith, room (goal.at.overflow_add-end c).In-At, within (goal.at.overflow_add-end c).In-At)
 
 pub offset_bounds-t-start : goal.offset_bounds-t-start
-offset_bounds-t-start c = omega (arith, room c.before.before.before, within c.before.before.before)
+offset_bounds-t-start c = omega (arith, room (goal.at.offset_bounds-t-start c).In-At, within (goal.at.offset_bounds-t-start c).In-At)
+
+pub slice_bounds-contains-end : goal.slice_bounds-contains-end
+slice_bounds-contains-end c = omega (arith, room (goal.at.slice_bounds-contains-end c).In-At, within (goal.at.slice_bounds-contains-end c).In-At)
 
 pub returns : goal.returns
 unfolding row_test
-returns c = rw (at c.before.before.before.before.before, c.contains.ensures, ids_at_lem c.args.t.now c.in-At.j c.args.k (within c.before.before.before.before.before))
+returns c = rw (at (goal.at.returns c).In-At, c.contains.ensures, ids_at_lem c.args.t.now c.in-At.j c.args.k (within (goal.at.returns c).In-At))

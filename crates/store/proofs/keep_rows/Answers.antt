@@ -29,13 +29,13 @@ pub bounds-t-i : goal.bounds-t-i
 bounds-t-i c =
     let a = c.args in
     let l = c.loop-i in
-    omega (arith, c.requires.0, next-inside a.s (stays c.args.a c.args.b) a.t.now c.requires.1 l.t l.i l.auto l.invariant c.loop-i-test.true)
+    omega (arith, c.requires.0, next-inside a.s (stays c.args.a c.args.b) a.t.now c.requires.1 l.t l.i l.kept l.invariant c.loop-i-test.true)
 
 pub keep_row-kept-requires : goal.keep_row-kept-requires
 keep_row-kept-requires c =
     let a = c.args in
     let l = c.loop-i in
-    (c.requires.0, (next-inside a.s (stays c.args.a c.args.b) a.t.now c.requires.1 l.t l.i l.auto l.invariant c.loop-i-test.true, moved-few a.s (stays c.args.a c.args.b) a.t.now c.requires.1 l.t l.i l.auto l.invariant))
+    (c.requires.0, (next-inside a.s (stays c.args.a c.args.b) a.t.now c.requires.1 l.t l.i l.kept l.invariant c.loop-i-test.true, moved-few a.s (stays c.args.a c.args.b) a.t.now c.requires.1 l.t l.i l.kept l.invariant))
 
 pub overflow_add-i : goal.overflow_add-i
 overflow_add-i c = omega (arith, c.loop-i-test.true, at_least (word 0 c.args.t.now) c.args.s c.requires.0, c.requires.1)
@@ -49,22 +49,22 @@ loop-i-preserved c =
     let l = c.loop-i in
     let k = c.keep_row-kept in
     let id = word (1 + l.i * a.s) l.t in
-    moved-turn a.s (stays a.a a.b) a.t.now c.requires.1 l.t l.i l.auto l.invariant c.requires.0 c.loop-i-test.true c.both.result (neither (eqb id a.a) (eqb id a.b) c.both.result c.both.ensures) k.new.t k.result k.ensures.0 k.ensures.1
+    moved-turn a.s (stays a.a a.b) a.t.now c.requires.1 l.t l.i l.kept l.invariant c.requires.0 c.loop-i-test.true c.both.result (neither (eqb id a.a) (eqb id a.b) c.both.result c.both.ensures) k.new.t k.result k.ensures.0 k.ensures.1
 
 pub bounds-t-0-2 : goal.bounds-t-0-2
 bounds-t-0-2 c =
     let a = c.args in
     let l = c.loop-i in
-    omega (arith, moved_length a.s (stays c.args.a c.args.b) a.t.now c.requires.1 l.t l.i l.auto l.invariant, c.requires.1)
+    omega (arith, moved_length a.s (stays c.args.a c.args.b) a.t.now c.requires.1 l.t l.i l.kept l.invariant, c.requires.1)
 
 pub shape_of-t : goal.shape_of-t
 shape_of-t c =
     let a = c.args in
     let l = c.loop-i in
-    simp length-set (moved_length a.s (stays c.args.a c.args.b) a.t.now c.requires.1 l.t l.i l.auto l.invariant)
+    simp length-set (moved_length a.s (stays c.args.a c.args.b) a.t.now c.requires.1 l.t l.i l.kept l.invariant)
 
 pub returns : goal.returns
 returns c =
     let a = c.args in
     let l = c.loop-i in
-    moved_all a.s (stays c.args.a c.args.b) a.t.now c.requires.1 l.t l.i l.auto l.invariant (omega (arith, c.loop-i-test.false))
+    moved_all a.s (stays c.args.a c.args.b) a.t.now c.requires.1 l.t l.i l.kept l.invariant (omega (arith, c.loop-i-test.false))
