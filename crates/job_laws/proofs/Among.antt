@@ -91,7 +91,7 @@ module _ (p : ℕ → Bool) where
       let (junctions, h4) = both_of p (each (λ j. j.id ∷ j.lanes) m.junctions) _ h3 in
       let (rules, h5) = both_of p (each rule_names m.rules) _ h4 in
       let (stop_lines, crosswalks) = both_of p (map (λ s. s.id) m.stop_lines) _ h5 in
-      elim k [
+      elim k as (λ j. all p (ids_of m j) ≡ true) [
         | K.Lane ↦ key-passes lane_names (λ l. l.id) (λ l. all_head p l.id _) m.lanes lanes
         | K.Boundary ↦ boundaries
         | K.Road ↦ key-passes (λ r. r.id ∷ r.lanes) (λ r. r.id) (λ r. all_head p r.id r.lanes) m.roads roads

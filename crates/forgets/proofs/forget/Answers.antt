@@ -50,6 +50,12 @@ offset_bounds-t-at c = omega (arith, room c)
 pub slice_bounds-forget_row-count : goal.slice_bounds-forget_row-count
 slice_bounds-forget_row-count c = omega arith
 
+pub slice_bounds-forget_row-start : goal.slice_bounds-forget_row-start
+slice_bounds-forget_row-start c = omega arith
+
+pub slice_bounds-forget_row-end : goal.slice_bounds-forget_row-end
+slice_bounds-forget_row-end c = omega (arith, row c)
+
 pub forget_row-requires : goal.forget_row-requires
 forget_row-requires c =
     let a = c.args in

@@ -30,6 +30,12 @@ offset_bounds-t-at c = omega (arith, grows-room c.args.next c.args.cut.now c.arg
 pub slice_bounds-grow_list-count : goal.slice_bounds-grow_list-count
 slice_bounds-grow_list-count c = omega arith
 
+pub slice_bounds-grow_list-start : goal.slice_bounds-grow_list-start
+slice_bounds-grow_list-start c = omega arith
+
+pub slice_bounds-grow_list-end : goal.slice_bounds-grow_list-end
+slice_bounds-grow_list-end c = omega (arith, grows-room c.args.next c.args.cut.now c.args.s c.args.k c.args.t.now c.requires c.loop-i.i c.loop-i-test.true, c.loop-i.invariant.long)
+
 pub grow_list-requires : goal.grow_list-requires
 grow_list-requires c = grows-lent c.args.next c.args.cut.now c.args.s c.args.k c.args.t.now c.requires c.loop-i.i c.loop-i-test.true (row_of c.args.s c.loop-i.t c.loop-i.i) (turned-row c.args.s (λ j n w. map_rows c.args.s (grows_at c.args.next c.args.cut.now c.args.k) n w) c.args.t.now c.loop-i.t c.loop-i.i c.loop-i.invariant)
 
@@ -45,7 +51,7 @@ loop-i-preserved c =
     let l = c.loop-i in
     let f = c.grow_list in
     let r = grows-room c.args.next c.args.cut.now c.args.s c.args.k c.args.t.now c.requires c.loop-i.i c.loop-i-test.true in
-    turned_turn c.args.s (λ j n w. map_rows c.args.s (grows_at c.args.next c.args.cut.now c.args.k) n w) c.args.t.now l.t l.i l.invariant (λ j w. grows_at c.args.next c.args.cut.now c.args.k w) (λ n w. refl) c.loop-i-test.true (omega (arith, l.invariant.long)) f.new.row f.auto.0 f.ensures
+    turned_turn c.args.s (λ j n w. map_rows c.args.s (grows_at c.args.next c.args.cut.now c.args.k) n w) c.args.t.now l.t l.i l.invariant (λ j w. grows_at c.args.next c.args.cut.now c.args.k w) (λ n w. refl) c.loop-i-test.true (omega (arith, l.invariant.long)) f.new.row f.auto.row f.ensures
 
 pub shape_of-t : goal.shape_of-t
 shape_of-t c = c.loop-i.invariant.long

@@ -18,7 +18,7 @@ abbrev held : AtStart → Tables
 held s = tables_of s.args.lanes.now s.args.boundaries.now s.args.roads.now s.args.junctions.now s.args.rules.now s.args.stop_lines.now s.args.crosswalks.now []
 
 pub loop-i-init : goal.loop-i-init
-loop-i-init c = let s = c.before.before.before.before.before.before.before.before.before.before in marking_begins (held s) s.args.n s.args.modified.now s.args.marks.now
+loop-i-init c = let s = c.before.before.before.before.before.before.before.before.before.before in marking_begins (held c.before.before.before.before.before.before.before.before.before.before) s.args.n s.args.modified.now s.args.marks.now
 
 pub overflow_mul-kind : goal.overflow_mul-kind
 overflow_mul-kind c = omega (arith, c.loop-i-test.true, c.requires.1.1)
@@ -54,7 +54,7 @@ pub loop-i-preserved : goal.loop-i-preserved
 loop-i-preserved c =
     let s = c in
     let l = c.loop-i in
-    marking-turns (held s) s.args.n s.args.modified.now s.args.marks.now l.marks l.i l.invariant c.loop-i-test.true c.mark_one.new.marks.0 c.mark_one.ensures
+    marking-turns (held c.before.before.before.before.before.before.before.before.before.before.before.before.before.before.before.before.before.before) s.args.n s.args.modified.now s.args.marks.now l.marks l.i l.invariant c.loop-i-test.true c.mark_one.new.marks c.mark_one.ensures
 
 pub shape_of-marks : goal.shape_of-marks
 shape_of-marks c = c.loop-i.invariant.many
@@ -63,4 +63,4 @@ pub returns : goal.returns
 returns c =
     let s = c in
     let l = c.loop-i in
-    marking-ends (held s) s.args.n s.args.modified.now s.args.marks.now l.marks l.i l.invariant c.loop-i-test.false
+    marking-ends (held c.before.before.before.before.before.before.before.before.before.before.before.before) s.args.n s.args.modified.now s.args.marks.now l.marks l.i l.invariant c.loop-i-test.false

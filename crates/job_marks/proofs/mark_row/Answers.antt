@@ -9,21 +9,16 @@ use native.Mathlib.Omega.{arith}
 use Rattle.lookup.proofs.Laws.{sorted-room, sorted-ascends, lent_rows, lent-place, place-within}
 use Rattle.job_marks.proofs.Turns.{mark-found, mark-nothing}
 use Rattle.job_marks.proofs.mark_row.Goals as goal
-use Rattle.job_marks.proofs.mark_row.Lts as lts
-use Rattle.job_marks.proofs.mark_row.Reads as reads
-use Rattle.job_marks.proofs.mark_row.Tie as tie
-
-abbrev AtInAt : Type 0
-AtInAt = lts.After-known_told tie.the-claims reads.Pre reads.Post
+use Rattle.job_marks.proofs.mark_row.Goals.{In-At}
 
 -- the row that was found, and that it is one of the rows
-place : (c : AtInAt) → place_of c.args.words c.args.table.now c.args.id ≡ At c.in-At.row
+place : (c : In-At) → place_of c.args.words c.args.table.now c.args.id ≡ At c.in-At.row
 place c =
     let a = c.args in
     let h = c.requires.1.0 in
     sym (lent-place a.table.now a.words a.id c.find_row-found.result (sorted-room 4096 a.words a.table.now h) c.find_row-found.ensures) ∙ c.in-At.is
 
-within : (c : AtInAt) → c.in-At.row < word 0 c.args.table.now
+within : (c : In-At) → c.in-At.row < word 0 c.args.table.now
 within c = let a = c.args in place-within a.words a.table.now a.id c.in-At.row (place c)
 
 pub bounds-table-0 : goal.bounds-table-0
@@ -32,6 +27,9 @@ bounds-table-0 c = omega (arith, sorted-room 4096 c.args.words c.args.table.now 
 pub slice_bounds-find_row-count : goal.slice_bounds-find_row-count
 slice_bounds-find_row-count c = omega (arith, sorted-room 4096 c.args.words c.args.table.now c.requires.1.0)
 
+pub slice_bounds-find_row-start : goal.slice_bounds-find_row-start
+slice_bounds-find_row-start c = omega (arith, sorted-room 4096 c.args.words c.args.table.now c.requires.1.0)
+
 pub find_row-found-requires : goal.find_row-found-requires
 find_row-found-requires c =
     let a = c.args in
@@ -39,18 +37,18 @@ find_row-found-requires c =
     (c.requires.0, lent_rows a.table.now a.words (sorted-room 4096 a.words a.table.now h) (sorted-ascends 4096 a.words a.table.now h))
 
 pub overflow_add-marks : goal.overflow_add-marks
-overflow_add-marks c = omega (arith, within c.before)
+overflow_add-marks c = omega (arith, within c)
 
 pub offset_bounds-marks-first : goal.offset_bounds-marks-first
-offset_bounds-marks-first c = omega (arith, within c.before)
+offset_bounds-marks-first c = omega (arith, within c)
 
 pub bounds-marks-first : goal.bounds-marks-first
-bounds-marks-first c = omega (arith, within c.before)
+bounds-marks-first c = omega (arith, within c)
 
 pub returns-in-At : goal.returns-in-At
 returns-in-At c =
     let a = c.args in
-    mark-found a.words a.first a.id a.table.now a.marks.now c.in-At.row (place c.before)
+    mark-found a.words a.first a.id a.table.now a.marks.now c.in-At.row (place c)
 
 pub returns-in-Nothing : goal.returns-in-Nothing
 returns-in-Nothing c =

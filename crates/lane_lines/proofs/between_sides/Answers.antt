@@ -18,33 +18,28 @@ use Rattle.lookup.specs.Lookup.{row_at, drawn, count_of, points_or}
 use Rattle.lookup.proofs.Laws.{written_none}
 use Rattle.lookup.proofs.Center.{count_none, oriented-few, side-length, side-small, side-there, side-few, left-absent, right-absent, center_room, center_empty, center_some}
 use Rattle.lane_lines.proofs.between_sides.Goals as goal
-use Rattle.lane_lines.proofs.between_sides.Lts as lts
-use Rattle.lane_lines.proofs.between_sides.Reads as reads
-use Rattle.lane_lines.proofs.between_sides.Tie as tie
-
-abbrev AtAfterOrientedBoundaryR : Type 0
-AtAfterOrientedBoundaryR = lts.After-oriented_boundary2 tie.the-claims reads.Pre reads.Post
+use Rattle.lane_lines.proofs.between_sides.Goals.{After-oriented_boundary-r}
 
 -- a side of the lane, and what was written of both
-abbrev side_of : AtAfterOrientedBoundaryR → Side → Option Line
+abbrev side_of : After-oriented_boundary-r → Side → Option Line
 side_of c side = oriented_boundary (drawn c.args.coordinates.now c.args.boundaries.now) side (lane_of c.args.coordinates.now (row_at 52 c.args.lanes.now c.args.i))
 
-abbrev leftOut : AtAfterOrientedBoundaryR → List Float
+abbrev leftOut : After-oriented_boundary-r → List Float
 leftOut c = c.oriented_boundary-l.new.out
 
-abbrev rightOut : AtAfterOrientedBoundaryR → List Float
-rightOut c = c.oriented-boundary2.new.1.1.1.1.1.0
+abbrev rightOut : After-oriented_boundary-r → List Float
+rightOut c = c.oriented_boundary-r.new.out
 
-few : (c : AtAfterOrientedBoundaryR) (side : Side) → length (points_or (side_of c side)) ≤ 256
+few : (c : After-oriented_boundary-r) (side : Side) → length (points_or (side_of c side)) ≤ 256
 few c side = oriented-few c.args.coordinates.now c.args.boundaries.now (row_at 52 c.args.lanes.now c.args.i) side c.requires.0.boundaries_short
 
-left-long : (c : AtAfterOrientedBoundaryR) → length (leftOut c) ≡ length c.args.left.now
+left-long : (c : After-oriented_boundary-r) → length (leftOut c) ≡ length c.args.left.now
 left-long c = side-length (side_of c Left) c.args.left.now (leftOut c) (few c Left) c.requires.1.1.0 c.oriented_boundary-l.ensures.1
 
-right-long : (c : AtAfterOrientedBoundaryR) → length (rightOut c) ≡ length c.args.right.now
+right-long : (c : After-oriented_boundary-r) → length (rightOut c) ≡ length c.args.right.now
 right-long c = side-length (side_of c Right) c.args.right.now (rightOut c) (few c Right) c.requires.1.1.1.0 c.oriented_boundary-r.ensures.1
 
-module _ (c : AtAfterOrientedBoundaryR) (a : ℕ) (n : N.Some a ≡ count_of (side_of c Left)) where
+module _ (c : After-oriented_boundary-r) (a : ℕ) (n : N.Some a ≡ count_of (side_of c Left)) where
   left-small : a ≤ 256
   left-small = side-small (side_of c Left) c.args.left.now (leftOut c) (few c Left) c.requires.1.1.0 c.oriented_boundary-l.ensures.1 a n
 
@@ -54,7 +49,7 @@ module _ (c : AtAfterOrientedBoundaryR) (a : ℕ) (n : N.Some a ≡ count_of (si
   left_few : length (points (take (a * 3) (leftOut c))) ≤ 256
   left_few = side-few (side_of c Left) c.args.left.now (leftOut c) (few c Left) c.requires.1.1.0 c.oriented_boundary-l.ensures.1 a n
 
-module _ (c : AtAfterOrientedBoundaryR) (a : ℕ) (n : N.Some a ≡ count_of (side_of c Right)) where
+module _ (c : After-oriented_boundary-r) (a : ℕ) (n : N.Some a ≡ count_of (side_of c Right)) where
   right-small : a ≤ 256
   right-small = side-small (side_of c Right) c.args.right.now (rightOut c) (few c Right) c.requires.1.1.1.0 c.oriented_boundary-r.ensures.1 a n
 
@@ -65,38 +60,38 @@ module _ (c : AtAfterOrientedBoundaryR) (a : ℕ) (n : N.Some a ≡ count_of (si
   right_few = side-few (side_of c Right) c.args.right.now (rightOut c) (few c Right) c.requires.1.1.1.0 c.oriented_boundary-r.ensures.1 a n
 
 pub returns-in_default : goal.returns-in_default
-returns-in_default c = let x = written_none _ c.args.out.now (left-absent (side_of c.before.before.before.before.before Left) (side_of c.before.before.before.before.before Right) (count_none (side_of c.before.before.before.before.before Left) (sym c.in_default.is ∙ c.oriented_boundary-l.ensures.0))) in
+returns-in_default c = let x = written_none _ c.args.out.now (left-absent (side_of (goal.at.returns-in_default c).After-oriented_boundary-r Left) (side_of (goal.at.returns-in_default c).After-oriented_boundary-r Right) (count_none (side_of (goal.at.returns-in_default c).After-oriented_boundary-r Left) (sym c.in_default.is ∙ c.oriented_boundary-l.ensures.0))) in
     (x.0, (x.1, (c.oriented_boundary-l.ensures.1, c.oriented_boundary-r.ensures.1)))
 
 pub returns-in_default-r : goal.returns-in_default-r
-returns-in_default-r c = let x = written_none _ c.args.out.now (right-absent (side_of c.before.before.before.before.before.before.before.before Left) (side_of c.before.before.before.before.before.before.before.before Right) (count_none (side_of c.before.before.before.before.before.before.before.before Right) (sym c.in_default-r.is ∙ c.oriented_boundary-r.ensures.0))) in
+returns-in_default-r c = let x = written_none _ c.args.out.now (right-absent (side_of (goal.at.returns-in_default-r c).After-oriented_boundary-r Left) (side_of (goal.at.returns-in_default-r c).After-oriented_boundary-r Right) (count_none (side_of (goal.at.returns-in_default-r c).After-oriented_boundary-r Right) (sym c.in_default-r.is ∙ c.oriented_boundary-r.ensures.0))) in
     (x.0, (x.1, (c.oriented_boundary-l.ensures.1, c.oriented_boundary-r.ensures.1)))
 
 pub overflow_mul-left_end : goal.overflow_mul-left_end
-overflow_mul-left_end c = omega (arith, left-small c.before.before.before.before.before c.in-Some.a (sym c.in-Some.is ∙ c.oriented_boundary-l.ensures.0))
+overflow_mul-left_end c = omega (arith, left-small (goal.at.overflow_mul-left_end c).After-oriented_boundary-r c.in-Some.a (sym c.in-Some.is ∙ c.oriented_boundary-l.ensures.0))
 
 pub overflow_mul-right_end : goal.overflow_mul-right_end
-overflow_mul-right_end c = omega (arith, right-small c.before.before.before.before.before c.in-Some-r.b (sym c.in-Some-r.is ∙ c.oriented_boundary-r.ensures.0))
+overflow_mul-right_end c = omega (arith, right-small (goal.at.overflow_mul-right_end c).After-oriented_boundary-r c.in-Some-r.b (sym c.in-Some-r.is ∙ c.oriented_boundary-r.ensures.0))
 
 pub slice_bounds-centerline-end : goal.slice_bounds-centerline-end
-slice_bounds-centerline-end c = omega (arith, left-small c.before.before.before.before.before c.in-Some.a (sym c.in-Some.is ∙ c.oriented_boundary-l.ensures.0), left-long c.before.before.before.before.before, c.requires.1.1.0)
+slice_bounds-centerline-end c = omega (arith, left-small (goal.at.slice_bounds-centerline-end c).After-oriented_boundary-r c.in-Some.a (sym c.in-Some.is ∙ c.oriented_boundary-l.ensures.0), left-long (goal.at.slice_bounds-centerline-end c).After-oriented_boundary-r, c.requires.1.1.0)
 
 pub slice_bounds-centerline-end-2 : goal.slice_bounds-centerline-end-2
-slice_bounds-centerline-end-2 c = sym (length-take-le (c.in-Some.a * 3) (leftOut c.before.before.before.before.before.before.before.before.before.before) (omega (arith, left-small c.before.before.before.before.before c.in-Some.a (sym c.in-Some.is ∙ c.oriented_boundary-l.ensures.0), left-long c.before.before.before.before.before, c.requires.1.1.0)))
+slice_bounds-centerline-end-2 c = sym (length-take-le (c.in-Some.a * 3) (leftOut (goal.at.slice_bounds-centerline-end-2 c).After-oriented_boundary-r) (omega (arith, left-small (goal.at.slice_bounds-centerline-end-2 c).After-oriented_boundary-r c.in-Some.a (sym c.in-Some.is ∙ c.oriented_boundary-l.ensures.0), left-long (goal.at.slice_bounds-centerline-end-2 c).After-oriented_boundary-r, c.requires.1.1.0)))
 
 pub slice_bounds-centerline-end-3 : goal.slice_bounds-centerline-end-3
-slice_bounds-centerline-end-3 c = omega (arith, right-small c.before.before.before.before.before c.in-Some-r.b (sym c.in-Some-r.is ∙ c.oriented_boundary-r.ensures.0), right-long c.before.before.before.before.before, c.requires.1.1.1.0)
+slice_bounds-centerline-end-3 c = omega (arith, right-small (goal.at.slice_bounds-centerline-end-3 c).After-oriented_boundary-r c.in-Some-r.b (sym c.in-Some-r.is ∙ c.oriented_boundary-r.ensures.0), right-long (goal.at.slice_bounds-centerline-end-3 c).After-oriented_boundary-r, c.requires.1.1.1.0)
 
 pub slice_bounds-centerline-end-4 : goal.slice_bounds-centerline-end-4
-slice_bounds-centerline-end-4 c = sym (length-take-le (c.in-Some-r.b * 3) (rightOut c.before.before.before.before.before.before.before.before.before.before.before) (omega (arith, right-small c.before.before.before.before.before c.in-Some-r.b (sym c.in-Some-r.is ∙ c.oriented_boundary-r.ensures.0), right-long c.before.before.before.before.before, c.requires.1.1.1.0)))
+slice_bounds-centerline-end-4 c = sym (length-take-le (c.in-Some-r.b * 3) (rightOut (goal.at.slice_bounds-centerline-end-4 c).After-oriented_boundary-r) (omega (arith, right-small (goal.at.slice_bounds-centerline-end-4 c).After-oriented_boundary-r c.in-Some-r.b (sym c.in-Some-r.is ∙ c.oriented_boundary-r.ensures.0), right-long (goal.at.slice_bounds-centerline-end-4 c).After-oriented_boundary-r, c.requires.1.1.1.0)))
 
 pub centerline-n-requires : goal.centerline-n-requires
-centerline-n-requires c = center_room (points (take (c.in-Some.a * 3) (leftOut c.before.before.before.before.before.before.before.before.before.before.before.before))) (points (take (c.in-Some-r.b * 3) (rightOut c.before.before.before.before.before.before.before.before.before.before.before.before))) _ (left_few c.before.before.before.before.before.before c.in-Some.a (sym c.in-Some.is ∙ c.oriented_boundary-l.ensures.0)) (right_few c.before.before.before.before.before.before c.in-Some-r.b (sym c.in-Some-r.is ∙ c.oriented_boundary-r.ensures.0)) c.requires.1.1.1.1
+centerline-n-requires c = center_room (points (take (c.in-Some.a * 3) (leftOut (goal.at.centerline-n-requires c).After-oriented_boundary-r))) (points (take (c.in-Some-r.b * 3) (rightOut (goal.at.centerline-n-requires c).After-oriented_boundary-r))) _ (left_few (goal.at.centerline-n-requires c).After-oriented_boundary-r c.in-Some.a (sym c.in-Some.is ∙ c.oriented_boundary-l.ensures.0)) (right_few (goal.at.centerline-n-requires c).After-oriented_boundary-r c.in-Some-r.b (sym c.in-Some-r.is ∙ c.oriented_boundary-r.ensures.0)) c.requires.1.1.1.1
 
 pub returns-then-n-eq0 : goal.returns-then-n-eq0
-returns-then-n-eq0 c = let x = center_empty (side_of c.before.before.before.before.before.before.before.before.before.before.before.before.before.before.before.before Left) (side_of c.before.before.before.before.before.before.before.before.before.before.before.before.before.before.before.before Right) (points (take (c.in-Some.a * 3) (leftOut c.before.before.before.before.before.before.before.before.before.before.before.before.before.before.before.before))) (points (take (c.in-Some-r.b * 3) (rightOut c.before.before.before.before.before.before.before.before.before.before.before.before.before.before.before.before))) (left_there c.before.before.before.before.before.before.before.before.before.before c.in-Some.a (sym c.in-Some.is ∙ c.oriented_boundary-l.ensures.0)) (right_there c.before.before.before.before.before.before.before.before.before.before c.in-Some-r.b (sym c.in-Some-r.is ∙ c.oriented_boundary-r.ensures.0)) c.centerline-n.result c.centerline-n.ensures.0 c.args.out.now c.centerline-n.new.out c.centerline-n.ensures.1 c.if-n-eq0.true in
+returns-then-n-eq0 c = let x = center_empty (side_of (goal.at.returns-then-n-eq0 c).After-oriented_boundary-r Left) (side_of (goal.at.returns-then-n-eq0 c).After-oriented_boundary-r Right) (points (take (c.in-Some.a * 3) (leftOut (goal.at.returns-then-n-eq0 c).After-oriented_boundary-r))) (points (take (c.in-Some-r.b * 3) (rightOut (goal.at.returns-then-n-eq0 c).After-oriented_boundary-r))) (left_there (goal.at.returns-then-n-eq0 c).After-oriented_boundary-r c.in-Some.a (sym c.in-Some.is ∙ c.oriented_boundary-l.ensures.0)) (right_there (goal.at.returns-then-n-eq0 c).After-oriented_boundary-r c.in-Some-r.b (sym c.in-Some-r.is ∙ c.oriented_boundary-r.ensures.0)) c.centerline-n.result c.centerline-n.ensures.0 c.args.out.now c.centerline-n.new.out c.centerline-n.ensures.1 c.if-n-eq0.true in
     (x.0, (x.1, (c.oriented_boundary-l.ensures.1, c.oriented_boundary-r.ensures.1)))
 
 pub returns : goal.returns
-returns c = let x = center_some (side_of c.before.before.before.before.before.before.before.before.before.before.before.before.before.before.before.before Left) (side_of c.before.before.before.before.before.before.before.before.before.before.before.before.before.before.before.before Right) (points (take (c.in-Some.a * 3) (leftOut c.before.before.before.before.before.before.before.before.before.before.before.before.before.before.before.before))) (points (take (c.in-Some-r.b * 3) (rightOut c.before.before.before.before.before.before.before.before.before.before.before.before.before.before.before.before))) (left_there c.before.before.before.before.before.before.before.before.before.before c.in-Some.a (sym c.in-Some.is ∙ c.oriented_boundary-l.ensures.0)) (right_there c.before.before.before.before.before.before.before.before.before.before c.in-Some-r.b (sym c.in-Some-r.is ∙ c.oriented_boundary-r.ensures.0)) c.centerline-n.result c.centerline-n.ensures.0 c.args.out.now c.centerline-n.new.out c.centerline-n.ensures.1 c.if-n-eq0.false in
+returns c = let x = center_some (side_of (goal.at.returns c).After-oriented_boundary-r Left) (side_of (goal.at.returns c).After-oriented_boundary-r Right) (points (take (c.in-Some.a * 3) (leftOut (goal.at.returns c).After-oriented_boundary-r))) (points (take (c.in-Some-r.b * 3) (rightOut (goal.at.returns c).After-oriented_boundary-r))) (left_there (goal.at.returns c).After-oriented_boundary-r c.in-Some.a (sym c.in-Some.is ∙ c.oriented_boundary-l.ensures.0)) (right_there (goal.at.returns c).After-oriented_boundary-r c.in-Some-r.b (sym c.in-Some-r.is ∙ c.oriented_boundary-r.ensures.0)) c.centerline-n.result c.centerline-n.ensures.0 c.args.out.now c.centerline-n.new.out c.centerline-n.ensures.1 c.if-n-eq0.false in
     (x.0, (x.1, (c.oriented_boundary-l.ensures.1, c.oriented_boundary-r.ensures.1)))

@@ -16,24 +16,19 @@ use Rattle.lookup.specs.declared.OptionCount.TheVariants as N
 use Rattle.lookup.specs.Lookup.{row_at, drawn, count_of, points_or}
 use Rattle.lookup.proofs.Center.{count_none, lane_center_few, side-length, side-small, side-there, length_none, length_some}
 use Rattle.lane_lines.proofs.length_in.Goals as goal
-use Rattle.lane_lines.proofs.length_in.Lts as lts
-use Rattle.lane_lines.proofs.length_in.Reads as reads
-use Rattle.lane_lines.proofs.length_in.Tie as tie
-
-abbrev AtAfterCenterlineFound : Type 0
-AtAfterCenterlineFound = lts.After-centerline tie.the-claims reads.Pre reads.Post
+use Rattle.lane_lines.proofs.length_in.Goals.{After-centerline-found}
 
 -- the centreline, and what was written of it
-abbrev center : AtAfterCenterlineFound → Option Line
+abbrev center : After-centerline-found → Option Line
 center c = centerline (drawn c.args.coordinates.now c.args.boundaries.now) (lane_of c.args.coordinates.now (row_at 52 c.args.lanes.now c.args.i))
 
-abbrev lineOut : AtAfterCenterlineFound → List Float
-lineOut c = c.centerline.new.1.1.1.1.0
+abbrev lineOut : After-centerline-found → List Float
+lineOut c = c.centerline-found.new.out
 
-few : (c : AtAfterCenterlineFound) → length (points_or (center c)) ≤ 256
+few : (c : After-centerline-found) → length (points_or (center c)) ≤ 256
 few c = lane_center_few c.args.coordinates.now c.args.boundaries.now c.args.lanes.now c.args.i c.requires.0 c.requires.1.0
 
-module _ (c : AtAfterCenterlineFound) (a : ℕ) (n : N.Some a ≡ count_of (center c)) where
+module _ (c : After-centerline-found) (a : ℕ) (n : N.Some a ≡ count_of (center c)) where
   within : a * 3 ≤ length (lineOut c)
   within = omega (arith, side-small (center c) c.args.line.now (lineOut c) (few c) c.requires.1.1 c.centerline-found.ensures.1 a n, side-length (center c) c.args.line.now (lineOut c) (few c) c.requires.1.1 c.centerline-found.ensures.1, c.requires.1.1)
 
@@ -44,16 +39,16 @@ module _ (c : AtAfterCenterlineFound) (a : ℕ) (n : N.Some a ≡ count_of (cent
   there = side-there (center c) c.args.line.now (lineOut c) (few c) c.requires.1.1 c.centerline-found.ensures.1 a n
 
 pub returns-in_default : goal.returns-in_default
-returns-in_default c = (length_none (center c.before.before.before.before.before) (count_none (center c.before.before.before.before.before) (sym c.in_default.is ∙ c.centerline-found.ensures.0)), c.centerline-found.ensures.1)
+returns-in_default c = (length_none (center (goal.at.returns-in_default c).After-centerline-found) (count_none (center (goal.at.returns-in_default c).After-centerline-found) (sym c.in_default.is ∙ c.centerline-found.ensures.0)), c.centerline-found.ensures.1)
 
 pub overflow_mul-end : goal.overflow_mul-end
-overflow_mul-end c = omega (arith, small c.before.before.before.before c.in-Some.n (sym c.in-Some.is ∙ c.centerline-found.ensures.0))
+overflow_mul-end c = omega (arith, small (goal.at.overflow_mul-end c).After-centerline-found c.in-Some.n (sym c.in-Some.is ∙ c.centerline-found.ensures.0))
 
 pub slice_bounds-length-end : goal.slice_bounds-length-end
-slice_bounds-length-end c = within c.before.before.before.before c.in-Some.n (sym c.in-Some.is ∙ c.centerline-found.ensures.0)
+slice_bounds-length-end c = within (goal.at.slice_bounds-length-end c).After-centerline-found c.in-Some.n (sym c.in-Some.is ∙ c.centerline-found.ensures.0)
 
 pub slice_bounds-length-end-2 : goal.slice_bounds-length-end-2
-slice_bounds-length-end-2 c = sym (length-take-le (c.in-Some.n * 3) (lineOut c.before.before.before.before.before.before.before) (within c.before.before.before.before c.in-Some.n (sym c.in-Some.is ∙ c.centerline-found.ensures.0)))
+slice_bounds-length-end-2 c = sym (length-take-le (c.in-Some.n * 3) (lineOut (goal.at.slice_bounds-length-end-2 c).After-centerline-found) (within (goal.at.slice_bounds-length-end-2 c).After-centerline-found c.in-Some.n (sym c.in-Some.is ∙ c.centerline-found.ensures.0)))
 
 pub returns : goal.returns
-returns c = (length_some (center c.before.before.before.before.before.before.before.before) (points (take (c.in-Some.n * 3) (lineOut c.before.before.before.before.before.before.before.before))) c.length.result (there c.before.before.before.before.before c.in-Some.n (sym c.in-Some.is ∙ c.centerline-found.ensures.0)) c.length.ensures, c.centerline-found.ensures.1)
+returns c = (length_some (center (goal.at.returns c).After-centerline-found) (points (take (c.in-Some.n * 3) (lineOut (goal.at.returns c).After-centerline-found))) c.length.result (there (goal.at.returns c).After-centerline-found c.in-Some.n (sym c.in-Some.is ∙ c.centerline-found.ensures.0)) c.length.ensures, c.centerline-found.ensures.1)

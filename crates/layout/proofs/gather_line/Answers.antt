@@ -20,5 +20,5 @@ overflow_add-result c =
 pub returns : goal.returns
 returns c =
     let a = c.args in
-    let l = c.Copy-Line in
-    line-done a.k a.at a.rows.now (sourced a.reach a.work.now a.drawn.now) a.coordinates.now l.new.1.1.1.1.1.0 l.ensures
+    let l = c.copy_line in
+    line-done a.k a.at a.rows.now (sourced a.reach a.work.now a.drawn.now) a.coordinates.now l.new.coordinates l.ensures

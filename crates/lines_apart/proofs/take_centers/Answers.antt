@@ -66,6 +66,12 @@ offset_bounds-t-at c = omega (arith, room c.before)
 pub slice_bounds-take_center-count : goal.slice_bounds-take_center-count
 slice_bounds-take_center-count c = omega arith
 
+pub slice_bounds-take_center-start : goal.slice_bounds-take_center-start
+slice_bounds-take_center-start c = omega arith
+
+pub slice_bounds-take_center-end : goal.slice_bounds-take_center-end
+slice_bounds-take_center-end c = room c.before
+
 pub take_center-requires : goal.take_center-requires
 take_center-requires c =
     let t = c in
@@ -83,10 +89,10 @@ pub loop-i-preserved : goal.loop-i-preserved
 loop-i-preserved c =
     let t = c in
     let l = c.take_center in
-    (omega arith, left_step c.args.marks.now (whole c.before.before.before.before.before.before.before) c.loop-i.marks (center_span (lane c.before.before.before.before.before.before.before)) (rest c.before.before.before.before.before.before.before) (next c.before.before.before.before.before.before.before) l.new.marks.0 l.auto.1.0 (sym l.ensures.0 ∙ c.if-take_center.true) (l.ensures.1 c.if-take_center.true))
+    (omega arith, left_step c.args.marks.now (whole c.before.before.before.before.before.before.before) c.loop-i.marks (center_span (lane c.before.before.before.before.before.before.before)) (rest c.before.before.before.before.before.before.before) (next c.before.before.before.before.before.before.before) l.new.marks l.auto.marks (sym l.ensures.0 ∙ c.if-take_center.true) (l.ensures.1 c.if-take_center.true))
 
 pub shape_of-marks-else-take_center : goal.shape_of-marks-else-take_center
-shape_of-marks-else-take_center c = c.take_center.auto.1.0 ∙ c.loop-i.invariant.1.long
+shape_of-marks-else-take_center c = c.take_center.auto.marks ∙ c.loop-i.invariant.1.long
 
 pub returns-else-take_center : goal.returns-else-take_center
 returns-else-take_center c =

@@ -89,10 +89,10 @@ pub loop-i-preserved : goal.loop-i-preserved
 loop-i-preserved c =
     let t = c in
     let e = take-one c.loop-i.marks c.take_line.new.marks (line c.before.before.before.before.before.before.before.before) (line c.before.before.before.before.before.before.before.before ∷ []) c.take_line.result refl c.take_line.ensures.0 c.take_line.ensures.1 in
-    (omega arith, left_step c.args.marks.now (whole c.before.before.before.before.before.before.before.before) c.loop-i.marks (line c.before.before.before.before.before.before.before.before ∷ []) (rest c.before.before.before.before.before.before.before.before) (next c.before.before.before.before.before.before.before.before) c.take_line.new.marks c.take_line.auto.0 (sym e.0 ∙ c.if-take_line.true) (e.1 c.if-take_line.true))
+    (omega arith, left_step c.args.marks.now (whole c.before.before.before.before.before.before.before.before) c.loop-i.marks (line c.before.before.before.before.before.before.before.before ∷ []) (rest c.before.before.before.before.before.before.before.before) (next c.before.before.before.before.before.before.before.before) c.take_line.new.marks c.take_line.auto.marks (sym e.0 ∙ c.if-take_line.true) (e.1 c.if-take_line.true))
 
 pub shape_of-marks-else-take_line : goal.shape_of-marks-else-take_line
-shape_of-marks-else-take_line c = c.take_line.auto.0 ∙ c.loop-i.invariant.1.long
+shape_of-marks-else-take_line c = c.take_line.auto.marks ∙ c.loop-i.invariant.1.long
 
 pub returns-else-take_line : goal.returns-else-take_line
 returns-else-take_line c =

@@ -58,20 +58,20 @@ sought c =
 abbrev row : (c : In-At) → ℕ
 row c = c.in-At.j
 
-at : (c : In-At) → row_with (lane c.before.before.before.before.before.before.before) (lane_ids (words c.before.before.before.before.before.before.before)) ≡ At (row c)
-at c = sought c.before ∙ c.in-At.is
+at : (c : In-At) → row_with (lane c.before.before.before.before.before.before.before.before) (lane_ids (words c.before.before.before.before.before.before.before.before)) ≡ At (row c)
+at c = sought c.before.before ∙ c.in-At.is
 
-low : (c : In-At) → row c < word 0 (words c.before.before.before.before.before.before.before)
-low c = let b = c in lane-found (words c.before.before.before.before.before.before.before) (sorted c.before.before.before.before.before.before.before) (lane c.before.before.before.before.before.before.before) (row c) (at c)
+low : (c : In-At) → row c < word 0 (words c.before.before.before.before.before.before.before.before)
+low c = let b = c in lane-found (words c.before.before.before.before.before.before.before.before) (sorted c.before.before.before.before.before.before.before.before) (lane c.before.before.before.before.before.before.before.before) (row c) (at c)
 
-there : (c : In-At) → 1 + row c * 52 + 52 ≤ length (words c.before.before.before.before.before.before.before)
-there c = let b = c in lane_room (words c.before.before.before.before.before.before.before) (sorted c.before.before.before.before.before.before.before) (row c) (low c)
+there : (c : In-At) → 1 + row c * 52 + 52 ≤ length (words c.before.before.before.before.before.before.before.before)
+there c = let b = c in lane_room (words c.before.before.before.before.before.before.before.before) (sorted c.before.before.before.before.before.before.before.before) (row c) (low c)
 
-count : (c : In-At) → get_or (words c.before.before.before.before.before.before.before) (1 + row c * 52 + 18) 0 ≡ word 18 (lane_at (words c.before.before.before.before.before.before.before) (row c))
-count c = word_at (words c.before.before.before.before.before.before.before) (row c) 18 (omega arith)
+count : (c : In-At) → get_or (words c.before.before.before.before.before.before.before.before) (1 + row c * 52 + 18) 0 ≡ word 18 (lane_at (words c.before.before.before.before.before.before.before.before) (row c))
+count c = word_at (words c.before.before.before.before.before.before.before.before) (row c) 18 (omega arith)
 
-before : (c : In-At) → 18 + 1 + word 18 (lane_at (words c.before.before.before.before.before.before.before) (row c)) ≤ 52
-before c = let b = c in omega (arith, links-within (words c.before.before.before.before.before.before.before) (sorted c.before.before.before.before.before.before.before) (row c) (low c) 18 (inl refl), count c)
+before : (c : In-At) → 18 + 1 + word 18 (lane_at (words c.before.before.before.before.before.before.before.before) (row c)) ≤ 52
+before c = let b = c in omega (arith, links-within (words c.before.before.before.before.before.before.before.before) (sorted c.before.before.before.before.before.before.before.before) (row c) (low c) 18 (inl refl), count c)
 
 pub overflow_mul-at : goal.overflow_mul-at
 overflow_mul-at c = omega (arith, room c.before.before.before.before)
@@ -103,7 +103,7 @@ find_id-found-requires c = (c.requires.1.0, ids-ready (words c.before.before.bef
 pub returns-in_default : goal.returns-in_default
 returns-in_default c =
     let b = c in
-    let e = link-absent (words c.before.before.before.before.before.before.before) (sorted c.before.before.before.before.before.before.before) b.requires.0.1 b.args.i b.requires.1.0 b.args.k b.requires.1.1.0 (sought c.before ∙ c.in_default.is) in
+    let e = link-absent (words c.before.before.before.before.before.before.before.before) (sorted c.before.before.before.before.before.before.before.before) b.requires.0.1 b.args.i b.requires.1.0 b.args.k b.requires.1.1.0 (sought c.before.before ∙ c.in_default.is) in
     (e, λ z. absurd (true≢false (sym z)))
 
 pub overflow_mul-before : goal.overflow_mul-before

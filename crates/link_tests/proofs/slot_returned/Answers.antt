@@ -57,15 +57,15 @@ abbrev row : (c : In-At) → ℕ
 row c = c.in-At.j
 
 at : (c : In-At) → row_with (named (first c)) (lane_ids (words (first c))) ≡ At (row c)
-at c = sought c.before ∙ c.in-At.is
+at c = sought c.before.before ∙ c.in-At.is
 
 there : (c : In-At) → 1 + row c * 52 + 52 ≤ length (words (first c))
 there c = let b = first c in lane_room (words b) (sorted b) (row c) (lane-found (words b) (sorted b) (named b) (row c) (at c))
 
 answer : (c : AtAfterAnswerPlace) → c.answer_place.result + 2 ≤ 52
 answer c =
-    let b = first c.before.before in
-    rw c.answer_place.ensures (answer-within b.args.k (get_or (words b) (1 + b.args.i * 52 + b.args.k) 0) b.pre.1.0)
+    let b = c.before.before.before.before.before.before.before.before.before in
+    rw c.answer_place.ensures (answer-within b.args.k (get_or (words b) (1 + b.args.i * 52 + b.args.k) 0) b.requires.1.0)
 
 pub overflow_mul-at : goal.overflow_mul-at
 overflow_mul-at c = omega (arith, room c.before.before.before)
@@ -104,7 +104,7 @@ pub find_id-found-requires : goal.find_id-found-requires
 find_id-found-requires c = let b = c.before.before.before.before.before.before.before in (b.requires.1.1, ids-ready (words c.before.before.before.before.before.before.before) b.args.ids.now b.requires.0)
 
 pub returns-in_default : goal.returns-in_default
-returns-in_default c = let b = c.before.before.before.before.before.before.before.before.before in slot-absent (words c.before.before.before.before.before.before.before.before) b.args.i b.args.k (slot c.before.before.before.before.before.before.before.before) c.if-mark-eq0.false (sought c.before ∙ c.in_default.is)
+returns-in_default c = let b = c.before.before.before.before.before.before.before.before.before in slot-absent (words c.before.before.before.before.before.before.before.before.before) b.args.i b.args.k (slot c.before.before.before.before.before.before.before.before.before) c.if-mark-eq0.false (sought c.before.before ∙ c.in_default.is)
 
 pub overflow_mul-answer : goal.overflow_mul-answer
 overflow_mul-answer c = omega (arith, there c)

@@ -29,6 +29,9 @@ overflow_add-to c = omega (arith, links-room c.args.lanes.now c.requires.0 c.arg
 pub offset_bounds-lanes-from : goal.offset_bounds-lanes-from
 offset_bounds-lanes-from c = omega (arith, links-room c.args.lanes.now c.requires.0 c.args.i c.args.k c.requires.1.0 c.requires.1.1.0)
 
+pub slice_bounds-insert-end : goal.slice_bounds-insert-end
+slice_bounds-insert-end c = omega (arith, links-room c.args.lanes.now c.requires.0 c.args.i c.args.k c.requires.1.0 c.requires.1.1.0)
+
 pub insert-requires : goal.insert-requires
 insert-requires c = insert-may c.args.lanes.now c.requires.0 c.args.i c.args.k c.requires.1.0 c.requires.1.1.0 c.args.id c.requires.1.1.1
 

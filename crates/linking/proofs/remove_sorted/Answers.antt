@@ -29,6 +29,9 @@ overflow_add-to c = omega (arith, links-room c.args.lanes.now c.requires.0 c.arg
 pub offset_bounds-lanes-from : goal.offset_bounds-lanes-from
 offset_bounds-lanes-from c = omega (arith, links-room c.args.lanes.now c.requires.0 c.args.i c.args.k c.requires.1.0 c.requires.1.1)
 
+pub slice_bounds-remove-end : goal.slice_bounds-remove-end
+slice_bounds-remove-end c = omega (arith, links-room c.args.lanes.now c.requires.0 c.args.i c.args.k c.requires.1.0 c.requires.1.1)
+
 pub remove-left-requires : goal.remove-left-requires
 remove-left-requires c = remove-may c.args.lanes.now c.requires.0 c.args.i c.args.k c.requires.1.0 c.requires.1.1
 

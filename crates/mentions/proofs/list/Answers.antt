@@ -42,6 +42,12 @@ offset_bounds-t-row c = omega (arith, row c.before)
 pub slice_bounds-names_lane-count : goal.slice_bounds-names_lane-count
 slice_bounds-names_lane-count c = omega arith
 
+pub slice_bounds-names_lane-start : goal.slice_bounds-names_lane-start
+slice_bounds-names_lane-start c = omega arith
+
+pub slice_bounds-names_lane-end : goal.slice_bounds-names_lane-end
+slice_bounds-names_lane-end c = omega (arith, row c.before)
+
 pub names_lane-on-requires : goal.names_lane-on-requires
 names_lane-on-requires c = lent-formed c.args.rows c.args.t.now c.requires.0 c.row_words-s.result c.row_words-s.ensures c.loop-i.i c.loop-i-test.true
 

@@ -8,6 +8,9 @@ use Rattle.mentions.proofs.orphaned.Goals as goal
 pub overflow_add-to : goal.overflow_add-to
 overflow_add-to c = omega (arith, c.requires.0, rule-lanes c.args.row.now c.requires.1)
 
+pub slice_bounds-count_of-end : goal.slice_bounds-count_of-end
+slice_bounds-count_of-end c = omega (arith, c.requires.0, rule-lanes c.args.row.now c.requires.1)
+
 pub returns-then-rule_names : goal.returns-then-rule_names
 returns-then-rule_names c =
     let p = c.rule_names in

@@ -48,7 +48,7 @@ abbrev left2 : AtAfterBoundaryRefD → ℕ
 left2 b = b.boundary_ref-c.result.boundary
 
 abbrev right2 : AtAfterBoundaryRefD → ℕ
-right2 b = b.boundary-ref4.result.boundary
+right2 b = b.boundary_ref-d.result.boundary
 
 abbrev leaves : AtAfterBoundaryRefD → ℕ → Bool
 leaves b = let a = (start b).args in goes a.lanes.now a.i a.j a.left a.right a.boundaries.now
@@ -59,17 +59,17 @@ adds b x ids = with_gone (leaves b x) x ids
 room : (b : AtAfterBoundaryRefD) → 3 < length (out b)
 room b = omega (arith, (start b).requires.1)
 
-one : (c : AtAfterAddGoneOne) → let b = c in Gathered (out b) c.add_gone-one.new.out 1 c.add_gone-one.result (adds b (left b) [])
-one c = let b = c in let r = room c.before.before in gathered-more (gathered_none (out b)) (omega arith) (leaves b (left b)) (left b) c.add_gone-one.ensures
+one : (c : AtAfterAddGoneOne) → let b = c in Gathered (out c.before.before) c.add_gone-one.new.out 1 c.add_gone-one.result (adds c.before.before (left c.before.before) [])
+one c = let b = c in let r = room c.before.before in gathered-more (gathered_none (out c.before.before)) (omega arith) (leaves c.before.before (left c.before.before)) (left c.before.before) c.add_gone-one.ensures
 
-two : (c : AtAfterAddGoneTwo) → let b = c in Gathered (out b) c.add_gone-two.new.out 2 c.add_gone-two.result (adds b (right b) (adds b (left b) []))
-two c = let b = c in let r = room c.before.before.before.before.before.before in gathered-more (one c.before.before.before.before) (omega arith) (leaves b (right b)) (right b) c.add_gone-two.ensures
+two : (c : AtAfterAddGoneTwo) → let b = c in Gathered (out c.before.before.before.before.before.before) c.add_gone-two.new.out 2 c.add_gone-two.result (adds c.before.before.before.before.before.before (right c.before.before.before.before.before.before) (adds c.before.before.before.before.before.before (left c.before.before.before.before.before.before) []))
+two c = let b = c in let r = room c.before.before.before.before.before.before in gathered-more (one c.before.before.before.before) (omega arith) (leaves c.before.before.before.before.before.before (right c.before.before.before.before.before.before)) (right c.before.before.before.before.before.before) c.add_gone-two.ensures
 
-three : (c : AtAfterAddGoneThree) → let b = c in Gathered (out b) c.add_gone-three.new.out 3 c.add_gone-three.result (adds b (left2 b) (adds b (right b) (adds b (left b) [])))
-three c = let b = c in let r = room c.before.before.before.before.before.before.before.before.before.before in gathered-more (two c.before.before.before.before) (omega arith) (leaves b (left2 b)) (left2 b) c.add_gone-three.ensures
+three : (c : AtAfterAddGoneThree) → let b = c in Gathered (out c.before.before.before.before.before.before.before.before.before.before) c.add_gone-three.new.out 3 c.add_gone-three.result (adds c.before.before.before.before.before.before.before.before.before.before (left2 c.before.before.before.before.before.before.before.before.before.before) (adds c.before.before.before.before.before.before.before.before.before.before (right c.before.before.before.before.before.before.before.before.before.before) (adds c.before.before.before.before.before.before.before.before.before.before (left c.before.before.before.before.before.before.before.before.before.before) [])))
+three c = let b = c in let r = room c.before.before.before.before.before.before.before.before.before.before in gathered-more (two c.before.before.before.before) (omega arith) (leaves c.before.before.before.before.before.before.before.before.before.before (left2 c.before.before.before.before.before.before.before.before.before.before)) (left2 c.before.before.before.before.before.before.before.before.before.before) c.add_gone-three.ensures
 
-four : (c : AtAfterAddGone) → let b = c in Gathered (out b) c.add_gone.new.out 4 c.add_gone.result (adds b (right2 b) (adds b (left2 b) (adds b (right b) (adds b (left b) []))))
-four c = let b = c in let r = room c.before.before.before.before.before.before.before.before.before.before.before.before.before.before in gathered-more (three c.before.before.before.before) (omega arith) (leaves b (right2 b)) (right2 b) c.add_gone.ensures
+four : (c : AtAfterAddGone) → let b = c in Gathered (out c.before.before.before.before.before.before.before.before.before.before.before.before.before.before) c.add_gone.new.out 4 c.add_gone.result (adds c.before.before.before.before.before.before.before.before.before.before.before.before.before.before (right2 c.before.before.before.before.before.before.before.before.before.before.before.before.before.before) (adds c.before.before.before.before.before.before.before.before.before.before.before.before.before.before (left2 c.before.before.before.before.before.before.before.before.before.before.before.before.before.before) (adds c.before.before.before.before.before.before.before.before.before.before.before.before.before.before (right c.before.before.before.before.before.before.before.before.before.before.before.before.before.before) (adds c.before.before.before.before.before.before.before.before.before.before.before.before.before.before (left c.before.before.before.before.before.before.before.before.before.before.before.before.before.before) []))))
+four c = let b = c in let r = room c.before.before.before.before.before.before.before.before.before.before.before.before.before.before in gathered-more (three c.before.before.before.before) (omega arith) (leaves c.before.before.before.before.before.before.before.before.before.before.before.before.before.before (right2 c.before.before.before.before.before.before.before.before.before.before.before.before.before.before)) (right2 c.before.before.before.before.before.before.before.before.before.before.before.before.before.before) c.add_gone.ensures
 
 pub add_gone-one-requires : goal.add_gone-one-requires
 add_gone-one-requires c = let r = room c.before.before in (c.requires.0, gathered-room (gathered_none (out c.before.before)) (omega arith))
@@ -86,7 +86,7 @@ add_gone-requires c = let r = room c.before.before.before.before.before.before.b
 pub returns : goal.returns
 returns c =
     let b = c in
-    let a = (start b).args in
-    gathered-gone a.lanes.now a.i a.j a.left a.right a.boundaries.now (start b).requires.0.boundaries_are_sorted (left b) (right b) (left2 b) (right2 b)
+    let a = (start c.before.before.before.before.before.before.before.before.before.before.before.before.before.before.before.before.before).args in
+    gathered-gone a.lanes.now a.i a.j a.left a.right a.boundaries.now (start c.before.before.before.before.before.before.before.before.before.before.before.before.before.before.before.before.before).requires.0.boundaries_are_sorted (left c.before.before.before.before.before.before.before.before.before.before.before.before.before.before.before.before.before) (right c.before.before.before.before.before.before.before.before.before.before.before.before.before.before.before.before.before) (left2 c.before.before.before.before.before.before.before.before.before.before.before.before.before.before.before.before.before) (right2 c.before.before.before.before.before.before.before.before.before.before.before.before.before.before.before.before.before)
     (ap (λ x. x.boundary) b.boundary_ref-a.ensures) (ap (λ x. x.boundary) b.boundary_ref-b.ensures)
     (ap (λ x. x.boundary) b.boundary_ref-c.ensures) (ap (λ x. x.boundary) b.boundary_ref-d.ensures) (four c.before.before.before)

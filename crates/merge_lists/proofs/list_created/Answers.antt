@@ -5,4 +5,4 @@ use Rattle.merge_lists.proofs.list_created.Goals as goal
 -- src/lib.rt:35:1
 pub returns : goal.returns
 unfolding listed
-returns c = c.List-up.ensures.1
+returns c = c.list_up.ensures.1

@@ -52,6 +52,12 @@ offset_bounds-rules-at c = omega (arith, room c)
 pub slice_bounds-replace_rule-count : goal.slice_bounds-replace_rule-count
 slice_bounds-replace_rule-count c = omega arith
 
+pub slice_bounds-replace_rule-start : goal.slice_bounds-replace_rule-start
+slice_bounds-replace_rule-start c = omega arith
+
+pub slice_bounds-replace_rule-end : goal.slice_bounds-replace_rule-end
+slice_bounds-replace_rule-end c = omega (arith, row c)
+
 pub replace_rule-requires : goal.replace_rule-requires
 replace_rule-requires c =
     let a = c.args in

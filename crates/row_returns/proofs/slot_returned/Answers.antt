@@ -80,7 +80,7 @@ pub find_row-found-requires : goal.find_row-found-requires
 find_row-found-requires c = search-may c.args.t.now c.requires.0
 
 pub returns-in_default : goal.returns-in_default
-returns-in_default c = slot-absent c.args.t.now c.args.i c.args.k (slot c.before.before.before.before.before.before.before.before) c.if-mark-eq0.false (search-gives c.args.t.now c.requires.0 (get_or c.args.t.now (1 + c.args.i * 52 + c.args.k + 1) 0) c.find_row-found.result c.find_row-found.ensures ∙ c.in_default.is)
+returns-in_default c = slot-absent c.args.t.now c.args.i c.args.k (slot c.before.before.before.before.before.before.before.before.before) c.if-mark-eq0.false (search-gives c.args.t.now c.requires.0 (get_or c.args.t.now (1 + c.args.i * 52 + c.args.k + 1) 0) c.find_row-found.result c.find_row-found.ensures ∙ c.in_default.is)
 
 pub overflow_mul-answer : goal.overflow_mul-answer
 overflow_mul-answer c = omega (arith, there c)
@@ -107,10 +107,10 @@ pub bounds-t-answer-2 : goal.bounds-t-answer-2
 bounds-t-answer-2 c = omega (arith, there (goal.at.bounds-t-answer-2 c).In-At, answer c.before.before.before)
 
 pub offset_bounds-t-at-3 : goal.offset_bounds-t-at-3
-offset_bounds-t-at-3 c = omega (arith, room c.before.before.before.before.before.before.before.before.before.before.before.before.before)
+offset_bounds-t-at-3 c = omega (arith, room c.before.before.before.before.before.before.before.before.before.before.before.before)
 
 pub bounds-t-at-3 : goal.bounds-t-at-3
-bounds-t-at-3 c = omega (arith, room c.before.before.before.before.before.before.before.before.before.before.before.before.before.before)
+bounds-t-at-3 c = omega (arith, room c.before.before.before.before.before.before.before.before.before.before.before.before.before)
 
 pub returns : goal.returns
-returns c = c.both.ensures ∙ slot-there c.args.t.now c.args.i c.args.k (slot c.before.before.before.before.before.before.before.before.before.before.before.before.before.before.before) c.if-mark-eq0.false c.in-At.j c.answer_place.result (answer c.before.before.before.before.before) (at (goal.at.returns c).In-At) c.answer_place.ensures
+returns c = c.both.ensures ∙ slot-there c.args.t.now c.args.i c.args.k (slot c.before.before.before.before.before.before.before.before.before.before.before.before.before.before) c.if-mark-eq0.false c.in-At.j c.answer_place.result (answer c.before.before.before.before.before) (at (goal.at.returns c).In-At) c.answer_place.ensures

@@ -18,13 +18,13 @@ pub loop-i-init : goal.loop-i-init
 loop-i-init c = let a = c.args in (coming-none a.cut.now a.next a.row.now (replicate 16 0) c.requires.0 c.requires.1 refl, refl)
 
 pub overflow_add-id : goal.overflow_add-id
-overflow_add-id c = let a = c.args in let l = c.loop-i in omega (arith, l.invariant.0.upto, l.invariant.1, coming-bounds a.cut.now a.next a.row.now (replicate 16 0) c.requires.0 c.requires.1 refl l.row l.seconds l.left l.branch l.i l.invariant.0)
+overflow_add-id c = let a = c.args in let l = c.loop-i in omega (arith, l.invariant.0.upto, l.invariant.1, coming-bounds a.cut.now a.next a.row.now (replicate 16 0) c.requires.0 c.requires.1 refl l.row l.seconds l.left l.came l.i l.invariant.0)
 
 pub offset_bounds-row-i : goal.offset_bounds-row-i
-offset_bounds-row-i c = let a = c.args in let l = c.loop-i in omega (arith, l.invariant.0.upto, l.invariant.1, coming-bounds a.cut.now a.next a.row.now (replicate 16 0) c.requires.0 c.requires.1 refl l.row l.seconds l.left l.branch l.i l.invariant.0)
+offset_bounds-row-i c = let a = c.args in let l = c.loop-i in omega (arith, l.invariant.0.upto, l.invariant.1, coming-bounds a.cut.now a.next a.row.now (replicate 16 0) c.requires.0 c.requires.1 refl l.row l.seconds l.left l.came l.i l.invariant.0)
 
 pub bounds-row-i : goal.bounds-row-i
-bounds-row-i c = let a = c.args in let l = c.loop-i in omega (arith, l.invariant.0.upto, l.invariant.1, coming-bounds a.cut.now a.next a.row.now (replicate 16 0) c.requires.0 c.requires.1 refl l.row l.seconds l.left l.branch l.i l.invariant.0)
+bounds-row-i c = let a = c.args in let l = c.loop-i in omega (arith, l.invariant.0.upto, l.invariant.1, coming-bounds a.cut.now a.next a.row.now (replicate 16 0) c.requires.0 c.requires.1 refl l.row l.seconds l.left l.came l.i l.invariant.0)
 
 pub find_row-found-requires : goal.find_row-found-requires
 find_row-found-requires c = cut-asks c.args.cut.now c.args.next c.requires.0
@@ -33,49 +33,49 @@ pub overflow_add-seconds : goal.overflow_add-seconds
 overflow_add-seconds c = record { fits = second_fits c.args.cut.now c.args.next c.requires.0 _ c.find_row-found.result c.find_row-found.ensures c.in-At.r c.in-At.is }
 
 pub offset_bounds-seconds-came : goal.offset_bounds-seconds-came
-offset_bounds-seconds-came c = let a = c.args in let l = c.loop-i in omega (arith, l.invariant.0.upto, l.invariant.1, coming-bounds a.cut.now a.next a.row.now (replicate 16 0) c.requires.0 c.requires.1 refl l.row l.seconds l.left l.branch l.i l.invariant.0)
+offset_bounds-seconds-came c = let a = c.args in let l = c.loop-i in omega (arith, l.invariant.0.upto, l.invariant.1, coming-bounds a.cut.now a.next a.row.now (replicate 16 0) c.requires.0 c.requires.1 refl l.row l.seconds l.left l.came l.i l.invariant.0)
 
 pub bounds-seconds-came : goal.bounds-seconds-came
-bounds-seconds-came c = let a = c.args in let l = c.loop-i in omega (arith, l.invariant.0.upto, l.invariant.1, coming-bounds a.cut.now a.next a.row.now (replicate 16 0) c.requires.0 c.requires.1 refl l.row l.seconds l.left l.branch l.i l.invariant.0)
+bounds-seconds-came c = let a = c.args in let l = c.loop-i in omega (arith, l.invariant.0.upto, l.invariant.1, coming-bounds a.cut.now a.next a.row.now (replicate 16 0) c.requires.0 c.requires.1 refl l.row l.seconds l.left l.came l.i l.invariant.0)
 
 pub overflow_add-came : goal.overflow_add-came
-overflow_add-came c = let a = c.args in let l = c.loop-i in omega (arith, l.invariant.0.upto, l.invariant.1, coming-bounds a.cut.now a.next a.row.now (replicate 16 0) c.requires.0 c.requires.1 refl l.row l.seconds l.left l.branch l.i l.invariant.0)
+overflow_add-came c = let a = c.args in let l = c.loop-i in omega (arith, l.invariant.0.upto, l.invariant.1, coming-bounds a.cut.now a.next a.row.now (replicate 16 0) c.requires.0 c.requires.1 refl l.row l.seconds l.left l.came l.i l.invariant.0)
 
 pub overflow_add-row : goal.overflow_add-row
-overflow_add-row c = let a = c.args in let l = c.loop-i in omega (arith, l.invariant.0.upto, l.invariant.1, coming-bounds a.cut.now a.next a.row.now (replicate 16 0) c.requires.0 c.requires.1 refl l.row l.seconds l.left l.branch l.i l.invariant.0)
+overflow_add-row c = let a = c.args in let l = c.loop-i in omega (arith, l.invariant.0.upto, l.invariant.1, coming-bounds a.cut.now a.next a.row.now (replicate 16 0) c.requires.0 c.requires.1 refl l.row l.seconds l.left l.came l.i l.invariant.0)
 
 pub offset_bounds-row-left : goal.offset_bounds-row-left
-offset_bounds-row-left c = let a = c.args in let l = c.loop-i in omega (arith, l.invariant.0.upto, l.invariant.1, coming-bounds a.cut.now a.next a.row.now (replicate 16 0) c.requires.0 c.requires.1 refl l.row l.seconds l.left l.branch l.i l.invariant.0)
+offset_bounds-row-left c = let a = c.args in let l = c.loop-i in omega (arith, l.invariant.0.upto, l.invariant.1, coming-bounds a.cut.now a.next a.row.now (replicate 16 0) c.requires.0 c.requires.1 refl l.row l.seconds l.left l.came l.i l.invariant.0)
 
 pub bounds-row-left : goal.bounds-row-left
-bounds-row-left c = let a = c.args in let l = c.loop-i in omega (arith, l.invariant.0.upto, l.invariant.1, coming-bounds a.cut.now a.next a.row.now (replicate 16 0) c.requires.0 c.requires.1 refl l.row l.seconds l.left l.branch l.i l.invariant.0)
+bounds-row-left c = let a = c.args in let l = c.loop-i in omega (arith, l.invariant.0.upto, l.invariant.1, coming-bounds a.cut.now a.next a.row.now (replicate 16 0) c.requires.0 c.requires.1 refl l.row l.seconds l.left l.came l.i l.invariant.0)
 
 pub overflow_add-left : goal.overflow_add-left
-overflow_add-left c = let a = c.args in let l = c.loop-i in omega (arith, l.invariant.0.upto, l.invariant.1, coming-bounds a.cut.now a.next a.row.now (replicate 16 0) c.requires.0 c.requires.1 refl l.row l.seconds l.left l.branch l.i l.invariant.0)
+overflow_add-left c = let a = c.args in let l = c.loop-i in omega (arith, l.invariant.0.upto, l.invariant.1, coming-bounds a.cut.now a.next a.row.now (replicate 16 0) c.requires.0 c.requires.1 refl l.row l.seconds l.left l.came l.i l.invariant.0)
 
 pub overflow_add-i : goal.overflow_add-i
-overflow_add-i c = let a = c.args in let l = c.loop-i in omega (arith, l.invariant.0.upto, l.invariant.1, coming-bounds a.cut.now a.next a.row.now (replicate 16 0) c.requires.0 c.requires.1 refl l.row l.seconds l.left l.branch l.i l.invariant.0)
+overflow_add-i c = let a = c.args in let l = c.loop-i in omega (arith, l.invariant.0.upto, l.invariant.1, coming-bounds a.cut.now a.next a.row.now (replicate 16 0) c.requires.0 c.requires.1 refl l.row l.seconds l.left l.came l.i l.invariant.0)
 
 pub loop-i-smaller : goal.loop-i-smaller
-loop-i-smaller c = let a = c.args in let l = c.loop-i in omega (arith, l.invariant.0.upto, l.invariant.1, coming-bounds a.cut.now a.next a.row.now (replicate 16 0) c.requires.0 c.requires.1 refl l.row l.seconds l.left l.branch l.i l.invariant.0)
+loop-i-smaller c = let a = c.args in let l = c.loop-i in omega (arith, l.invariant.0.upto, l.invariant.1, coming-bounds a.cut.now a.next a.row.now (replicate 16 0) c.requires.0 c.requires.1 refl l.row l.seconds l.left l.came l.i l.invariant.0)
 
 pub loop-i-preserved : goal.loop-i-preserved
-loop-i-preserved c = let a = c.args in let l = c.loop-i in (⊎_elim (λ x. coming-cut a.cut.now a.next a.row.now (replicate 16 0) c.requires.0 c.requires.1 refl l.row l.seconds l.left l.branch l.i l.invariant.0 (omega (arith, c.loop-i-test, l.invariant.1)) c.find_row-found.result c.find_row-found.ensures c.in-At.row c.in-At.seconds c.in-At.left c.in-At.came x.in-At.given.0.0 x.in-At.is x.left-is x.came-is x.came-is x.came-is) (λ x. coming-stays a.cut.now a.next a.row.now (replicate 16 0) c.requires.0 c.requires.1 refl l.row l.seconds l.left l.branch l.i l.invariant.0 (omega (arith, c.loop-i-test, l.invariant.1)) c.find_row-found.result c.find_row-found.ensures c.in-At.row c.in-At.seconds c.in-At.left c.in-At.came x.in-Nothing.is x.seconds-is x.left-is x.came-is x.came-is) c.match-found.branch-raw, l.invariant.1)
+loop-i-preserved c = let a = c.args in let l = c.loop-i in (⊎_elim (λ x. coming-cut a.cut.now a.next a.row.now (replicate 16 0) c.requires.0 c.requires.1 refl l.row l.seconds l.left l.came l.i l.invariant.0 (omega (arith, c.loop-i-test, l.invariant.1)) c.find_row-found.result c.find_row-found.ensures c.match-found.row c.match-found.seconds c.match-found.left c.match-found.came x.in-At.r x.in-At.is x.row-is x.seconds-is x.left-is x.came-is) (λ x. coming-stays a.cut.now a.next a.row.now (replicate 16 0) c.requires.0 c.requires.1 refl l.row l.seconds l.left l.came l.i l.invariant.0 (omega (arith, c.loop-i-test, l.invariant.1)) c.find_row-found.result c.find_row-found.ensures c.match-found.row c.match-found.seconds c.match-found.left c.match-found.came x.in-Nothing.is x.row-is x.seconds-is x.left-is x.came-is) c.match-found.branch-raw, l.invariant.1)
 
 pub slice_bounds-seconds-end : goal.slice_bounds-seconds-end
-slice_bounds-seconds-end c = let a = c.args in let l = c.loop-i in omega (arith, l.invariant.0.upto, l.invariant.1, coming-bounds a.cut.now a.next a.row.now (replicate 16 0) c.requires.0 c.requires.1 refl l.row l.seconds l.left l.branch l.i l.invariant.0)
+slice_bounds-seconds-end c = let a = c.args in let l = c.loop-i in omega (arith, l.invariant.0.upto, l.invariant.1, coming-bounds a.cut.now a.next a.row.now (replicate 16 0) c.requires.0 c.requires.1 refl l.row l.seconds l.left l.came l.i l.invariant.0)
 
 pub slice_bounds-copy-end : goal.slice_bounds-copy-end
-slice_bounds-copy-end c = let a = c.args in let l = c.loop-i in let s = length-take-le l.branch l.seconds (omega (arith, l.invariant.0.upto, l.invariant.1, coming-bounds a.cut.now a.next a.row.now (replicate 16 0) c.requires.0 c.requires.1 refl l.row l.seconds l.left l.branch l.i l.invariant.0)) in omega (arith, s)
+slice_bounds-copy-end c = let a = c.args in let l = c.loop-i in let s = length-take-le l.came l.seconds (omega (arith, l.invariant.0.upto, l.invariant.1, coming-bounds a.cut.now a.next a.row.now (replicate 16 0) c.requires.0 c.requires.1 refl l.row l.seconds l.left l.came l.i l.invariant.0)) in omega (arith, s)
 
 pub overflow_add-left-2 : goal.overflow_add-left-2
-overflow_add-left-2 c = let a = c.args in let l = c.loop-i in omega (arith, l.invariant.0.upto, l.invariant.1, coming-bounds a.cut.now a.next a.row.now (replicate 16 0) c.requires.0 c.requires.1 refl l.row l.seconds l.left l.branch l.i l.invariant.0)
+overflow_add-left-2 c = let a = c.args in let l = c.loop-i in omega (arith, l.invariant.0.upto, l.invariant.1, coming-bounds a.cut.now a.next a.row.now (replicate 16 0) c.requires.0 c.requires.1 refl l.row l.seconds l.left l.came l.i l.invariant.0)
 
 pub copy-requires : goal.copy-requires
-copy-requires c = let a = c.args in let l = c.loop-i in let s = length-take-le l.branch l.seconds (omega (arith, l.invariant.0.upto, l.invariant.1, coming-bounds a.cut.now a.next a.row.now (replicate 16 0) c.requires.0 c.requires.1 refl l.row l.seconds l.left l.branch l.i l.invariant.0)) in omega (arith, s, l.invariant.0.upto, l.invariant.1, coming-bounds a.cut.now a.next a.row.now (replicate 16 0) c.requires.0 c.requires.1 refl l.row l.seconds l.left l.branch l.i l.invariant.0)
+copy-requires c = let a = c.args in let l = c.loop-i in let s = length-take-le l.came l.seconds (omega (arith, l.invariant.0.upto, l.invariant.1, coming-bounds a.cut.now a.next a.row.now (replicate 16 0) c.requires.0 c.requires.1 refl l.row l.seconds l.left l.came l.i l.invariant.0)) in omega (arith, s, l.invariant.0.upto, l.invariant.1, coming-bounds a.cut.now a.next a.row.now (replicate 16 0) c.requires.0 c.requires.1 refl l.row l.seconds l.left l.came l.i l.invariant.0)
 
 pub shape_of-row : goal.shape_of-row
-shape_of-row c = let a = c.args in let l = c.loop-i in omega (arith, c.copy.auto.1.0, c.requires.1.words, coming-bounds a.cut.now a.next a.row.now (replicate 16 0) c.requires.0 c.requires.1 refl l.row l.seconds l.left l.branch l.i l.invariant.0)
+shape_of-row c = let a = c.args in let l = c.loop-i in omega (arith, c.copy.auto.to, c.requires.1.words, coming-bounds a.cut.now a.next a.row.now (replicate 16 0) c.requires.0 c.requires.1 refl l.row l.seconds l.left l.came l.i l.invariant.0)
 
 pub returns : goal.returns
-returns c = let a = c.args in let l = c.loop-i in c.copy.ensures ∙ coming-done a.cut.now a.next a.row.now (replicate 16 0) c.requires.0 c.requires.1 refl l.row l.seconds l.left l.branch l.i l.invariant.0 (omega (arith, c.loop-i-test, l.invariant.1))
+returns c = let a = c.args in let l = c.loop-i in c.copy.ensures ∙ coming-done a.cut.now a.next a.row.now (replicate 16 0) c.requires.0 c.requires.1 refl l.row l.seconds l.left l.came l.i l.invariant.0 (omega (arith, c.loop-i-test, l.invariant.1))

@@ -10,29 +10,29 @@ pub put_single-requires : goal.put_single-requires
 put_single-requires c =
     let s = c in
     let a = s.args in
-    let g = c.notice-1.given in
-    omega (arith, notice_room a.notice (NoOp g.0.0) a.at (length a.warnings.now) g.1 s.requires)
+    let g = c.in-NoOp in
+    omega (arith, notice_room a.notice (NoOp g.lane) a.at (length a.warnings.now) g.is s.requires)
 
 pub put_pair-requires : goal.put_pair-requires
 put_pair-requires c =
     let s = c in
     let a = s.args in
-    let g = c.notice-in-Pair-1.given in
-    omega (arith, notice_room a.notice (Pair g.0.0 g.0.1.0 g.0.1.1.0) a.at (length a.warnings.now) g.1 s.requires)
+    let g = c.in-Pair in
+    omega (arith, notice_room a.notice (Pair g.code g.lane g.other) a.at (length a.warnings.now) g.is s.requires)
 
 pub put_single-requires-in-Unshared : goal.put_single-requires-in-Unshared
 put_single-requires-in-Unshared c =
     let s = c in
     let a = s.args in
-    let g = c.notice-in-Unshared-1.given in
-    omega (arith, notice_room a.notice (Unshared g.0.0) a.at (length a.warnings.now) g.1 s.requires)
+    let g = c.in-Unshared in
+    omega (arith, notice_room a.notice (Unshared g.boundary) a.at (length a.warnings.now) g.is s.requires)
 
 pub put_pieces-requires : goal.put_pieces-requires
 put_pieces-requires c =
     let s = c in
     let a = s.args in
-    let g = c.notice-in-Pieces-1.given in
-    omega (arith, notice_room a.notice (Pieces g.0.0 g.0.1.0 g.0.1.1.0) a.at (length a.warnings.now) g.1 s.requires)
+    let g = c.in-Pieces in
+    omega (arith, notice_room a.notice (Pieces g.boundary g.first g.second) a.at (length a.warnings.now) g.is s.requires)
 
 pub returns-in-Nothing : goal.returns-in-Nothing
 returns-in-Nothing c =
@@ -42,23 +42,23 @@ returns-in-Nothing c =
 pub returns-in-NoOp : goal.returns-in-NoOp
 returns-in-NoOp c =
     let a = c.args in
-    let g = c.notice-1.given in
-    notice_put a.notice (NoOp g.0.0) a.at a.warnings.now c.put_single.new.warnings g.1 c.put_single.ensures
+    let g = c.in-NoOp in
+    notice_put a.notice (NoOp g.lane) a.at a.warnings.now c.put_single.new.warnings g.is c.put_single.ensures
 
 pub returns-in-Pair : goal.returns-in-Pair
 returns-in-Pair c =
     let a = c.args in
-    let g = c.notice-in-Pair-1.given in
-    notice_put a.notice (Pair g.0.0 g.0.1.0 g.0.1.1.0) a.at a.warnings.now c.put_pair.new.warnings g.1 c.put_pair.ensures
+    let g = c.in-Pair in
+    notice_put a.notice (Pair g.code g.lane g.other) a.at a.warnings.now c.put_pair.new.warnings g.is c.put_pair.ensures
 
 pub returns-in-Unshared : goal.returns-in-Unshared
 returns-in-Unshared c =
     let a = c.args in
-    let g = c.notice-in-Unshared-1.given in
-    notice_put a.notice (Unshared g.0.0) a.at a.warnings.now c.put_single-in-Unshared.new.warnings g.1 c.put_single-in-Unshared.ensures
+    let g = c.in-Unshared in
+    notice_put a.notice (Unshared g.boundary) a.at a.warnings.now c.put_single-in-Unshared.new.warnings g.is c.put_single-in-Unshared.ensures
 
 pub returns-in-Pieces : goal.returns-in-Pieces
 returns-in-Pieces c =
     let a = c.args in
-    let g = c.notice-in-Pieces-1.given in
-    notice_put a.notice (Pieces g.0.0 g.0.1.0 g.0.1.1.0) a.at a.warnings.now c.put_pieces.new.warnings g.1 c.put_pieces.ensures
+    let g = c.in-Pieces in
+    notice_put a.notice (Pieces g.boundary g.first g.second) a.at a.warnings.now c.put_pieces.new.warnings g.is c.put_pieces.ensures
