@@ -1,4 +1,4 @@
-//! Links libvoldrekka.a from the folder that VOLDREKKA_LIB names, else from target/staticlib, where `rt staticlib voldrekka` writes it. A file UNPROVED
+//! Links libvoldrekka.a from the folder that VOLDREKKA_LIB names, else from crates/voldrekka/out, where `rt lib` in crates/voldrekka writes it. A file UNPROVED
 //! beside it says that it is the library of host/unproved.
 
 use std::env::var;
@@ -15,12 +15,12 @@ fn main() {
     let folder = FOLDERS
         .iter()
         .find_map(|name| var(name).ok())
-        .unwrap_or_else(|| format!("{}/../target/staticlib", env!("CARGO_MANIFEST_DIR")));
+        .unwrap_or_else(|| format!("{}/../crates/voldrekka/out", env!("CARGO_MANIFEST_DIR")));
     let folder = canonicalize(&folder).unwrap_or(PathBuf::from(folder));
     let library = folder.join("libvoldrekka.a");
     println!("cargo:rerun-if-changed={}", library.display());
     if !library.exists() {
-        println!("cargo:warning={} is not there: `rt staticlib voldrekka` makes it", library.display());
+        println!("cargo:warning={} is not there: `rt lib` in crates/voldrekka makes it", library.display());
     }
     if folder.join("UNPROVED").exists() {
         println!("cargo:rustc-env=VOLDREKKA_UNPROVED=1");

@@ -1,4 +1,4 @@
-/* Voldrekka: the edit core of a lane map, proved. For C99 and C++; link libvoldrekka.a (`rt staticlib voldrekka`).
+/* Voldrekka: the edit core of a lane map, proved. For C99 and C++; link libvoldrekka.a (`rt lib` in crates/voldrekka).
  *
  * The host owns a map: seven tables of 64-bit words and one slice of doubles, with the next id. It lends them to a call, which edits
  * them in place or refuses and leaves every lent word as it was. docs/HOST.md describes rows, limits and refusals at length;

@@ -55,7 +55,7 @@ pub trait Jobs {
     }
 }
 
-/// The library of `rt staticlib`, if this program was built with it.
+/// The library of `rt lib`, if this program was built with it.
 pub fn library() -> Option<Box<dyn Editor>> {
     #[cfg(feature = "against")]
     return Some(Box::new(linked::Library));

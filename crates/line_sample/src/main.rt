@@ -709,7 +709,12 @@ fn print_function(rt: &impl Print, f: usize, agreed: u64, differ: u64) -> io::Re
 fn each(rt: &impl Print, counts: &[u64]) -> io::Result<()> {
     let mut f = 1;
     while f <= FUNCTIONS {
-        print_function(rt, f, counted(counts, f * 2 + 2), counted(counts, f * 2 + 3))?;
+        print_function(
+            rt,
+            f,
+            counted(counts, f * 2 + 2),
+            counted(counts, f * 2 + 3),
+        )?;
         f += 1;
     }
     Ok(())

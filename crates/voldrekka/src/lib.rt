@@ -1,4 +1,4 @@
-// What a host in Rust or C may call: `rt staticlib voldrekka`. A line is passed as the place of its coordinates, three a point, and how many
+// What a host in Rust or C may call: `rt lib` in crates/voldrekka. A line is passed as the place of its coordinates, three a point, and how many
 // coordinates there are.
 #![tactic(auto)]
 

@@ -31,11 +31,23 @@ offset_bounds-t-at c = omega (arith, mark-few c.args.anchored.now c.args.past.no
 pub slice_bounds-rule_differs-count : goal.slice_bounds-rule_differs-count
 slice_bounds-rule_differs-count c = omega arith
 
+pub slice_bounds-rule_differs-start : goal.slice_bounds-rule_differs-start
+slice_bounds-rule_differs-start c = omega arith
+
+pub slice_bounds-rule_differs-end : goal.slice_bounds-rule_differs-end
+slice_bounds-rule_differs-end c = omega (arith, mark-room c.args.anchored.now c.args.past.now c.args.cut.now c.args.t.now c.args.marks.now c.requires c.loop-i.i c.loop-i.marks c.loop-i.invariant c.loop-i-test.true)
+
 pub bounds-anchored-i : goal.bounds-anchored-i
 bounds-anchored-i c = omega (arith, c.loop-i-test.true, c.requires.anchors)
 
 pub slice_bounds-rule_differs-count-in-loop-i : goal.slice_bounds-rule_differs-count-in-loop-i
 slice_bounds-rule_differs-count-in-loop-i c = omega arith
+
+pub slice_bounds-rule_differs-start-in-loop-i : goal.slice_bounds-rule_differs-start-in-loop-i
+slice_bounds-rule_differs-start-in-loop-i c = omega arith
+
+pub slice_bounds-rule_differs-end-in-loop-i : goal.slice_bounds-rule_differs-end-in-loop-i
+slice_bounds-rule_differs-end-in-loop-i c = omega (arith, past_room c.args.anchored.now c.args.past.now c.args.cut.now c.args.t.now c.args.marks.now c.requires c.loop-i.i c.loop-i.marks c.loop-i.invariant c.loop-i-test.true)
 
 pub rule_differs-requires : goal.rule_differs-requires
 rule_differs-requires c = mark-may c.args.anchored.now c.args.past.now c.args.cut.now c.args.t.now c.args.marks.now c.requires c.loop-i.i c.loop-i.marks c.loop-i.invariant c.loop-i-test.true

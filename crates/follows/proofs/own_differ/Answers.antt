@@ -1,7 +1,7 @@
 -- `follows::own_differ` meets its contract. The invariant: of the first r cut lanes none changes the list, so one of the others does where one of all does. The measure is how many are left. Assumes nothing.
-use mathlib.Core.Path.{◌≡◌, refl, sym, ◌∙◌}
+use mathlib.Core.Path.{◌≡◌, refl, sym, ap, ◌∙◌}
 use mathlib.Core.Logic.{⊎_elim}
-use mathlib.Core.Bool.{true, false, ◌&&◌, cond}
+use mathlib.Core.Bool.{true, false, not, ◌&&◌, cond}
 use Prim.Native.Nat.{◌-◌, ◌≤◌}
 use native.Mathlib.Omega.{arith}
 use lib.ListN.{length, get_or, drop}
@@ -29,6 +29,12 @@ offset_bounds-row-from c = omega arith
 pub slice_bounds-first_place-count : goal.slice_bounds-first_place-count
 slice_bounds-first_place-count c = omega arith
 
+pub slice_bounds-first_place-start : goal.slice_bounds-first_place-start
+slice_bounds-first_place-start c = omega arith
+
+pub slice_bounds-first_place-end : goal.slice_bounds-first_place-end
+slice_bounds-first_place-end c = omega arith
+
 pub offset_bounds-cut-r : goal.offset_bounds-cut-r
 offset_bounds-cut-r c = omega arith
 
@@ -42,7 +48,7 @@ pub returns-then-not-anchored : goal.returns-then-not-anchored
 returns-then-not-anchored c =
     let a = c.args in
     let l = c.loop-r in
-    let t = differs-behind a.anchored a.past.now a.row.now c.requires (get_or a.cut.now l.r 0) c.first_place-p.result c.first_place-p.ensures c.if-p-n.true c.if-not-anchored.true in
+    let t = differs-behind a.anchored a.past.now a.row.now c.requires (get_or a.cut.now l.r 0) c.first_place-p.result c.first_place-p.ensures c.if-p-n.true (ap not c.if-not-anchored.true) in
     sym (l.invariant.1 ∙ any_here (λ i. has i (ids_at 5 a.row.now) && cond a.anchored (get_or a.past.now (first_place i (ids_at 5 a.row.now)) false) true) a.cut.now l.r 0 c.loop-r-test.true t)
 
 pub bounds-past-p : goal.bounds-past-p
@@ -52,7 +58,7 @@ pub returns-then-past-p : goal.returns-then-past-p
 returns-then-past-p c =
     let a = c.args in
     let l = c.loop-r in
-    let t = differs-by a.anchored a.past.now a.row.now c.requires (get_or a.cut.now l.r 0) c.first_place-p.result c.first_place-p.ensures c.if-p-n.true true c.if-not-anchored.false c.if-past-p.true in
+    let t = differs-by a.anchored a.past.now a.row.now c.requires (get_or a.cut.now l.r 0) c.first_place-p.result c.first_place-p.ensures c.if-p-n.true true (ap not c.if-not-anchored.false) c.if-past-p.true in
     sym (l.invariant.1 ∙ any_here (λ i. has i (ids_at 5 a.row.now) && cond a.anchored (get_or a.past.now (first_place i (ids_at 5 a.row.now)) false) true) a.cut.now l.r 0 c.loop-r-test.true t)
 
 pub overflow_add-r : goal.overflow_add-r
@@ -69,7 +75,7 @@ loop-r-preserved c =
     let on = any-on (λ i. has i (ids_at 5 a.row.now) && cond a.anchored (get_or a.past.now (first_place i (ids_at 5 a.row.now)) false) true) a.cut.now l.r 0 c.loop-r-test.true in (
       omega arith,
       l.invariant.1 ∙ on (⊎_elim
-          (λ s. differs-by a.anchored a.past.now a.row.now c.requires (get_or a.cut.now l.r 0) f.result f.ensures s.if-p-n.true false s.if-not-anchored.false s.if-past-p.false)
+          (λ s. differs-by a.anchored a.past.now a.row.now c.requires (get_or a.cut.now l.r 0) f.result f.ensures s.if-p-n.true false (ap not s.if-not-anchored.false) s.if-past-p.false)
           (λ s. differs-not a.anchored a.past.now a.row.now c.requires (get_or a.cut.now l.r 0) f.result f.ensures s.if-p-n.false)
           c.if-p-n.branch-raw),
     )

@@ -16,4 +16,4 @@ returns c =
     let a = c.args in
     let g = c.gather_all in
     gathered-from (sourced a.reach c.copy.new.out a.drawn.now) (sourced a.reach a.coordinates.now a.drawn.now) (line_tables a.lanes.now a.boundaries.now a.stop_lines.now a.crosswalks.now a.coordinates.now)
-    (line_tables g.new.lanes g.new.boundaries g.new.stop_lines g.new.crosswalks g.new.coordinates.0) g.ensures (sourced-copy a.reach a.coordinates.now a.work.now c.copy.new.out a.drawn.now c.requires.1.0 c.copy.ensures)
+    (line_tables g.new.lanes g.new.boundaries g.new.stop_lines g.new.crosswalks g.new.coordinates) g.ensures (sourced-copy a.reach a.coordinates.now a.work.now c.copy.new.out a.drawn.now c.requires.1.0 c.copy.ensures)

@@ -24,13 +24,13 @@ returns-then-size-eq0 c = let a = c.args in sym (up_none a.reach a.at (line c.be
 pub overflow_mul-from : goal.overflow_mul-from
 overflow_mul-from c =
     let s = c in
-    let l = lies-drawn s.args.reach (length s.args.drawn.now / 3) (line s) s.requires.0 c.if-size-eq0.false in
+    let l = lies-drawn s.args.reach (length s.args.drawn.now / 3) (record { start = s.args.start; size = s.args.size }) s.requires.0 c.if-size-eq0.false in
     omega arith
 
 pub copy-requires : goal.copy-requires
 copy-requires c =
     let s = c in
-    let l = lies-drawn s.args.reach (length s.args.drawn.now / 3) (line s) s.requires.0 c.if-size-eq0.false in
+    let l = lies-drawn s.args.reach (length s.args.drawn.now / 3) (record { start = s.args.start; size = s.args.size }) s.requires.0 c.if-size-eq0.false in
     (omega arith, omega arith)
 
 pub returns-then-reach-begin : goal.returns-then-reach-begin

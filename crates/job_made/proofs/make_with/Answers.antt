@@ -116,7 +116,7 @@ counts_of a = a.answer.given.0.0
 
 abbrev ReadyAt : AtInMade2 → AtAfterDecidedEnd → AtAfterMakeEditsRan → AtStart → Type 0
 ReadyAt a d m s =
-    Ready (lentOn s (old_of s)) (runOn s (old_of s)) d.decided.result.counter (left_by m) (counts_of a) d.decided.last.1.1.1.1.1.1.1.1.1.1.1.1.1.1.1.1.0 d.decided.last.1.1.1.1.1.1.1.1.1.1.1.1.1.1.1.1.1.0 d.decided.last.1.1.1.1.1.1.1.1.1.1.1.1.1.1.1.1.1.1.0 (keptBy m)
+    Ready (lentOn s (old_of s)) (runOn s (old_of s)) d.decided.result.counter (left_by m) (counts_of a) d.decided.new.all_created d.decided.new.all_modified d.decided.new.all_deleted (keptBy m)
 
 ready : (a : AtInMade2) → ReadyAt a (decidedOf a) (editsOf (decidedOf a)) (start_of (editsOf (decidedOf a)))
 ready a =
@@ -124,7 +124,7 @@ ready a =
     let m = editsOf d in
     let s = start_of m in
     decided-ready (lentOn s (old_of s)) (left_by m) s.args.marks.now s.args.kept.now (marks_by m) (keptBy m) m.make-edits.result
-    m.make-edits.last.1.1.1.1.1.1.1.1.1.1.1.0 m.make-edits.last.1.1.1.1.1.1.1.1.1.1.1.1.0 m.make-edits.last.1.1.1.1.1.1.1.1.1.1.1.1.1.0 d.decided.result d.decided.last.1.1.1.1.1.1.1.1.1.1.1.1.1.1.1.1.0 d.decided.last.1.1.1.1.1.1.1.1.1.1.1.1.1.1.1.1.1.0 d.decided.last.1.1.1.1.1.1.1.1.1.1.1.1.1.1.1.1.1.1.0
+    m.make-edits.new.created m.make-edits.new.modified m.make-edits.new.deleted d.decided.result d.decided.new.all_created d.decided.new.all_modified d.decided.new.all_deleted
     (old-sorted s) s.pre.1.1.1.0 s.pre.1.1.1.1.0 (counts_of a) a.in-Made.is (runOn s (old_of s)) (ran m) d.decided.ensures
 
 pub make_edits-ran-requires : goal.make_edits-ran-requires

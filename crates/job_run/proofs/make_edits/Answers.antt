@@ -53,7 +53,7 @@ held_at a =
 
 -- and the tables behind it
 abbrev left_by : Edited → Tables
-left_by e = tables_of e.make-edit.last.1.1.0 e.make-edit.last.1.1.1.0 e.make-edit.last.1.1.1.1.0 e.make-edit.last.1.1.1.1.1.0 e.make-edit.last.1.1.1.1.1.1.0 e.make-edit.last.1.1.1.1.1.1.1.0 e.make-edit.last.1.1.1.1.1.1.1.1.0 e.make-edit.last.1.1.1.1.1.1.1.1.1.0
+left_by e = tables_of e.make-edit.new.lanes e.make-edit.new.boundaries e.make-edit.new.roads e.make-edit.new.junctions e.make-edit.new.rules e.make-edit.new.stop_lines e.make-edit.new.crosswalks e.make-edit.new.coordinates
 
 -- where it all began
 abbrev start_of : Turn → Start

@@ -47,25 +47,25 @@ first s = left-start s.args.marks.now (whole s) (whole s) refl (facts s).1.1.0
 
 second : (c : AtThenTakeColumn) → Left c.args.marks.now (whole c.before.before.before.before.before.before.before.before.before.before) c.take_column.new.marks (centers c.before.before.before.before.before.before.before.before.before.before ++ others c.before.before.before.before.before.before.before.before.before.before)
 second c =
-    let s = c in
+    let s = c.before.before.before.before.before.before.before.before.before.before in
     let l = c.take_column in
-    left_step s.args.marks.now (whole c.before.before.before.before.before.before.before.before.before.before) s.args.marks.now (edges c.before.before.before.before.before.before.before.before.before.before) (centers c.before.before.before.before.before.before.before.before.before.before ++ others c.before.before.before.before.before.before.before.before.before.before) (first c.before.before.before.before.before.before.before.before.before.before) l.new.marks l.auto.marks (sym l.ensures.0 ∙ c.if-take_column.true) (l.ensures.1 c.if-take_column.true)
+    left_step s.args.marks.now (whole s) s.args.marks.now (edges s) (centers s ++ others s) (first s) l.new.marks l.auto.marks (sym l.ensures.0 ∙ c.if-take_column.true) (l.ensures.1 c.if-take_column.true)
 
 third : (c : AtThenTakeCenters) → Left c.args.marks.now (whole c.before.before.before.before.before.before.before.before.before.before.before.before.before.before.before) c.take_centers.new.marks (others c.before.before.before.before.before.before.before.before.before.before.before.before.before.before.before)
 third c =
-    let s = c in
+    let s = c.before.before.before.before.before.before.before.before.before.before.before.before.before.before.before in
     let l = c.take_centers in
-    left_step s.args.marks.now (whole c.before.before.before.before.before.before.before.before.before.before.before.before.before.before.before) c.take_column.new.marks (centers c.before.before.before.before.before.before.before.before.before.before.before.before.before.before.before) (others c.before.before.before.before.before.before.before.before.before.before.before.before.before.before.before) (second c.before.before.before.before.before) l.new.marks l.auto.marks (sym l.ensures.0 ∙ c.if-take_centers.true) (l.ensures.1 c.if-take_centers.true)
+    left_step s.args.marks.now (whole s) c.take_column.new.marks (centers s) (others s) (second c.before.before.before.before.before) l.new.marks l.auto.marks (sym l.ensures.0 ∙ c.if-take_centers.true) (l.ensures.1 c.if-take_centers.true)
 
 pub take_column-requires : goal.take_column-requires
 take_column-requires c =
-    let s = c in
-    (omega arith, (omega arith, ((facts c.before.before.before.before.before.before.before).1.0, left-fits s.args.marks.now (whole c.before.before.before.before.before.before.before) s.args.marks.now (edges c.before.before.before.before.before.before.before) (centers c.before.before.before.before.before.before.before ++ others c.before.before.before.before.before.before.before) (first c.before.before.before.before.before.before.before))))
+    let s = c.before.before.before.before.before.before.before in
+    (omega arith, (omega arith, ((facts s).1.0, left-fits s.args.marks.now (whole s) s.args.marks.now (edges s) (centers s ++ others s) (first s))))
 
 pub take_centers-requires : goal.take_centers-requires
 take_centers-requires c =
-    let s = c in
-    ((facts c.before.before.before.before.before.before.before.before.before.before.before.before).0, left-fits s.args.marks.now (whole c.before.before.before.before.before.before.before.before.before.before.before.before) c.take_column.new.marks (centers c.before.before.before.before.before.before.before.before.before.before.before.before) (others c.before.before.before.before.before.before.before.before.before.before.before.before) (second c.before.before))
+    let s = c.before.before.before.before.before.before.before.before.before.before.before.before in
+    ((facts s).0, left-fits s.args.marks.now (whole s) c.take_column.new.marks (centers s) (others s) (second c.before.before))
 
 pub take_rest-requires : goal.take_rest-requires
 take_rest-requires c = let s = c.before.before.before.before.before.before.before.before.before.before.before.before.before.before.before.before.before in rw (third c.before.before).long (facts c.before.before.before.before.before.before.before.before.before.before.before.before.before.before.before.before.before).1.1.1
@@ -75,10 +75,10 @@ returns-then-take_centers c = c.take_rest.ensures ∙ sym (third c.before.before
 
 pub returns-else-take_centers : goal.returns-else-take_centers
 returns-else-take_centers c =
-    let s = c in
-    sym (left-stop s.args.marks.now (whole c.before.before.before.before.before.before.before.before.before.before.before.before.before.before.before.before) c.take_column.new.marks (centers c.before.before.before.before.before.before.before.before.before.before.before.before.before.before.before.before) (others c.before.before.before.before.before.before.before.before.before.before.before.before.before.before.before.before) (second c.before.before.before.before.before.before) (sym c.take_centers.ensures.0 ∙ c.if-take_centers.false))
+    let s = c.before.before.before.before.before.before.before.before.before.before.before.before.before.before.before.before in
+    sym (left-stop s.args.marks.now (whole s) c.take_column.new.marks (centers s) (others s) (second c.before.before.before.before.before.before) (sym c.take_centers.ensures.0 ∙ c.if-take_centers.false))
 
 pub returns-else-take_column : goal.returns-else-take_column
 returns-else-take_column c =
-    let s = c in
-    sym (left-stop s.args.marks.now (whole c.before.before.before.before.before.before.before.before.before.before.before) s.args.marks.now (edges c.before.before.before.before.before.before.before.before.before.before.before) (centers c.before.before.before.before.before.before.before.before.before.before.before ++ others c.before.before.before.before.before.before.before.before.before.before.before) (first c.before.before.before.before.before.before.before.before.before.before.before) (sym c.take_column.ensures.0 ∙ c.if-take_column.false))
+    let s = c.before.before.before.before.before.before.before.before.before.before.before in
+    sym (left-stop s.args.marks.now (whole s) s.args.marks.now (edges s) (centers s ++ others s) (first s) (sym c.take_column.ensures.0 ∙ c.if-take_column.false))

@@ -44,40 +44,40 @@ first s = left-start s.args.marks.now (whole s) (whole s) refl (facts s).1.1
 
 second : (c : AtThenTakeColumn) → Left c.args.marks.now (whole c.before.before.before.before.before.before.before.before) c.take_column.new.marks (edges 1 c.before.before.before.before.before.before.before.before ++ edges 3 c.before.before.before.before.before.before.before.before)
 second c =
-    let s = c in
+    let s = c.before.before.before.before.before.before.before.before in
     let l = c.take_column in
-    left_step s.args.marks.now (whole c.before.before.before.before.before.before.before.before) s.args.marks.now (stops c.before.before.before.before.before.before.before.before) (edges 1 s ++ edges 3 s) (first c.before.before.before.before.before.before.before.before) l.new.marks l.auto.marks (sym l.ensures.0 ∙ c.if-take_column.true) (l.ensures.1 c.if-take_column.true)
+    left_step s.args.marks.now (whole s) s.args.marks.now (stops s) (edges 1 c.before.before.before.before.before.before.before.before ++ edges 3 c.before.before.before.before.before.before.before.before) (first s) l.new.marks l.auto.marks (sym l.ensures.0 ∙ c.if-take_column.true) (l.ensures.1 c.if-take_column.true)
 
 third : (c : AtThenTakeColumn2) → Left c.args.marks.now (whole c.before.before.before.before.before.before.before.before.before.before.before.before.before) c.take_column-then-take_column.new.marks (edges 3 c.before.before.before.before.before.before.before.before.before.before.before.before.before)
 third c =
-    let s = c in
+    let s = c.before.before.before.before.before.before.before.before.before.before.before.before.before in
     let l = c.take_column-then-take_column in
-    left_step s.args.marks.now (whole c.before.before.before.before.before.before.before.before.before.before.before.before.before) c.take_column.new.marks (edges 1 s) (edges 3 s) (second c.before.before.before.before.before) l.new.marks l.auto.marks (sym l.ensures.0 ∙ c.if-take_column-2.true) (l.ensures.1 c.if-take_column-2.true)
+    left_step s.args.marks.now (whole s) c.take_column.new.marks (edges 1 c.before.before.before.before.before.before.before.before.before.before.before.before.before) (edges 3 c.before.before.before.before.before.before.before.before.before.before.before.before.before) (second c.before.before.before.before.before) l.new.marks l.auto.marks (sym l.ensures.0 ∙ c.if-take_column-2.true) (l.ensures.1 c.if-take_column-2.true)
 
 pub take_column-requires : goal.take_column-requires
 take_column-requires c =
-    let s = c in
-    (omega arith, (omega arith, ((facts c.before.before.before.before.before).0, left-fits s.args.marks.now (whole c.before.before.before.before.before) s.args.marks.now (stops c.before.before.before.before.before) (edges 1 s ++ edges 3 s) (first c.before.before.before.before.before))))
+    let s = c.before.before.before.before.before in
+    (omega arith, (omega arith, ((facts s).0, left-fits s.args.marks.now (whole s) s.args.marks.now (stops s) (edges 1 s ++ edges 3 s) (first s))))
 
 pub take_column-requires-then-take_column : goal.take_column-requires-then-take_column
 take_column-requires-then-take_column c =
-    let s = c in
-    (omega arith, (omega arith, ((facts c.before.before.before.before.before.before.before.before.before.before).1.0, left-fits s.args.marks.now (whole c.before.before.before.before.before.before.before.before.before.before) c.take_column.new.marks (edges 1 s) (edges 3 s) (second c.before.before))))
+    let s = c.before.before.before.before.before.before.before.before.before.before in
+    (omega arith, (omega arith, ((facts s).1.0, left-fits s.args.marks.now (whole s) c.take_column.new.marks (edges 1 s) (edges 3 s) (second c.before.before))))
 
 pub take_column-requires-then-take_column-2 : goal.take_column-requires-then-take_column-2
 take_column-requires-then-take_column-2 c =
-    let s = c in
-    (omega arith, (omega arith, ((facts c.before.before.before.before.before.before.before.before.before.before.before.before.before.before.before).1.0, left-all s.args.marks.now (whole c.before.before.before.before.before.before.before.before.before.before.before.before.before.before.before) c.take_column-then-take_column.new.marks (edges 3 s) (third c.before.before))))
+    let s = c.before.before.before.before.before.before.before.before.before.before.before.before.before.before.before in
+    (omega arith, (omega arith, ((facts s).1.0, left-all s.args.marks.now (whole s) c.take_column-then-take_column.new.marks (edges 3 s) (third c.before.before))))
 
 pub returns-then-take_column-2 : goal.returns-then-take_column-2
 returns-then-take_column-2 c = c.take_column-then-take_column-2.ensures.0 ∙ sym (third c.before.before.before.before.before).apart
 
 pub returns-else-take_column-2 : goal.returns-else-take_column-2
 returns-else-take_column-2 c =
-    let s = c in
-    sym (left-stop s.args.marks.now (whole c.before.before.before.before.before.before.before.before.before.before.before.before.before.before) c.take_column.new.marks (edges 1 s) (edges 3 s) (second c.before.before.before.before.before.before) (sym c.take_column-then-take_column.ensures.0 ∙ c.if-take_column-2.false))
+    let s = c.before.before.before.before.before.before.before.before.before.before.before.before.before.before in
+    sym (left-stop s.args.marks.now (whole s) c.take_column.new.marks (edges 1 s) (edges 3 s) (second c.before.before.before.before.before.before) (sym c.take_column-then-take_column.ensures.0 ∙ c.if-take_column-2.false))
 
 pub returns-else-take_column : goal.returns-else-take_column
 returns-else-take_column c =
-    let s = c in
-    sym (left-stop s.args.marks.now (whole c.before.before.before.before.before.before.before.before.before) s.args.marks.now (stops c.before.before.before.before.before.before.before.before.before) (edges 1 s ++ edges 3 s) (first c.before.before.before.before.before.before.before.before.before) (sym c.take_column.ensures.0 ∙ c.if-take_column.false))
+    let s = c.before.before.before.before.before.before.before.before.before in
+    sym (left-stop s.args.marks.now (whole s) s.args.marks.now (stops s) (edges 1 s ++ edges 3 s) (first s) (sym c.take_column.ensures.0 ∙ c.if-take_column.false))

@@ -43,4 +43,4 @@ pub concat-requires : goal.concat-requires
 concat-requires c = joined-room c.args.join (points c.line_of-one.result.now) (points c.line_of-two.result.now) (points c.line_of-one.result.now) (points c.line_of-two.result.now) refl refl (center_few c.args.coordinates.now c.args.lanes.now c.args.i c.requires.first_has c.requires.centers c.requires.first c.line_of-one.result.now c.line_of-one.ensures) (center_few c.args.coordinates.now c.args.lanes.now c.args.j c.requires.second_has c.requires.centers c.requires.second c.line_of-two.result.now c.line_of-two.ensures) c.args.out.now c.requires.room
 
 pub returns : goal.returns
-returns c = centers-drawn c.args.join (line_at c.args.coordinates.now 7 (row_at 52 c.args.lanes.now c.args.i)) (line_at c.args.coordinates.now 7 (row_at 52 c.args.lanes.now c.args.j)) (points c.line_of-one.result.now) (points c.line_of-two.result.now) (center_is c.args.coordinates.now c.args.lanes.now c.args.i c.requires.first_has c.requires.centers c.requires.first c.line_of-one.result.now c.line_of-one.ensures) (center_is c.args.coordinates.now c.args.lanes.now c.args.j c.requires.second_has c.requires.centers c.requires.second c.line_of-two.result.now c.line_of-two.ensures) c.concat.result c.args.out.now c.concat.new.out.0 c.concat.ensures.0 c.concat.ensures.1
+returns c = centers-drawn c.args.join (line_at c.args.coordinates.now 7 (row_at 52 c.args.lanes.now c.args.i)) (line_at c.args.coordinates.now 7 (row_at 52 c.args.lanes.now c.args.j)) (points c.line_of-one.result.now) (points c.line_of-two.result.now) (center_is c.args.coordinates.now c.args.lanes.now c.args.i c.requires.first_has c.requires.centers c.requires.first c.line_of-one.result.now c.line_of-one.ensures) (center_is c.args.coordinates.now c.args.lanes.now c.args.j c.requires.second_has c.requires.centers c.requires.second c.line_of-two.result.now c.line_of-two.ensures) c.concat.result c.args.out.now c.concat.new.out c.concat.ensures.0 c.concat.ensures.1

@@ -41,16 +41,16 @@ abbrev b : AtAfterPointsM → Line
 b c = points_or (two c)
 
 abbrev oneOut : AtAfterPointsM → List Float
-oneOut c = c.oriented_boundary.new.out.0
+oneOut c = c.oriented_boundary.new.out
 
 abbrev twoOut : AtAfterPointsM → List Float
-twoOut c = c.oriented_boundary-2.new.out.0
+twoOut c = c.oriented_boundary-2.new.out
 
 abbrev ps : AtAfterPointsM → Line
 ps c = points (take (c.points-n.result * 3) (oneOut c))
 
 abbrev qs : AtAfterPointsM → Line
-qs c = points (take (c.points2.result * 3) (twoOut c))
+qs c = points (take (c.points-m.result * 3) (twoOut c))
 
 few-one : (c : AtAfterPointsM) → length (a c) ≤ 256
 few-one c = oriented-few c.args.coordinates.now c.args.boundaries.now (row_at 52 c.args.lanes.now c.args.i) c.args.side c.requires.0.drawable.boundaries_short
@@ -78,19 +78,19 @@ back-two c = side-back (two c) c.args.two.now (twoOut c) (few-two c) c.requires.
 
 -- the joined line, and what was written of it
 abbrev lineOut : AtAfterConcatSize → List Float
-lineOut c = c.concat.new.1.1.1.0
+lineOut c = c.concat-size.new.out
 
 small_line : (c : AtAfterConcatSize) → c.concat-size.result * 3 ≤ 1536
-small_line c = joined_small (join c.before.before.before.before) (a c.before.before.before.before) (b c.before.before.before.before) (ps c.before.before.before.before) (qs c.before.before.before.before) (back_one c.before.before) (back-two c.before.before) (few-one c.before.before) (few-two c.before.before) c.args.line.now c.requires.1.1.1 (lineOut c) c.concat-size.result c.concat-size.ensures.0 c.concat-size.ensures.1
+small_line c = joined_small (join c.before.before) (a c.before.before) (b c.before.before) (ps c.before.before) (qs c.before.before) (back_one c.before.before) (back-two c.before.before) (few-one c.before.before) (few-two c.before.before) c.args.line.now c.requires.1.1.1 (lineOut c) c.concat-size.result c.concat-size.ensures.0 c.concat-size.ensures.1
 
 room-line : (c : AtAfterConcatSize) → c.concat-size.result * 3 ≤ length (lineOut c)
-room-line c = joined-reach (join c.before.before.before.before) (a c.before.before.before.before) (b c.before.before.before.before) (ps c.before.before.before.before) (qs c.before.before.before.before) (back_one c.before.before) (back-two c.before.before) (few-one c.before.before) (few-two c.before.before) c.args.line.now c.requires.1.1.1 (lineOut c) c.concat-size.result c.concat-size.ensures.0 c.concat-size.ensures.1
+room-line c = joined-reach (join c.before.before) (a c.before.before) (b c.before.before) (ps c.before.before) (qs c.before.before) (back_one c.before.before) (back-two c.before.before) (few-one c.before.before) (few-two c.before.before) c.args.line.now c.requires.1.1.1 (lineOut c) c.concat-size.result c.concat-size.ensures.0 c.concat-size.ensures.1
 
-back-line : (c : AtAfterConcatSize) → points (take (c.concat-size.result * 3) (lineOut c)) ≡ concat (join c.before.before.before.before) (a c.before.before.before.before) (b c.before.before.before.before)
-back-line c = joined_back (join c.before.before.before.before) (a c.before.before.before.before) (b c.before.before.before.before) (ps c.before.before.before.before) (qs c.before.before.before.before) (back_one c.before.before) (back-two c.before.before) (few-one c.before.before) (few-two c.before.before) c.args.line.now c.requires.1.1.1 (lineOut c) c.concat-size.result c.concat-size.ensures.0 c.concat-size.ensures.1
+back-line : (c : AtAfterConcatSize) → points (take (c.concat-size.result * 3) (lineOut c)) ≡ concat (join c.before.before) (a c.before.before) (b c.before.before)
+back-line c = joined_back (join c.before.before) (a c.before.before) (b c.before.before) (ps c.before.before) (qs c.before.before) (back_one c.before.before) (back-two c.before.before) (few-one c.before.before) (few-two c.before.before) c.args.line.now c.requires.1.1.1 (lineOut c) c.concat-size.result c.concat-size.ensures.0 c.concat-size.ensures.1
 
 fits_line : (c : AtAfterConcatSize) → length (points (take (c.concat-size.result * 3) (lineOut c))) * 3 ≤ length c.args.out.now
-fits_line c = joined-fits (join c.before.before.before.before) (a c.before.before.before.before) (b c.before.before.before.before) (ps c.before.before.before.before) (qs c.before.before.before.before) (back_one c.before.before) (back-two c.before.before) (few-one c.before.before) (few-two c.before.before) c.args.line.now c.requires.1.1.1 (lineOut c) c.concat-size.result c.concat-size.ensures.0 c.concat-size.ensures.1 c.args.out.now c.requires.0.room
+fits_line c = joined-fits (join c.before.before) (a c.before.before) (b c.before.before) (ps c.before.before) (qs c.before.before) (back_one c.before.before) (back-two c.before.before) (few-one c.before.before) (few-two c.before.before) c.args.line.now c.requires.1.1.1 (lineOut c) c.concat-size.result c.concat-size.ensures.0 c.concat-size.ensures.1 c.args.out.now c.requires.0.room
 
 pub overflow_mul-one_end : goal.overflow_mul-one_end
 overflow_mul-one_end c = omega (arith, small_one c.before)
@@ -102,16 +102,16 @@ pub slice_bounds-concat-end : goal.slice_bounds-concat-end
 slice_bounds-concat-end c = room-one c.before
 
 pub slice_bounds-concat-end-2 : goal.slice_bounds-concat-end-2
-slice_bounds-concat-end-2 c = sym (length-take-le (c.points-n.result * 3) (oneOut c.before.before) (room-one c.before))
+slice_bounds-concat-end-2 c = sym (length-take-le (c.points-n.result * 3) (oneOut c.before) (room-one c.before))
 
 pub slice_bounds-concat-end-3 : goal.slice_bounds-concat-end-3
 slice_bounds-concat-end-3 c = room-two c.before
 
 pub slice_bounds-concat-end-4 : goal.slice_bounds-concat-end-4
-slice_bounds-concat-end-4 c = sym (length-take-le (c.points-m.result * 3) (twoOut c.before.before.before) (room-two c.before))
+slice_bounds-concat-end-4 c = sym (length-take-le (c.points-m.result * 3) (twoOut c.before) (room-two c.before))
 
 pub concat-size-requires : goal.concat-size-requires
-concat-size-requires c = joined-room (join c.before.before.before.before) (a c.before.before.before.before) (b c.before.before.before.before) (ps c.before.before.before.before) (qs c.before.before.before.before) (back_one c.before.before) (back-two c.before.before) (few-one c.before.before) (few-two c.before.before) c.args.line.now c.requires.1.1.1
+concat-size-requires c = joined-room (join c.before.before) (a c.before.before) (b c.before.before) (ps c.before.before) (qs c.before.before) (back_one c.before.before) (back-two c.before.before) (few-one c.before.before) (few-two c.before.before) c.args.line.now c.requires.1.1.1
 
 pub overflow_mul-end : goal.overflow_mul-end
 overflow_mul-end c = omega (arith, small_line c.before.before.before)
@@ -120,10 +120,10 @@ pub slice_bounds-put_line-end : goal.slice_bounds-put_line-end
 slice_bounds-put_line-end c = room-line c.before.before.before
 
 pub slice_bounds-put_line-end-2 : goal.slice_bounds-put_line-end-2
-slice_bounds-put_line-end-2 c = sym (length-take-le (c.concat-size.result * 3) (lineOut c.before.before.before.before) (room-line c.before.before.before))
+slice_bounds-put_line-end-2 c = sym (length-take-le (c.concat-size.result * 3) (lineOut c.before.before.before) (room-line c.before.before.before))
 
 pub put_line-requires : goal.put_line-requires
 put_line-requires c = fits_line c.before.before.before.before
 
 pub returns : goal.returns
-returns c = line-drawn (concat (join c.before.before.before.before.before.before.before.before.before.before.before.before) (a c.before.before.before.before.before.before.before.before.before.before.before.before) (b c.before.before.before.before.before.before.before.before.before.before.before.before)) (points (take (c.concat-size.result * 3) (lineOut c.before.before.before.before.before.before.before.before))) (back-line c.before.before.before.before.before.before.before) c.args.back c.put_line.result c.args.out.now c.put_line.new.out.0 c.put_line.ensures.0 c.put_line.ensures.1
+returns c = line-drawn (concat (join c.before.before.before.before.before.before.before.before.before) (a c.before.before.before.before.before.before.before.before.before) (b c.before.before.before.before.before.before.before.before.before)) (points (take (c.concat-size.result * 3) (lineOut c.before.before.before.before.before.before.before))) (back-line c.before.before.before.before.before.before.before) c.args.back c.put_line.result c.args.out.now c.put_line.new.out c.put_line.ensures.0 c.put_line.ensures.1

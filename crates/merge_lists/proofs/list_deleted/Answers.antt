@@ -4,7 +4,7 @@ use Rattle.merge_lists.proofs.list_deleted.Goals as goal
 
 -- src/lib.rt:122:9
 pub list_ids-n-requires : goal.list_ids-n-requires
-list_ids-n-requires c = let s = c.before.before.before.before.before in lane_room s.args.second s.args.gone.now s.args.deleted.now s.requires
+list_ids-n-requires c = let s = c in lane_room s.args.second s.args.gone.now s.args.deleted.now s.requires
 
 -- src/lib.rt:123:5
 pub list_ids-requires : goal.list_ids-requires

@@ -61,6 +61,12 @@ offset_bounds-boundaries-at c = omega (arith, row c.before)
 pub slice_bounds-row_points-count : goal.slice_bounds-row_points-count
 slice_bounds-row_points-count c = omega (arith, row c.before)
 
+pub slice_bounds-row_points-start : goal.slice_bounds-row_points-start
+slice_bounds-row_points-start c = omega (arith, row c.before)
+
+pub slice_bounds-row_points-end : goal.slice_bounds-row_points-end
+slice_bounds-row_points-end c = omega (arith, row c.before)
+
 pub row_points-points-requires : goal.row_points-points-requires
 row_points-points-requires c =
     let s = c in

@@ -61,6 +61,12 @@ offset_bounds-lanes-at c = omega (arith, row c.before)
 pub slice_bounds-center_after-count : goal.slice_bounds-center_after-count
 slice_bounds-center_after-count c = omega (arith, row c.before)
 
+pub slice_bounds-center_after-start : goal.slice_bounds-center_after-start
+slice_bounds-center_after-start c = omega (arith, row c.before)
+
+pub slice_bounds-center_after-end : goal.slice_bounds-center_after-end
+slice_bounds-center_after-end c = omega (arith, row c.before)
+
 pub center_after-points-requires : goal.center_after-points-requires
 center_after-points-requires c =
     let s = c in

@@ -7,7 +7,7 @@ use Rattle.merge_redraw.proofs.draw.Goals as goal
 pub draw_side-requires-2 : goal.draw_side-requires-2
 draw_side-requires-2 c =
     let p = c.requires in
-    (p.drawable, (p.first, (p.second, omega (arith, c.draw_side.auto.1.1.1.1.1.1.1.1.0, c.side_points-right_at.ensures, p.left_few, p.room))))
+    (p.drawable, (p.first, (p.second, omega (arith, c.draw_side.auto.work, c.side_points-right_at.ensures, p.left_few, p.room))))
 
 pub draw_center-requires : goal.draw_center-requires
 draw_center-requires c =
@@ -18,7 +18,7 @@ draw_center-requires c =
       first = p.first;
       second = p.second;
       marked = p.centered;
-      room = omega (arith, c.draw_side.auto.1.1.1.1.1.1.1.1.0, c.draw_side-2.auto.1.1.1.1.1.1.1.1.0, c.side_points-right_at.ensures, c.side_points.ensures, p.left_few, p.right_few, p.room);
+      room = omega (arith, c.draw_side.auto.work, c.draw_side-2.auto.work, c.side_points-right_at.ensures, c.side_points.ensures, p.left_few, p.right_few, p.room);
     }
 
 pub returns : goal.returns

@@ -30,7 +30,7 @@ pub returns-then-is_some : goal.returns-then-is_some
 returns-then-is_some c =
     let a = c.args in
     center_drawn_lem a.center c.is_some.result (flat (joined_centers a.join a.coordinates.now a.lanes.now a.i a.j))
-    c.is_some.ensures c.if-is_some.true a.work.now c.join_center.new.out.0 (a.at * 3) (omega (arith, c.requires.room)) c.join_center.ensures.1
+    c.is_some.ensures c.if-is_some.true a.work.now c.join_center.new.out (a.at * 3) (omega (arith, c.requires.room)) c.join_center.ensures.1
 
 pub returns-else-is_some : goal.returns-else-is_some
 returns-else-is_some c =

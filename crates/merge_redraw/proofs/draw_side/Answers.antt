@@ -22,4 +22,4 @@ returns c =
     side-drawn a.plan (ref_at (side_word a.side) (row_at 52 a.lanes.now a.i)).reversed c.is_kept.result c.turned-back.result
     (joined_side a.join a.coordinates.now a.lanes.now a.boundaries.now a.i a.j a.side) c.is_kept.ensures c.if-is_kept.false
     (c.turned-back.ensures ∙ ap (λ z. turned a.plan z.reversed) c.boundary_ref.ensures)
-    a.work.now c.join_side.new.out.0 (a.at * 3) (omega (arith, c.requires.1.1.1)) c.join_side.ensures.1
+    a.work.now c.join_side.new.out (a.at * 3) (omega (arith, c.requires.1.1.1)) c.join_side.ensures.1

@@ -33,7 +33,7 @@ redrawn_of-two-requires c =
 pub redraw_boundaries-requires : goal.redraw_boundaries-requires
 redraw_boundaries-requires c =
     let a = c.args in
-    redraw_asks a.join a.plan a.next a.reach a.gone.now a.i a.j a.lanes.now a.boundaries.now a.stop_lines.now a.crosswalks.now a.coordinates.now a.work.now c.requires.0 c.requires.1 c.Taken-of.result c.Taken-of.ensures c.side_points.result c.side_points.ensures c.redrawn_of-one.result c.redrawn_of-two.result c.redrawn_of-one.ensures c.redrawn_of-two.ensures
+    redraw_asks a.join a.plan a.next a.reach a.gone.now a.i a.j a.lanes.now a.boundaries.now a.stop_lines.now a.crosswalks.now a.coordinates.now a.work.now c.requires.0 c.requires.1 c.taken_of-taken.result c.taken_of-taken.ensures c.side_points.result c.side_points.ensures c.redrawn_of-one.result c.redrawn_of-two.result c.redrawn_of-one.ensures c.redrawn_of-two.ensures
 
 pub redraw_followed-requires : goal.redraw_followed-requires
 redraw_followed-requires c =
@@ -46,15 +46,15 @@ lay_out-requires c =
     record {
       near = c.requires.0.near;
       stored = c.requires.0.stored;
-      few = omega (arith, c.draw.auto.1.1.1.1.1.1.1.0, c.requires.1);
-      gatherable = gather-asks a.join a.plan a.next a.reach a.gone.now a.i a.j a.lanes.now a.boundaries.now a.stop_lines.now a.crosswalks.now a.coordinates.now a.work.now c.requires.0 c.requires.1 c.Taken-of.result c.Taken-of.ensures c.side_points.result c.side_points.ensures c.redrawn_of-one.result c.redrawn_of-two.result c.redrawn_of-one.ensures c.redrawn_of-two.ensures c.draw.new.work.0 c.draw.ensures c.redraw_boundaries.new.t c.redraw_boundaries.ensures c.redraw_followed.new.t c.redraw_followed.ensures;
+      few = omega (arith, c.draw.auto.work, c.requires.1);
+      gatherable = gather-asks a.join a.plan a.next a.reach a.gone.now a.i a.j a.lanes.now a.boundaries.now a.stop_lines.now a.crosswalks.now a.coordinates.now a.work.now c.requires.0 c.requires.1 c.taken_of-taken.result c.taken_of-taken.ensures c.side_points.result c.side_points.ensures c.redrawn_of-one.result c.redrawn_of-two.result c.redrawn_of-one.ensures c.redrawn_of-two.ensures c.draw.new.work c.draw.ensures c.redraw_boundaries.new.t c.redraw_boundaries.ensures c.redraw_followed.new.t c.redraw_followed.ensures;
     }
 
 pub shape_of-work : goal.shape_of-work
-shape_of-work c = c.draw.auto.1.1.1.1.1.1.1.0
+shape_of-work c = c.draw.auto.work
 
 pub returns : goal.returns
 returns c =
     let a = c.args in
     let g = c.lay_out.new in
-    all-relaid a.join a.plan a.next a.reach a.gone.now a.i a.j a.lanes.now a.boundaries.now a.stop_lines.now a.crosswalks.now a.coordinates.now a.work.now c.requires.0 c.requires.1 c.Taken-of.result c.Taken-of.ensures c.side_points.result c.side_points.ensures c.redrawn_of-one.result c.redrawn_of-two.result c.redrawn_of-one.ensures c.redrawn_of-two.ensures c.draw.new.work.0 c.draw.ensures c.redraw_boundaries.new.t c.redraw_boundaries.ensures c.redraw_followed.new.t c.redraw_followed.ensures (line_tables g.0 g.1.0 g.1.1.0 g.1.1.1.0 g.1.1.1.1.0) c.lay_out.ensures
+    all-relaid a.join a.plan a.next a.reach a.gone.now a.i a.j a.lanes.now a.boundaries.now a.stop_lines.now a.crosswalks.now a.coordinates.now a.work.now c.requires.0 c.requires.1 c.taken_of-taken.result c.taken_of-taken.ensures c.side_points.result c.side_points.ensures c.redrawn_of-one.result c.redrawn_of-two.result c.redrawn_of-one.ensures c.redrawn_of-two.ensures c.draw.new.work c.draw.ensures c.redraw_boundaries.new.t c.redraw_boundaries.ensures c.redraw_followed.new.t c.redraw_followed.ensures (line_tables g.lanes g.boundaries g.stop_lines g.crosswalks g.coordinates) c.lay_out.ensures

@@ -11,24 +11,24 @@ drop_rows-requires c = (omega arith, table-room 4096 5 c.args.t.now c.requires.c
 pub point_side-requires : goal.point_side-requires
 point_side-requires c =
     let a = c.args in
-    left-counts a.gone.now a.left a.right a.t.now c.requires c.drop_rows.new.t c.drop_rows.ensures c.drop_rows.auto.0
+    left-counts a.gone.now a.left a.right a.t.now c.requires c.drop_rows.new.t c.drop_rows.ensures c.drop_rows.auto.t
 
 pub point_side-requires-2 : goal.point_side-requires-2
 point_side-requires-2 c =
     let a = c.args in
-    pointed-counts a.gone.now a.left a.right a.t.now c.requires c.drop_rows.new.t c.drop_rows.ensures c.drop_rows.auto.0 c.point_side.new.t c.point_side.ensures c.point_side.auto.0
+    pointed-counts a.gone.now a.left a.right a.t.now c.requires c.drop_rows.new.t c.drop_rows.ensures c.drop_rows.auto.t c.point_side.new.t c.point_side.ensures c.point_side.auto.t
 
 pub add_side-requires : goal.add_side-requires
 add_side-requires c =
     let a = c.args in
-    first-room a.gone.now a.left a.right a.t.now c.requires c.drop_rows.new.t c.drop_rows.ensures c.drop_rows.auto.0 c.point_side.new.t c.point_side.ensures c.point_side.auto.0 c.point_side-2.new.t c.point_side-2.ensures c.point_side-2.auto.0
+    first-room a.gone.now a.left a.right a.t.now c.requires c.drop_rows.new.t c.drop_rows.ensures c.drop_rows.auto.t c.point_side.new.t c.point_side.ensures c.point_side.auto.t c.point_side-2.new.t c.point_side-2.ensures c.point_side-2.auto.t
 
 pub add_side-requires-2 : goal.add_side-requires-2
 add_side-requires-2 c =
     let a = c.args in
-    second-room a.gone.now a.left a.right a.t.now c.requires c.drop_rows.new.t c.drop_rows.ensures c.drop_rows.auto.0 c.point_side.new.t c.point_side.ensures c.point_side.auto.0 c.point_side-2.new.t c.point_side-2.ensures c.point_side-2.auto.0 c.add_side.new.t c.add_side.ensures c.add_side.auto.0
+    second-room a.gone.now a.left a.right a.t.now c.requires c.drop_rows.new.t c.drop_rows.ensures c.drop_rows.auto.t c.point_side.new.t c.point_side.ensures c.point_side.auto.t c.point_side-2.new.t c.point_side-2.ensures c.point_side-2.auto.t c.add_side.new.t c.add_side.ensures c.add_side.auto.t
 
 pub returns : goal.returns
 returns c =
     let a = c.args in
-    all-redrawn a.gone.now a.left a.right a.t.now c.requires c.drop_rows.new.t c.drop_rows.ensures c.drop_rows.auto.0 c.point_side.new.t c.point_side.ensures c.point_side.auto.0 c.point_side-2.new.t c.point_side-2.ensures c.point_side-2.auto.0 c.add_side.new.t c.add_side.ensures c.add_side.auto.0 c.add_side-2.new.t c.add_side-2.ensures
+    all-redrawn a.gone.now a.left a.right a.t.now c.requires c.drop_rows.new.t c.drop_rows.ensures c.drop_rows.auto.t c.point_side.new.t c.point_side.ensures c.point_side.auto.t c.point_side-2.new.t c.point_side-2.ensures c.point_side-2.auto.t c.add_side.new.t c.add_side.ensures c.add_side.auto.t c.add_side-2.new.t c.add_side-2.ensures

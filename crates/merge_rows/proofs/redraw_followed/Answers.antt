@@ -44,17 +44,17 @@ copy-requires c =
 pub slice_bounds-held-end : goal.slice_bounds-held-end
 slice_bounds-held-end c =
     let few : length c.successors-followed.result.now ≤ 16 = rw c.successors-followed.ensures (after-short c.args.t.now c.requires.0 c.args.j c.requires.1.1.1) in
-    omega (arith, c.copy.auto.1.0)
+    omega (arith, c.copy.auto.to)
 
 pub slice_bounds-redraw_lanes-end : goal.slice_bounds-redraw_lanes-end
 slice_bounds-redraw_lanes-end c =
     let few : length c.successors-followed.result.now ≤ 16 = rw c.successors-followed.ensures (after-short c.args.t.now c.requires.0 c.args.j c.requires.1.1.1) in
-    sym (length-take-le (length c.successors-followed.result.now) c.copy.new.to (omega (arith, c.copy.auto.1.0)))
+    sym (length-take-le (length c.successors-followed.result.now) c.copy.new.to (omega (arith, c.copy.auto.to)))
 
 pub redraw_lanes-requires : goal.redraw_lanes-requires
 redraw_lanes-requires c =
     let few : length c.successors-followed.result.now ≤ 16 = rw c.successors-followed.ensures (after-short c.args.t.now c.requires.0 c.args.j c.requires.1.1.1) in
-    (c.requires.0, omega (arith, length-take-le (length c.successors-followed.result.now) c.copy.new.to (omega (arith, c.copy.auto.1.0))))
+    (c.requires.0, omega (arith, length-take-le (length c.successors-followed.result.now) c.copy.new.to (omega (arith, c.copy.auto.to))))
 
 pub returns : goal.returns
 returns c =

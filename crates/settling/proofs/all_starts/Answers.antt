@@ -21,25 +21,25 @@ tables s = line_tables s.args.lanes.now s.args.boundaries.now s.args.stop_lines.
 
 pub column_starts-centers-requires : goal.column_starts-centers-requires
 column_starts-centers-requires c =
-    let s = c in
+    let s = c.before.before.before.before.before.before in
     (omega arith, (omega arith, (omega arith, ((counts (tables s) s.requires.0).1.0, omega (arith, columns-points (tables s), s.requires.1)))))
 
 pub column_starts-stops-requires : goal.column_starts-stops-requires
 column_starts-stops-requires c =
-    let s = c in
+    let s = c.before.before.before.before.before.before.before.before.before.before in
     let g1 = c.column_starts-centers in
     (omega arith, (omega arith, (omega arith, (counted-more 1024 4096 52 s.args.lanes.now (omega arith) (counts (tables s) s.requires.0).0, omega (arith, columns-points (tables s), s.requires.1, g1.ensures.0)))))
 
 pub column_starts-lefts-requires : goal.column_starts-lefts-requires
 column_starts-lefts-requires c =
-    let s = c in
+    let s = c.before.before.before.before.before.before.before.before.before.before.before.before.before.before in
     let g1 = c.column_starts-centers in
     let g2 = c.column_starts-stops in
     (omega arith, (omega arith, (omega arith, ((counts (tables s) s.requires.0).1.1.0, omega (arith, columns-points (tables s), s.requires.1, g1.ensures.0, g2.ensures.0)))))
 
 pub column_starts-rights-requires : goal.column_starts-rights-requires
 column_starts-rights-requires c =
-    let s = c in
+    let s = c.before.before.before.before.before.before.before.before.before.before.before.before.before.before.before.before.before.before in
     let g1 = c.column_starts-centers in
     let g2 = c.column_starts-stops in
     let g3 = c.column_starts-lefts in
@@ -47,7 +47,7 @@ column_starts-rights-requires c =
 
 pub column_starts-requires : goal.column_starts-requires
 column_starts-requires c =
-    let s = c in
+    let s = c.before.before.before.before.before.before.before.before.before.before.before.before.before.before.before.before.before.before.before.before.before.before in
     let g1 = c.column_starts-centers in
     let g2 = c.column_starts-stops in
     let g3 = c.column_starts-lefts in

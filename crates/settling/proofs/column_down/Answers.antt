@@ -39,7 +39,7 @@ column s = column_of s.args.stride s.args.offset s.args.marked
 -- in a turn: the row lies in the table, and its line is the next one
 room : (c : AtInLoopI) → 1 + c.loop-i.i * c.args.stride + c.args.stride ≤ length c.args.t.now
 room c =
-    let s = c in
+    let s = c.before.before.before.before.before in
     row_in 4096 s.args.stride c.loop-i.i s.args.t.now s.requires.0.counts c.loop-i-test.true
 
 abbrev lines : (c : AtAtLoopI) → ℕ → List Span
@@ -50,7 +50,7 @@ line c = line_here c.args.t.now (1 + c.loop-i.i * c.args.stride + c.args.offset)
 
 next : (c : AtAfterHasLine) → c.has_line.result ≡ true → lines c.before.before c.loop-i.i ≡ line c.before.before ∷ lines c.before.before (c.loop-i.i + 1)
 next c e =
-    let s = c in
+    let s = c.before.before.before.before.before.before in
     let a = s.args in
     from-with a.stride a.offset a.marked a.t.now (word 0 a.t.now) c.loop-i.i s.requires.0.line s.requires.0.row c.loop-i-test.true (room c.before) c.has_line.result c.has_line.ensures e
 
@@ -89,7 +89,7 @@ bounds-t-k-then-has_line c = omega (arith, room c.before.before.before.before.be
 
 pub line_down-requires : goal.line_down-requires
 line_down-requires c =
-    let s = c in
+    let s = c.before.before.before.before.before.before.before.before.before.before.before in
     let l = c.loop-i in
     let k = column s in
     let t = s.args.t.now in
@@ -100,7 +100,7 @@ line_down-requires c =
 
 pub overflow_add-place : goal.overflow_add-place
 overflow_add-place c =
-    let s = c in
+    let s = c.before.before.before.before.before.before.before.before.before.before.before.before.before.before in
     let a = s.args in
     let l = c.loop-i in
     omega (arith, down-room (column s) a.t.now a.reach a.coordinates.now a.at (word 0 a.t.now) l.i l.coordinates l.place l.invariant.1 (line c.before.before.before.before.before.before.before.before.before.before) (next c.before.before.before.before.before.before.before.before c.if-has_line.true), s.requires.1.room, s.well_formed)
@@ -113,7 +113,7 @@ loop-i-smaller c = omega (arith, c.loop-i-test.true)
 
 pub loop-i-preserved : goal.loop-i-preserved
 loop-i-preserved c =
-    let s = c in
+    let s = c.before.before.before.before.before.before.before.before in
     let a = s.args in
     let l = c.loop-i in
     let k = column s in
@@ -122,7 +122,7 @@ loop-i-preserved c =
     let h = c.loop-i-test.true in
     let b = c.has_line in
     ⊎_elim
-    (λ w. (omega (arith, h), down-with k t a.reach a.coordinates.now a.at n l.i l.coordinates l.place l.invariant.1 (line c.before.before.before.before) (next c.before.before w.if-has_line.true) c.if-has_line.coordinates c.if-has_line.place (ap length w.coordinates-is ∙ w.line_down.kept.1.1.1.0) (w.coordinates-is ∙ w.line_down.ensures) w.place-is))
+    (λ w. (omega (arith, h), down-with k t a.reach a.coordinates.now a.at n l.i l.coordinates l.place l.invariant.1 (line c.before.before.before.before) (next c.before.before w.if-has_line.true) c.if-has_line.coordinates c.if-has_line.place (ap length w.coordinates-is ∙ w.line_down.auto.coordinates) (w.coordinates-is ∙ w.line_down.ensures) w.place-is))
     (λ w. (omega (arith, h), down-without k t a.reach a.coordinates.now a.at n l.i l.coordinates l.place l.invariant.1 (from-without a.stride a.offset a.marked t n l.i s.requires.0.line s.requires.0.row h (room c.before.before.before) b.result b.ensures w.if-has_line.false) c.if-has_line.coordinates c.if-has_line.place w.coordinates-is w.place-is))
     c.if-has_line.branch-raw
 

@@ -25,7 +25,7 @@ column s = column_of s.args.stride s.args.offset s.args.marked
 -- in a turn: the row lies in the table
 room : (c : AtInLoopI) → 1 + c.loop-i.i * c.args.stride + c.args.stride ≤ length c.loop-i.t
 room c =
-    let s = c in
+    let s = c.before.before.before.before in
     let l = c.loop-i in
     starts_in (column s) s.args.t.now s.args.at (word 0 s.args.t.now) l.i l.t l.place l.invariant.1 c.loop-i-test.true
 

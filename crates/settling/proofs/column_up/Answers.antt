@@ -44,12 +44,12 @@ line c = line_here c.args.t.now (1 + (c.loop-i.i - 1) * c.args.stride + c.args.o
 -- in a turn: the row lies in the table, its line is the next one, and there is room for it before the place
 room : (c : AtInLoopI) → 1 + (c.loop-i.i - 1) * c.args.stride + c.args.stride ≤ length c.args.t.now
 room c =
-    let s = c in
+    let s = c.before.before.before.before.before.before in
     row_in 4096 s.args.stride (c.loop-i.i - 1) s.args.t.now s.requires.0.counts (omega (arith, c.loop-i-test.true, c.loop-i.invariant.0))
 
 next : (c : AtAfterHasLine) → c.has_line.result ≡ true → lines c.before.before (c.loop-i.i - 1) ≡ line c.before.before ∷ lines c.before.before (c.loop-i.i - 1 + 1)
 next c e =
-    let s = c in
+    let s = c.before.before.before.before.before.before.before in
     let a = s.args in
     let i = c.loop-i.i in
     from-with a.stride a.offset a.marked a.t.now (word 0 a.t.now) (i - 1) s.requires.0.line s.requires.0.row (omega (arith, c.loop-i-test.true, c.loop-i.invariant.0)) (room c.before) c.has_line.result c.has_line.ensures e
@@ -60,7 +60,7 @@ before-i c = omega (arith, c.loop-i-test.true)
 
 fits : (c : AtAfterHasLine) → c.has_line.result ≡ true → (line c.before.before).size ≤ c.loop-i.place
 fits c e =
-    let s = c in
+    let s = c.before.before.before.before.before.before.before in
     let a = s.args in
     let k = column s in
     let l = c.loop-i in
@@ -110,7 +110,7 @@ bounds-t-k-then-has_line c = omega (arith, room c.before.before.before.before.be
 
 pub line_up-requires : goal.line_up-requires
 line_up-requires c =
-    let s = c in
+    let s = c.before.before.before.before.before.before.before.before.before.before.before.before in
     let l = c.loop-i in
     let k = column s in
     let t = s.args.t.now in
@@ -130,19 +130,19 @@ loop-i-smaller-then-has_line c = omega (arith, c.loop-i-test.true)
 
 pub loop-i-preserved-then-has_line : goal.loop-i-preserved-then-has_line
 loop-i-preserved-then-has_line c =
-    let s = c in
+    let s = c.before.before.before.before.before.before.before.before.before.before.before.before.before.before.before in
     let a = s.args in
     let l = c.loop-i in
     let g = c.line_up in
     let h = c.if-has_line.true in
-    (omega (arith, l.invariant.0), up-with (column s) a.t.now a.drawn.now a.reach a.coordinates.now a.end (word 0 a.t.now) l.i (l.i - 1) l.coordinates l.place l.invariant.1 (before-i c.before.before.before.before.before.before.before.before.before) (line c.before.before.before.before.before.before.before.before.before.before) (next c.before.before.before.before.before.before.before.before h) g.new.coordinates (l.place - (line c.before.before.before.before.before.before.before.before.before.before).size) g.auto.1.1.1.1.0 g.ensures (omega (arith, fits c.before.before.before.before.before.before.before.before h)))
+    (omega (arith, l.invariant.0), up-with (column s) a.t.now a.drawn.now a.reach a.coordinates.now a.end (word 0 a.t.now) l.i (l.i - 1) l.coordinates l.place l.invariant.1 (before-i c.before.before.before.before.before.before.before.before.before) (line c.before.before.before.before.before.before.before.before.before.before) (next c.before.before.before.before.before.before.before.before h) g.new.coordinates (l.place - (line c.before.before.before.before.before.before.before.before.before.before).size) g.auto.coordinates g.ensures (omega (arith, fits c.before.before.before.before.before.before.before.before h)))
 
 pub loop-i-smaller : goal.loop-i-smaller
 loop-i-smaller c = omega (arith, c.loop-i-test.true)
 
 pub loop-i-preserved : goal.loop-i-preserved
 loop-i-preserved c =
-    let s = c in
+    let s = c.before.before.before.before.before.before.before.before.before in
     let a = s.args in
     let l = c.loop-i in
     let t = a.t.now in

@@ -11,7 +11,7 @@ pub all_up-requires : goal.all_up-requires
 all_up-requires c =
     let s = c in
     let g = c.all_down-end in
-    (placed-up s.args.reach s.args.drawn.now s.args.lanes.now s.args.boundaries.now s.args.stop_lines.now s.args.crosswalks.now s.args.coordinates.now s.requires, (g.ensures.0, movable_up s.args.reach s.args.drawn.now s.args.lanes.now s.args.boundaries.now s.args.stop_lines.now s.args.crosswalks.now s.args.coordinates.now s.requires g.new.coordinates.0 g.result g.auto.1.1.1.1.1.0 g.ensures.0))
+    (placed-up s.args.reach s.args.drawn.now s.args.lanes.now s.args.boundaries.now s.args.stop_lines.now s.args.crosswalks.now s.args.coordinates.now s.requires, (g.ensures.0, movable_up s.args.reach s.args.drawn.now s.args.lanes.now s.args.boundaries.now s.args.stop_lines.now s.args.crosswalks.now s.args.coordinates.now s.requires g.new.coordinates g.result g.auto.coordinates g.ensures.0))
 
 pub all_starts-requires : goal.all_starts-requires
 all_starts-requires c = let s = c.before.before.before.before.before.before.before.before.before.before.before.before.before.before.before.before.before.before.before.before.before.before.before.before.before.before.before in ((placed-up s.args.reach s.args.drawn.now s.args.lanes.now s.args.boundaries.now s.args.stop_lines.now s.args.crosswalks.now s.args.coordinates.now s.requires).counts, omega (arith, points-room s.args.reach s.args.drawn.now s.args.lanes.now s.args.boundaries.now s.args.stop_lines.now s.args.crosswalks.now s.args.coordinates.now s.requires, s.well_formed))
@@ -22,4 +22,4 @@ returns c =
     let d = c.all_down-end in
     let u = c.all_up in
     let r = c.all_starts in
-    settled-tables s.args.reach s.args.drawn.now s.args.lanes.now s.args.boundaries.now s.args.stop_lines.now s.args.crosswalks.now s.args.coordinates.now s.requires r.new.lanes r.new.boundaries r.new.stop_lines r.new.crosswalks.0 d.new.coordinates.0 u.new.coordinates d.ensures.1 u.ensures r.ensures
+    settled-tables s.args.reach s.args.drawn.now s.args.lanes.now s.args.boundaries.now s.args.stop_lines.now s.args.crosswalks.now s.args.coordinates.now s.requires r.new.lanes r.new.boundaries r.new.stop_lines r.new.crosswalks d.new.coordinates u.new.coordinates d.ensures.1 u.ensures r.ensures

@@ -2,12 +2,13 @@
 use borrow.Author.Rules.{rules}
 use native.Mathlib.Omega.{arith}
 use mathlib.Core.Logic.{⊎_elim}
-use mathlib.Core.Path.{◌∙◌, ap}
+use mathlib.Core.Path.{◌≡◌, ◌∙◌, ap}
 use Rattle.lists.proofs.Rows.{one_found, found_within}
 use Rattle.split_rows.proofs.Slots.{cut-asks}
 use Rattle.split_rows.proofs.Written.{came-asks, half-asks, cut-first, cut-other}
 use lib.ListN.{length}
 use Rattle.split_first.proofs.cut_row.Goals as goal
+use Rattle.split_first.proofs.cut_row.Goals.{in-At, in-Nothing}
 
 pub find_row-found-requires : goal.find_row-found-requires
 find_row-found-requires c = cut-asks c.args.cut.now c.args.next c.requires.0.cuts
@@ -16,10 +17,22 @@ pub first_half-requires : goal.first_half-requires
 first_half-requires c = let a = c.args in (c.requires.0, (found_within _ a.cut.now c.in-At.rank (one_found _ a.cut.now c.find_row-found.result c.find_row-found.ensures ∙ c.in-At.is), (c.requires.1.words, c.requires.1.formed)))
 
 pub come_from-requires : goal.come_from-requires
-come_from-requires c = let a = c.args in let w = c.in-At in (c.requires.0.cuts, ⊎_elim (λ x. half-asks a.pieces.now a.m a.cut.now a.next a.centers.now a.row.now c.requires.1 x.1.given.0.0 w.row (x.7 ∙ x.4.ensures)) (λ x. rw x.2 (came-asks a.pieces.now a.m a.cut.now a.next a.centers.now a.row.now c.requires.1)) w.branch)
+come_from-requires c = let a = c.args in (c.requires.0.cuts, elim c.match-found.branch [
+    | in-At w ↦ half-asks a.pieces.now a.m a.cut.now a.next a.centers.now a.row.now c.requires.1 w.in-At.rank c.match-found.row (w.row-is ∙ w.first_half.ensures)
+    | in-Nothing w ↦ rw w.row-is (came-asks a.pieces.now a.m a.cut.now a.next a.centers.now a.row.now c.requires.1)
+  ])
 
 pub shape_of-row : goal.shape_of-row
-shape_of-row c = let a = c.args in let w = c.in-At in omega (arith, c.requires.1.words, c.come_from.auto.0, ⊎_elim (λ x. (half-asks a.pieces.now a.m a.cut.now a.next a.centers.now a.row.now c.requires.1 x.1.given.0.0 w.row (x.7 ∙ x.4.ensures)).words) (λ x. ap length x.2 ∙ c.requires.1.words) w.branch)
+shape_of-row c =
+    let a = c.args in
+    let many : length c.match-found.row ≡ 52 = elim c.match-found.branch [
+      | in-At w ↦ (half-asks a.pieces.now a.m a.cut.now a.next a.centers.now a.row.now c.requires.1 w.in-At.rank c.match-found.row (w.row-is ∙ w.first_half.ensures)).words
+      | in-Nothing w ↦ ap length w.row-is ∙ c.requires.1.words
+    ] in
+    omega (arith, c.requires.1.words, c.come_from.auto.row, many)
 
 pub returns : goal.returns
-returns c = let a = c.args in let w = c.in-At in ⊎_elim (λ x. cut-first a.pieces.now a.m a.cut.now a.next a.centers.now a.row.now c.requires.1 c.find_row-found.result c.find_row-found.ensures x.1.given.0.0 x.1.given.1 w.row (x.7 ∙ x.4.ensures) c.come_from.new.row c.come_from.ensures) (λ x. cut-other a.pieces.now a.m a.cut.now a.next a.centers.now a.row.now c.requires.1 c.find_row-found.result c.find_row-found.ensures x.1.given.1 w.row x.2 c.come_from.new.row c.come_from.ensures) w.branch
+returns c = let a = c.args in elim c.match-found.branch [
+    | in-At w ↦ cut-first a.pieces.now a.m a.cut.now a.next a.centers.now a.row.now c.requires.1 c.find_row-found.result c.find_row-found.ensures w.in-At.rank w.in-At.is c.match-found.row (w.row-is ∙ w.first_half.ensures) c.come_from.new.row c.come_from.ensures
+    | in-Nothing w ↦ cut-other a.pieces.now a.m a.cut.now a.next a.centers.now a.row.now c.requires.1 c.find_row-found.result c.find_row-found.ensures w.in-Nothing.is c.match-found.row w.row-is c.come_from.new.row c.come_from.ensures
+  ]

@@ -33,7 +33,7 @@ pub loop-i-smaller : goal.loop-i-smaller
 loop-i-smaller c = omega (arith, c.loop-i-test.true)
 
 pub loop-i-preserved : goal.loop-i-preserved
-loop-i-preserved c = let a = c.args in let l = c.loop-i in ⊎_elim (λ x. halving_turn a.pieces.now a.m a.cut.now a.next a.centers.now a.seen.now a.t.now c.requires l.t l.rank l.i l.invariant c.loop-i-test.true x.if-seen-i.true c.if-seen-i.t c.if-seen-i.rank (ap length x.t-is ∙ x.put_half.kept.0) x.rank-is (x.t-is ∙ x.put_half.ensures)) (λ x. halving_skip a.pieces.now a.m a.cut.now a.next a.centers.now a.seen.now a.t.now c.requires l.t l.rank l.i l.invariant c.loop-i-test.true x.if-seen-i.false c.if-seen-i.t c.if-seen-i.rank x.t-is x.rank-is) c.if-seen-i.branch-raw
+loop-i-preserved c = let a = c.args in let l = c.loop-i in ⊎_elim (λ x. halving_turn a.pieces.now a.m a.cut.now a.next a.centers.now a.seen.now a.t.now c.requires l.t l.rank l.i l.invariant c.loop-i-test.true x.if-seen-i.true c.if-seen-i.t c.if-seen-i.rank (ap length x.t-is ∙ x.put_half.auto.t) x.rank-is (x.t-is ∙ x.put_half.ensures)) (λ x. halving_skip a.pieces.now a.m a.cut.now a.next a.centers.now a.seen.now a.t.now c.requires l.t l.rank l.i l.invariant c.loop-i-test.true x.if-seen-i.false c.if-seen-i.t c.if-seen-i.rank x.t-is x.rank-is) c.if-seen-i.branch-raw
 
 pub shape_of-t : goal.shape_of-t
 shape_of-t c = let a = c.args in let l = c.loop-i in l.invariant.long

@@ -30,7 +30,7 @@ pub returns-then-has_line : goal.returns-then-has_line
 returns-then-has_line c =
     let a = c.args in
     let e = row-with a.coordinates.now a.offset a.marked a.row a.t.now c.has_line.result c.has_line.ensures c.requires.0 c.if-has_line.true c.line_of-line.result.now c.line_of-line.ensures in
-    draw_some a.coordinates.now a.offset a.marked a.row a.t.now a.point a.at a.out.now (points c.line_of-line.result.now) e c.requires.1 c.put_pieces.result c.put_pieces.new.out.0 c.put_pieces.ensures
+    draw_some a.coordinates.now a.offset a.marked a.row a.t.now a.point a.at a.out.now (points c.line_of-line.result.now) e c.requires.1 c.put_pieces.result c.put_pieces.new.out c.put_pieces.ensures
 
 pub returns : goal.returns
 returns c = let a = c.args in draw_none a.coordinates.now a.offset a.marked a.row a.t.now a.point a.at a.out.now (row-without a.coordinates.now a.offset a.marked a.row a.t.now c.has_line.result c.has_line.ensures c.if-has_line.false)

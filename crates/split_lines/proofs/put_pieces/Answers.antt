@@ -15,4 +15,4 @@ pub returns-in-None : goal.returns-in-None
 returns-in-None c = pieces_none c.args.point (points c.args.line.now) c.nearest_point-found.result c.nearest_point-found.ensures c.in-None.is c.args.out.now
 
 pub returns-in-Some : goal.returns-in-Some
-returns-in-Some c = pieces-some c.args.point (points c.args.line.now) c.nearest_point-found.result c.nearest_point-found.ensures c.in-Some.near c.in-Some.is c.args.out.now c.split_at-pieces.new.out.0 c.split_at-pieces.result.first c.split_at-pieces.result.second c.split_at-pieces.ensures.0 c.split_at-pieces.ensures.1.0 c.split_at-pieces.ensures.1.1
+returns-in-Some c = pieces-some c.args.point (points c.args.line.now) c.nearest_point-found.result c.nearest_point-found.ensures c.in-Some.near c.in-Some.is c.args.out.now c.split_at-pieces.new.out c.split_at-pieces.result.first c.split_at-pieces.result.second c.split_at-pieces.ensures.0 c.split_at-pieces.ensures.1.0 c.split_at-pieces.ensures.1.1

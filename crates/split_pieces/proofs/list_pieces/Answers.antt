@@ -60,7 +60,7 @@ loop-x-preserved c =
     let l = c.loop-x-test.true in
     ⊎_elim
     (λ s.
-    let w = list-one a.seen.now a.lanes.now a.boundaries.now a.marks.now a.next a.pieces.now t.x t.m t.id t.pieces t.invariant.1 l p.0.0.1.1 s.if-marks-x.true s.used_beyond.result s.used_beyond.ensures p.1.1 s.put_piece-id.result s.put_piece-id.last.0 s.put_piece-id.ensures in
+    let w = list-one a.seen.now a.lanes.now a.boundaries.now a.marks.now a.next a.pieces.now t.x t.m t.id t.pieces t.invariant.1 l p.0.0.1.1 s.if-marks-x.true s.used_beyond.result s.used_beyond.ensures p.1.1 s.put_piece-id.result s.put_piece-id.new.pieces s.put_piece-id.ensures in
     (omega (arith, l), rw (s.pieces-is, s.id-is, s.m-is) w))
     (λ s.
     let w = list-none a.seen.now a.lanes.now a.boundaries.now a.marks.now a.next a.pieces.now t.x t.m t.id t.pieces t.invariant.1 l p.0.0.1.1 s.if-marks-x.false in

@@ -21,13 +21,13 @@ pub returns-in_default : goal.returns-in_default
 returns-in_default c = (placed-gone c.args.coordinates.now c.args.boundaries.now c.args.lanes.now c.args.i c.centerline-found.result c.centerline-found.ensures.0 c.in_default.is c.args.piece c.args.at, c.centerline-found.ensures.1)
 
 pub overflow_mul-end : goal.overflow_mul-end
-overflow_mul-end c = omega (arith, line_small c.args.coordinates.now c.args.boundaries.now c.args.lanes.now c.args.i c.requires.0 c.requires.1.0 c.args.line.now c.centerline-found.new.out.0 c.requires.1.1 c.centerline-found.ensures.1 c.centerline-found.result c.centerline-found.ensures.0 c.in-Some.n c.in-Some.is)
+overflow_mul-end c = omega (arith, line_small c.args.coordinates.now c.args.boundaries.now c.args.lanes.now c.args.i c.requires.0 c.requires.1.0 c.args.line.now c.centerline-found.new.out c.requires.1.1 c.centerline-found.ensures.1 c.centerline-found.result c.centerline-found.ensures.0 c.in-Some.n c.in-Some.is)
 
 pub slice_bounds-place_on-end : goal.slice_bounds-place_on-end
-slice_bounds-place_on-end c = line-within c.args.coordinates.now c.args.boundaries.now c.args.lanes.now c.args.i c.requires.0 c.requires.1.0 c.args.line.now c.centerline-found.new.out.0 c.requires.1.1 c.centerline-found.ensures.1 c.centerline-found.result c.centerline-found.ensures.0 c.in-Some.n c.in-Some.is
+slice_bounds-place_on-end c = line-within c.args.coordinates.now c.args.boundaries.now c.args.lanes.now c.args.i c.requires.0 c.requires.1.0 c.args.line.now c.centerline-found.new.out c.requires.1.1 c.centerline-found.ensures.1 c.centerline-found.result c.centerline-found.ensures.0 c.in-Some.n c.in-Some.is
 
 pub slice_bounds-place_on-end-2 : goal.slice_bounds-place_on-end-2
-slice_bounds-place_on-end-2 c = line-lent c.args.coordinates.now c.args.boundaries.now c.args.lanes.now c.args.i c.requires.0 c.requires.1.0 c.args.line.now c.centerline-found.new.out.0 c.requires.1.1 c.centerline-found.ensures.1 c.centerline-found.result c.centerline-found.ensures.0 c.in-Some.n c.in-Some.is
+slice_bounds-place_on-end-2 c = line-lent c.args.coordinates.now c.args.boundaries.now c.args.lanes.now c.args.i c.requires.0 c.requires.1.0 c.args.line.now c.centerline-found.new.out c.requires.1.1 c.centerline-found.ensures.1 c.centerline-found.result c.centerline-found.ensures.0 c.in-Some.n c.in-Some.is
 
 pub returns : goal.returns
-returns c = (placed-there c.args.coordinates.now c.args.boundaries.now c.args.lanes.now c.args.i c.requires.0 c.requires.1.0 c.args.line.now c.centerline-found.new.out.0 c.requires.1.1 c.centerline-found.ensures.1 c.centerline-found.result c.centerline-found.ensures.0 c.in-Some.n c.in-Some.is c.args.piece c.args.at c.place_on.result c.place_on.ensures, c.centerline-found.ensures.1)
+returns c = (placed-there c.args.coordinates.now c.args.boundaries.now c.args.lanes.now c.args.i c.requires.0 c.requires.1.0 c.args.line.now c.centerline-found.new.out c.requires.1.1 c.centerline-found.ensures.1 c.centerline-found.result c.centerline-found.ensures.0 c.in-Some.n c.in-Some.is c.args.piece c.args.at c.place_on.result c.place_on.ensures, c.centerline-found.ensures.1)

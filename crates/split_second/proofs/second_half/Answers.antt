@@ -27,8 +27,12 @@ bounds-old-35 c = omega (arith, c.requires.1.1.1.0)
 pub overflow_add-to : goal.overflow_add-to
 overflow_add-to c = let a = c.args in omega (arith, (lane-marks a.old.now c.requires.1.1.1.1).after)
 
+pub slice_bounds-put_list-end-2 : goal.slice_bounds-put_list-end-2
+slice_bounds-put_list-end-2 c = let a = c.args in omega (arith, (lane-marks a.old.now c.requires.1.1.1.1).after, c.requires.1.1.1.0)
+
 pub put_list-requires-2 : goal.put_list-requires-2
 put_list-requires-2 c = let a = c.args in after-asks a.pieces.now a.m a.cut.now a.next a.centers.now a.rank a.old.now a.row.now c.requires.1.1.0 c.requires.1.1.1.0 c.requires.1.1.1.1 c.half_ref-left.result c.half_ref-left.ensures c.half_ref-right.result c.half_ref-right.ensures c.second_head.new.row c.second_head.ensures c.put_center.new.row c.put_center.ensures c.second_slot.new.row c.second_slot.ensures c.second_slot-2.new.row c.second_slot-2.ensures c.put_list.new.row c.put_list.ensures _ (successors-part a.old.now)
 
 pub returns : goal.returns
 returns c = let a = c.args in second-written a.pieces.now a.m a.cut.now a.next a.centers.now a.rank a.old.now a.row.now c.requires.1.1.0 c.requires.1.1.1.0 c.requires.1.1.1.1 c.half_ref-left.result c.half_ref-left.ensures c.half_ref-right.result c.half_ref-right.ensures c.second_head.new.row c.second_head.ensures c.put_center.new.row c.put_center.ensures c.second_slot.new.row c.second_slot.ensures c.second_slot-2.new.row c.second_slot-2.ensures c.put_list.new.row c.put_list.ensures _ (successors-part a.old.now) c.put_list-2.new.row c.put_list-2.ensures
+

@@ -17,7 +17,7 @@ pub add_boundary-requires-2 : goal.add_boundary-requires-2
 add_boundary-requires-2 c = let a = c.args in second-room a.pieces.now a.lines.now a.j a.t.now a.x c.requires.1.1.1.1 c.if-first-pieces.t (⊎_elim (λ x. begun-on a.pieces.now a.lines.now a.j a.t.now a.x c.requires.1.1.1.1 c.if-first-pieces.t x.if-first-pieces.true (x.t-is ∙ x.add_boundary.ensures)) (λ x. begun-off a.pieces.now a.lines.now a.j a.t.now a.x c.requires.1.1.1.1 c.if-first-pieces.t x.if-first-pieces.false x.t-is) c.if-first-pieces.branch-raw)
 
 pub shape_of-t : goal.shape_of-t
-shape_of-t c = let a = c.args in omega (arith, c.add_boundary-2.auto.0, begun-long a.pieces.now a.lines.now a.j a.t.now a.x c.requires.1.1.1.1 c.if-first-pieces.t (⊎_elim (λ x. begun-on a.pieces.now a.lines.now a.j a.t.now a.x c.requires.1.1.1.1 c.if-first-pieces.t x.if-first-pieces.true (x.t-is ∙ x.add_boundary.ensures)) (λ x. begun-off a.pieces.now a.lines.now a.j a.t.now a.x c.requires.1.1.1.1 c.if-first-pieces.t x.if-first-pieces.false x.t-is) c.if-first-pieces.branch-raw))
+shape_of-t c = let a = c.args in omega (arith, c.add_boundary-2.auto.t, begun-long a.pieces.now a.lines.now a.j a.t.now a.x c.requires.1.1.1.1 c.if-first-pieces.t (⊎_elim (λ x. begun-on a.pieces.now a.lines.now a.j a.t.now a.x c.requires.1.1.1.1 c.if-first-pieces.t x.if-first-pieces.true (x.t-is ∙ x.add_boundary.ensures)) (λ x. begun-off a.pieces.now a.lines.now a.j a.t.now a.x c.requires.1.1.1.1 c.if-first-pieces.t x.if-first-pieces.false x.t-is) c.if-first-pieces.branch-raw))
 
 pub returns : goal.returns
 returns c = let a = c.args in row-added a.pieces.now a.lines.now a.j a.t.now a.x c.requires.1.1.1.1 c.if-first-pieces.t (⊎_elim (λ x. begun-on a.pieces.now a.lines.now a.j a.t.now a.x c.requires.1.1.1.1 c.if-first-pieces.t x.if-first-pieces.true (x.t-is ∙ x.add_boundary.ensures)) (λ x. begun-off a.pieces.now a.lines.now a.j a.t.now a.x c.requires.1.1.1.1 c.if-first-pieces.t x.if-first-pieces.false x.t-is) c.if-first-pieces.branch-raw) c.add_boundary-2.new.t c.add_boundary-2.ensures

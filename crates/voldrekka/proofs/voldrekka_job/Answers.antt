@@ -26,92 +26,92 @@ areaOf s =
 -- what the job leaves of it
 abbrev left_by : AtAfterApplyEnd → Lent
 left_by a =
-    lent_of a.apply.result.counter a.apply.new.1.1.0 a.apply.new.1.1.1.0 a.apply.new.1.1.1.1.0 a.apply.new.1.1.1.1.1.0 a.apply.new.1.1.1.1.1.1.0 a.apply.new.1.1.1.1.1.1.1.0 a.apply.new.1.1.1.1.1.1.1.1.0 a.apply.new.1.1.1.1.1.1.1.1.1.0 a.apply.new.1.1.1.1.1.1.1.1.1.1.1.1.1.1.1.1.1.1.1.0 a.apply.new.1.1.1.1.1.1.1.1.1.1.1.1.1.1.1.1.1.1.1.1.0 a.apply.new.1.1.1.1.1.1.1.1.1.1.1.1.1.1.1.1.1.1.1.1.1.0 a.apply.new.1.1.1.1.1.1.1.1.1.1.1.1.1.1.1.1.1.1.1.1.1.1.0
+    lent_of a.apply.result.counter a.apply.new.lanes a.apply.new.boundaries a.apply.new.roads a.apply.new.junctions a.apply.new.rules a.apply.new.stop_lines a.apply.new.crosswalks a.apply.new.coordinates a.apply.new.created a.apply.new.modified a.apply.new.deleted a.apply.new.warnings
 
 abbrev areaLeft : AtAfterApplyEnd → Tables
 areaLeft a =
-    tables_of a.apply.new.1.1.1.1.1.1.1.1.1.1.1.0 a.apply.new.1.1.1.1.1.1.1.1.1.1.1.1.0 a.apply.new.1.1.1.1.1.1.1.1.1.1.1.1.1.0 a.apply.new.1.1.1.1.1.1.1.1.1.1.1.1.1.1.0 a.apply.new.1.1.1.1.1.1.1.1.1.1.1.1.1.1.1.0 a.apply.new.1.1.1.1.1.1.1.1.1.1.1.1.1.1.1.1.0 a.apply.new.1.1.1.1.1.1.1.1.1.1.1.1.1.1.1.1.1.0 a.apply.new.1.1.1.1.1.1.1.1.1.1.1.1.1.1.1.1.1.1.0
+    tables_of a.apply.new.old_lanes a.apply.new.old_boundaries a.apply.new.old_roads a.apply.new.old_junctions a.apply.new.old_rules a.apply.new.old_stop_lines a.apply.new.old_crosswalks a.apply.new.old_coordinates
 
 -- src/lib.rt:208:1
 pub shape_of-lanes : goal.shape_of-lanes
-shape_of-lanes c = c.apply-end.auto.1.1.0
+shape_of-lanes c = c.apply-end.auto.lanes
 
 -- src/lib.rt:208:1
 pub shape_of-boundaries : goal.shape_of-boundaries
-shape_of-boundaries c = c.apply-end.auto.1.1.1.0
+shape_of-boundaries c = c.apply-end.auto.boundaries
 
 -- src/lib.rt:208:1
 pub shape_of-roads : goal.shape_of-roads
-shape_of-roads c = c.apply-end.auto.1.1.1.1.0
+shape_of-roads c = c.apply-end.auto.roads
 
 -- src/lib.rt:208:1
 pub shape_of-junctions : goal.shape_of-junctions
-shape_of-junctions c = c.apply-end.auto.1.1.1.1.1.0
+shape_of-junctions c = c.apply-end.auto.junctions
 
 -- src/lib.rt:208:1
 pub shape_of-rules : goal.shape_of-rules
-shape_of-rules c = c.apply-end.auto.1.1.1.1.1.1.0
+shape_of-rules c = c.apply-end.auto.rules
 
 -- src/lib.rt:208:1
 pub shape_of-stop_lines : goal.shape_of-stop_lines
-shape_of-stop_lines c = c.apply-end.auto.1.1.1.1.1.1.1.0
+shape_of-stop_lines c = c.apply-end.auto.stop_lines
 
 -- src/lib.rt:208:1
 pub shape_of-crosswalks : goal.shape_of-crosswalks
-shape_of-crosswalks c = c.apply-end.auto.1.1.1.1.1.1.1.1.0
+shape_of-crosswalks c = c.apply-end.auto.crosswalks
 
 -- src/lib.rt:208:1
 pub shape_of-coordinates : goal.shape_of-coordinates
-shape_of-coordinates c = c.apply-end.auto.1.1.1.1.1.1.1.1.1.0
+shape_of-coordinates c = c.apply-end.auto.coordinates
 
 -- src/lib.rt:208:1
 pub shape_of-old_lanes : goal.shape_of-old_lanes
-shape_of-old_lanes c = c.apply-end.auto.1.1.1.1.1.1.1.1.1.1.1.0
+shape_of-old_lanes c = c.apply-end.auto.old_lanes
 
 -- src/lib.rt:208:1
 pub shape_of-old_boundaries : goal.shape_of-old_boundaries
-shape_of-old_boundaries c = c.apply-end.auto.1.1.1.1.1.1.1.1.1.1.1.1.0
+shape_of-old_boundaries c = c.apply-end.auto.old_boundaries
 
 -- src/lib.rt:208:1
 pub shape_of-old_roads : goal.shape_of-old_roads
-shape_of-old_roads c = c.apply-end.auto.1.1.1.1.1.1.1.1.1.1.1.1.1.0
+shape_of-old_roads c = c.apply-end.auto.old_roads
 
 -- src/lib.rt:208:1
 pub shape_of-old_junctions : goal.shape_of-old_junctions
-shape_of-old_junctions c = c.apply-end.auto.1.1.1.1.1.1.1.1.1.1.1.1.1.1.0
+shape_of-old_junctions c = c.apply-end.auto.old_junctions
 
 -- src/lib.rt:208:1
 pub shape_of-old_rules : goal.shape_of-old_rules
-shape_of-old_rules c = c.apply-end.auto.1.1.1.1.1.1.1.1.1.1.1.1.1.1.1.0
+shape_of-old_rules c = c.apply-end.auto.old_rules
 
 -- src/lib.rt:208:1
 pub shape_of-old_stop_lines : goal.shape_of-old_stop_lines
-shape_of-old_stop_lines c = c.apply-end.auto.1.1.1.1.1.1.1.1.1.1.1.1.1.1.1.1.0
+shape_of-old_stop_lines c = c.apply-end.auto.old_stop_lines
 
 -- src/lib.rt:208:1
 pub shape_of-old_crosswalks : goal.shape_of-old_crosswalks
-shape_of-old_crosswalks c = c.apply-end.auto.1.1.1.1.1.1.1.1.1.1.1.1.1.1.1.1.1.0
+shape_of-old_crosswalks c = c.apply-end.auto.old_crosswalks
 
 -- src/lib.rt:208:1
 pub shape_of-old_coordinates : goal.shape_of-old_coordinates
-shape_of-old_coordinates c = c.apply-end.auto.1.1.1.1.1.1.1.1.1.1.1.1.1.1.1.1.1.1.0
+shape_of-old_coordinates c = c.apply-end.auto.old_coordinates
 
 -- src/lib.rt:208:1
 pub shape_of-created : goal.shape_of-created
-shape_of-created c = c.apply-end.auto.1.1.1.1.1.1.1.1.1.1.1.1.1.1.1.1.1.1.1.0
+shape_of-created c = c.apply-end.auto.created
 
 -- src/lib.rt:208:1
 pub shape_of-modified : goal.shape_of-modified
-shape_of-modified c = c.apply-end.auto.1.1.1.1.1.1.1.1.1.1.1.1.1.1.1.1.1.1.1.1.0
+shape_of-modified c = c.apply-end.auto.modified
 
 -- src/lib.rt:208:1
 pub shape_of-deleted : goal.shape_of-deleted
-shape_of-deleted c = c.apply-end.auto.1.1.1.1.1.1.1.1.1.1.1.1.1.1.1.1.1.1.1.1.1.0
+shape_of-deleted c = c.apply-end.auto.deleted
 
 -- src/lib.rt:208:1
 pub shape_of-warnings : goal.shape_of-warnings
-shape_of-warnings c = c.apply-end.auto.1.1.1.1.1.1.1.1.1.1.1.1.1.1.1.1.1.1.1.1.1.1.0
+shape_of-warnings c = c.apply-end.auto.warnings
 
 -- src/lib.rt:208:1
 pub returns : goal.returns
-returns c = all-jobs (job_of c.args.commands.now) c.Job-of.result c.preset-tolerance.result (lentOn c.before.before.before.before.before.before.before.before.before.before.before.before.before.before.before.before.before.before.before.before.before.before.before.before.before.before.before.before.before.before.before.before.before.before.before.before.before.before.before.before.before.before.before.before.before.before.before.before.before.before.before.before.before.before.before.before.before.before.before.before.before.before.before.before.before.before.before.before.before.before.before.before.before.before.before.before.before.before.before.before.before.before.before.before.before.before.before) (left_by c.before.before.before.before.before.before.before.before.before.before.before.before.before.before.before.before.before.before.before.before.before.before.before.before.before.before.before.before.before.before.before.before.before.before.before.before.before.before.before.before.before.before) (areaOf c.before.before.before.before.before.before.before.before.before.before.before.before.before.before.before.before.before.before.before.before.before.before.before.before.before.before.before.before.before.before.before.before.before.before.before.before.before.before.before.before.before.before.before.before.before.before.before.before.before.before.before.before.before.before.before.before.before.before.before.before.before.before.before.before.before.before.before.before.before.before.before.before.before.before.before.before.before.before.before.before.before.before.before.before.before.before.before) (areaLeft c.before.before.before.before.before.before.before.before.before.before.before.before.before.before.before.before.before.before.before.before.before.before.before.before.before.before.before.before.before.before.before.before.before.before.before.before.before.before.before.before.before.before) c.apply-end.result.answer c.tell.result c.Job-of.ensures c.preset-tolerance.ensures c.apply-end.ensures c.tell.ensures
+returns c = all-jobs (job_of c.args.commands.now) c.job_of-made.result c.preset-tolerance.result (lentOn c.before.before.before.before.before.before.before.before.before.before.before.before.before.before.before.before.before.before.before.before.before.before.before.before.before.before.before.before.before.before.before.before.before.before.before.before.before.before.before.before.before.before.before.before.before.before.before.before.before.before.before.before.before.before.before.before.before.before.before.before.before.before.before.before.before.before.before.before.before.before.before.before.before.before.before.before.before.before.before.before.before.before.before.before.before.before.before) (left_by c.before.before.before.before.before.before.before.before.before.before.before.before.before.before.before.before.before.before.before.before.before.before.before.before.before.before.before.before.before.before.before.before.before.before.before.before.before.before.before.before.before.before) (areaOf c.before.before.before.before.before.before.before.before.before.before.before.before.before.before.before.before.before.before.before.before.before.before.before.before.before.before.before.before.before.before.before.before.before.before.before.before.before.before.before.before.before.before.before.before.before.before.before.before.before.before.before.before.before.before.before.before.before.before.before.before.before.before.before.before.before.before.before.before.before.before.before.before.before.before.before.before.before.before.before.before.before.before.before.before.before.before.before) (areaLeft c.before.before.before.before.before.before.before.before.before.before.before.before.before.before.before.before.before.before.before.before.before.before.before.before.before.before.before.before.before.before.before.before.before.before.before.before.before.before.before.before.before.before) c.apply-end.result.answer c.tell.result c.job_of-made.ensures c.preset-tolerance.ensures c.apply-end.ensures c.tell.ensures
