@@ -83,6 +83,7 @@ module _ (m : Map) (p : Point2) where
 
   pub all_there : (ls : List Lane) (k : Passed) → all_cross m p ls ≡ yield k → (l : Lane) → In l ls → There m l
   unfolding all_cross
+  all_there [] k h l i = elim i [ ]
   all_there (n ∷ ls) k h l i =
       let (a, e1, h1) = bound (crosses n.left.boundary p (boundary m n.left.boundary)) (λ a. crosses n.right.boundary p (boundary m n.right.boundary) >>= (λ b. all_cross m p ls)) k h in
       let (b, e2, h2) = bound (crosses n.right.boundary p (boundary m n.right.boundary)) (λ b. all_cross m p ls) k h1 in

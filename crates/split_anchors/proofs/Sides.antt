@@ -33,6 +33,7 @@ module _ (group : List ℕ) (ls : List Lane) (p : Point2) where
   -- every boundary has a piece
   pub piece-of : (next : ℕ) (bs : List Boundary) (b : Boundary) → In b bs → (k : ℕ) × (In (piece_of group ls p k b) (pieces group ls p next bs))
   unfolding pieces
+  piece-of next [] b x' = elim x' [ ]
   piece-of next (c ∷ bs) b here = (next, here)
   piece-of next (c ∷ bs) b (there i) = let (k, j) = piece-of (next + piece_ids (piece_of group ls p next c)) bs b i in (k, there j)
 

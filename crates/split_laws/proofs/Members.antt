@@ -22,12 +22,14 @@ pub data In {A : Type 0} (x : A) : List A → Type 0 where
 module _ {A : Type 0} where
   pub all_in : (q : A → Bool) (xs : List A) (x : A) → In x xs → all q xs ≡ true → q x ≡ true
   unfolding all
+  all_in q [] x i h = elim i [ ]
   all_in q (y ∷ ys) x here h = and-fst (q y) (all q ys) h
   all_in q (y ∷ ys) x (there i) h = all_in q ys x i (and-snd (q y) (all q ys) h)
 
   -- by its key
   pub in_found : (key : A → ℕ) (xs : List A) (x : A) → ascending (map key xs) ≡ true → In x xs → find (λ y. eqb (key y) (key x)) xs ≡ some x
   unfolding find ascending
+  in_found key [] x up i = elim i [ ]
   in_found key (y ∷ ys) x up here = rw (eq-eqb (key y) (key y) refl)
   in_found key (y ∷ ys) x up (there i) =
       let l : key y < key x = ltb-true (key y) (key x) (all_in (λ z. ltb (key y) (key z)) ys x i (sym (all_map (ltb (key y)) key ys) ∙ above-all (key y) (map key ys) up)) in
@@ -43,6 +45,7 @@ module _ {A : Type 0} where
       go false f r = there (r f)
 
   pub in_front : (xs ys : List A) (x : A) → In x xs → In x (xs ++ ys)
+  in_front [] ys x i = elim i [ ]
   in_front (y ∷ xs) ys x here = here
   in_front (y ∷ xs) ys x (there i) = there (in_front xs ys x i)
 
@@ -52,6 +55,7 @@ module _ {A : Type 0} where
 
   pub in_kept : (q : A → Bool) (xs : List A) (x : A) → In x xs → q x ≡ true → In x (keep q xs)
   unfolding keep
+  in_kept q [] x i h = elim i [ ]
   in_kept q (y ∷ ys) x here h = rw h here
   in_kept q (y ∷ ys) x (there i) h = go (q y) (in_kept q ys x i h)
     where
@@ -67,6 +71,7 @@ module _ {A : Type 0} where
 
   pub in_any : (q : A → Bool) (xs : List A) (x : A) → In x xs → q x ≡ true → any q xs ≡ true
   unfolding any
+  in_any q [] x i h = elim i [ ]
   in_any q (y ∷ ys) x here h = rw h
   in_any q (y ∷ ys) x (there i) h = go (q y) (in_any q ys x i h)
     where
@@ -76,11 +81,13 @@ module _ {A : Type 0} where
 
 module _ {A B : Type 0} where
   pub in_map : (f : A → B) (xs : List A) (x : A) → In x xs → In (f x) (map f xs)
+  in_map f [] x i = elim i [ ]
   in_map f (y ∷ xs) x here = here
   in_map f (y ∷ xs) x (there i) = there (in_map f xs x i)
 
   pub in_each : (f : A → List B) (xs : List A) (x : A) (y : B) → In x xs → In y (f x) → In y (each f xs)
   unfolding each
+  in_each f [] x y i j = elim i [ ]
   in_each f (z ∷ xs) x y here j = in_front (f z) (each f xs) y j
   in_each f (z ∷ xs) x y (there i) j = in_behind (f z) (each f xs) y (in_each f xs x y i j)
 
@@ -90,16 +97,19 @@ in_numbered {A} n xs j x i = rw (numbered-list n xs) at (in_map (λ (z : ℕ × 
 
 -- its place
 pub place_in : {A : Type 0} (xs : List A) (x : A) → In x xs → ℕ
+place_in [] x i = elim i [ ]
 place_in (y ∷ xs) x here = 0
 place_in (y ∷ xs) x (there i) = suc (place_in xs x i)
 
 pub place-within : {A : Type 0} (xs : List A) (x : A) (i : In x xs) → place_in xs x i < length xs
 unfolding place_in
+place-within [] x i = elim i [ ]
 place-within (y ∷ xs) x here = omega arith
 place-within (y ∷ xs) x (there i) = let h = place-within xs x i in omega arith
 
 pub place_map : {A B : Type 0} (f : A → B) (d : B) (xs : List A) (x : A) (i : In x xs) → get_or (map f xs) (place_in xs x i) d ≡ f x
 unfolding place_in
+place_map f d [] x i = elim i [ ]
 place_map f d (y ∷ xs) x here = refl
 place_map f d (y ∷ xs) x (there i) = place_map f d xs x i
 

@@ -50,4 +50,4 @@ pub link-requires : goal.link-requires
 link-requires c = let s = c.before.before.before.before.before.before.before.before.before.before.before.before.before.before.before.before.before.before.before.before.before.before.before.before.before.before.before.before.before.before.before in link-may s.args.counter (held s) s.requires s.args.from s.args.to c.in-At.i c.in-At-other.j (found s.args.lanes.now s.args.from c.in-At.i c.lane-found.result c.lane-found.ensures c.in-At.is) (found s.args.lanes.now s.args.to c.in-At-other.j c.lane-other.result c.lane-other.ensures c.in-At-other.is) c.leads-linked.result c.leads-linked.ensures
 
 pub returns : goal.returns
-returns c = let s = c.before.before.before.before.before.before.before.before.before.before.before.before.before.before.before.before.before.before.before.before.before.before.before.before.before.before.before.before.before.before.before.before.before.before.before.before.before.before in connected s.args.tolerance (lent s) s.requires (omega (arith, s.well_formed.0.1)) s.args.from c.in-At.i (found s.args.lanes.now s.args.from c.in-At.i c.lane-found.result c.lane-found.ensures c.in-At.is) s.args.to c.in-At-other.j (found s.args.lanes.now s.args.to c.in-At-other.j c.lane-other.result c.lane-other.ensures c.in-At-other.is) c.link.new.lanes c.link.new.modified c.link.new.warnings.0 c.link.result c.leads-linked.result c.leads-linked.ensures c.if-from-to.false c.gapped-gap.result c.gapped-gap.ensures c.link.ensures
+returns c = let s = c.before.before.before.before.before.before.before.before.before.before.before.before.before.before.before.before.before.before.before.before.before.before.before.before.before.before.before.before.before.before.before.before.before.before.before.before.before.before in connected s.args.tolerance (lent s) s.requires (omega (arith, s.well_formed.0.1)) s.args.from c.in-At.i (found s.args.lanes.now s.args.from c.in-At.i c.lane-found.result c.lane-found.ensures c.in-At.is) s.args.to c.in-At-other.j (found s.args.lanes.now s.args.to c.in-At-other.j c.lane-other.result c.lane-other.ensures c.in-At-other.is) c.link.new.lanes c.link.new.modified c.link.new.warnings c.link.result c.leads-linked.result c.leads-linked.ensures c.if-from-to.false c.gapped-gap.result c.gapped-gap.ensures c.link.ensures

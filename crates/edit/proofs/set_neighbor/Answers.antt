@@ -35,7 +35,7 @@ pub free_slot-requires : goal.free_slot-requires
 free_slot-requires c = let s = c.before.before.before.before.before.before.before.before.before.before.before.before.before.before.before.before.before.before.before.before.before.before.before in leads-may s.args.counter (held s) s.requires s.args.lane c.in-At.i (found s.args.lanes.now s.args.lane c.in-At.i c.lane-found.result c.lane-found.ensures c.in-At.is)
 
 pub returns-in_default-neighbor : goal.returns-in_default-neighbor
-returns-in_default-neighbor c = let s = c.before.before.before.before.before.before.before.before.before.before.before.before.before.before.before.before.before.before.before.before.before.before.before.before.before.before.before.before.before.before in freed s.args.tolerance (lent s) s.requires (omega (arith, s.well_formed.0.1)) s.args.lane c.in-At.i (found s.args.lanes.now s.args.lane c.in-At.i c.lane-found.result c.lane-found.ensures c.in-At.is) s.args.side s.args.neighbor c.free_slot.new.lanes c.free_slot.new.modified c.free_slot.new.warnings.0 c.free_slot.result c.in_default-neighbor.is c.free_slot.ensures
+returns-in_default-neighbor c = let s = c.before.before.before.before.before.before.before.before.before.before.before.before.before.before.before.before.before.before.before.before.before.before.before.before.before.before.before.before.before.before in freed s.args.tolerance (lent s) s.requires (omega (arith, s.well_formed.0.1)) s.args.lane c.in-At.i (found s.args.lanes.now s.args.lane c.in-At.i c.lane-found.result c.lane-found.ensures c.in-At.is) s.args.side s.args.neighbor c.free_slot.new.lanes c.free_slot.new.modified c.free_slot.new.warnings c.free_slot.result c.in_default-neighbor.is c.free_slot.ensures
 
 pub lane-other-requires : goal.lane-other-requires
 lane-other-requires c = lanes_are_sorted c.args.counter (held c.before.before.before.before.before.before.before.before.before.before.before.before.before.before.before.before.before.before.before.before.before.before) c.requires
@@ -50,4 +50,4 @@ pub set_slot-requires : goal.set_slot-requires
 set_slot-requires c = let s = c.before.before.before.before.before.before.before.before.before.before.before.before.before.before.before.before.before.before.before.before.before.before.before.before.before.before.before.before.before.before.before in set-may s.args.counter (held s) s.requires s.args.lane c.in-Some.n.lane c.in-At.i c.in-At-other.j (found s.args.lanes.now s.args.lane c.in-At.i c.lane-found.result c.lane-found.ensures c.in-At.is) (found s.args.lanes.now c.in-Some.n.lane c.in-At-other.j c.lane-other.result c.lane-other.ensures c.in-At-other.is) c.if-n-lane.false
 
 pub returns : goal.returns
-returns c = let s = c.before.before.before.before.before.before.before.before.before.before.before.before.before.before.before.before.before.before.before.before.before.before.before.before.before.before.before.before.before.before.before.before.before.before.before.before.before.before in besides s.args.tolerance (lent s) s.requires (omega (arith, s.well_formed.0.1)) s.args.lane c.in-At.i (found s.args.lanes.now s.args.lane c.in-At.i c.lane-found.result c.lane-found.ensures c.in-At.is) s.args.side s.args.neighbor c.set_slot.new.lanes c.set_slot.new.modified c.set_slot.new.warnings.0 c.set_slot.result c.in-Some.n c.in-At-other.j c.in-Some.is (found s.args.lanes.now c.in-Some.n.lane c.in-At-other.j c.lane-other.result c.lane-other.ensures c.in-At-other.is) c.if-n-lane.false c.set_slot.ensures
+returns c = let s = c.before.before.before.before.before.before.before.before.before.before.before.before.before.before.before.before.before.before.before.before.before.before.before.before.before.before.before.before.before.before.before.before.before.before.before.before.before.before in besides s.args.tolerance (lent s) s.requires (omega (arith, s.well_formed.0.1)) s.args.lane c.in-At.i (found s.args.lanes.now s.args.lane c.in-At.i c.lane-found.result c.lane-found.ensures c.in-At.is) s.args.side s.args.neighbor c.set_slot.new.lanes c.set_slot.new.modified c.set_slot.new.warnings c.set_slot.result c.in-Some.n c.in-At-other.j c.in-Some.is (found s.args.lanes.now c.in-Some.n.lane c.in-At-other.j c.lane-other.result c.lane-other.ensures c.in-At-other.is) c.if-n-lane.false c.set_slot.ensures

@@ -31,19 +31,19 @@ pub list_named-requires : goal.list_named-requires
 list_named-requires c =
     let s = c in
     let a = s.args in
-    (s.requires.formed, named-room (get_or a.lanes.now (1 + a.i * 52) 0) (tables a.lanes.now a.boundaries.now a.roads.now a.junctions.now a.rules.now) a.modified.now a.deleted.now a.warnings.now c.own_boundaries-own.result (gone_with a.lanes.now a.i a.boundaries.now) c.own_boundaries-own.ensures c.count_named-named.result c.count-orphans.result c.count_named-named.ensures c.count-orphans.ensures (sym c.fits2.ensures ∙ c.if-fits.true))
+    (s.requires.formed, named-room (get_or a.lanes.now (1 + a.i * 52) 0) (tables a.lanes.now a.boundaries.now a.roads.now a.junctions.now a.rules.now) a.modified.now a.deleted.now a.warnings.now c.own_boundaries-own.result (gone_with a.lanes.now a.i a.boundaries.now) c.own_boundaries-own.ensures c.count_named-named.result c.count-orphans.result c.count_named-named.ensures c.count-orphans.ensures (sym c.fits.ensures ∙ c.if-fits.true))
 
 pub list_gone-requires : goal.list_gone-requires
 list_gone-requires c =
     let s = c in
     let a = s.args in
-    gone-room (get_or a.lanes.now (1 + a.i * 52) 0) (tables a.lanes.now a.boundaries.now a.roads.now a.junctions.now a.rules.now) a.modified.now a.deleted.now a.warnings.now c.own_boundaries-own.result (gone_with a.lanes.now a.i a.boundaries.now) c.own_boundaries-own.ensures c.count_named-named.result c.count-orphans.result c.count_named-named.ensures c.count-orphans.ensures (sym c.fits2.ensures ∙ c.if-fits.true)
+    gone-room (get_or a.lanes.now (1 + a.i * 52) 0) (tables a.lanes.now a.boundaries.now a.roads.now a.junctions.now a.rules.now) a.modified.now a.deleted.now a.warnings.now c.own_boundaries-own.result (gone_with a.lanes.now a.i a.boundaries.now) c.own_boundaries-own.ensures c.count_named-named.result c.count-orphans.result c.count_named-named.ensures c.count-orphans.ensures (sym c.fits.ensures ∙ c.if-fits.true)
 
 pub warn-requires : goal.warn-requires
 warn-requires c =
     let s = c in
     let a = s.args in
-    (orphans_formed a.rules.now s.requires.formed.rules, warn_room (get_or a.lanes.now (1 + a.i * 52) 0) (tables a.lanes.now a.boundaries.now a.roads.now a.junctions.now a.rules.now) a.modified.now a.deleted.now a.warnings.now c.own_boundaries-own.result (gone_with a.lanes.now a.i a.boundaries.now) c.own_boundaries-own.ensures c.count_named-named.result c.count-orphans.result c.count_named-named.ensures c.count-orphans.ensures (sym c.fits2.ensures ∙ c.if-fits.true))
+    (orphans_formed a.rules.now s.requires.formed.rules, warn_room (get_or a.lanes.now (1 + a.i * 52) 0) (tables a.lanes.now a.boundaries.now a.roads.now a.junctions.now a.rules.now) a.modified.now a.deleted.now a.warnings.now c.own_boundaries-own.result (gone_with a.lanes.now a.i a.boundaries.now) c.own_boundaries-own.ensures c.count_named-named.result c.count-orphans.result c.count_named-named.ensures c.count-orphans.ensures (sym c.fits.ensures ∙ c.if-fits.true))
 
 pub write-requires : goal.write-requires
 write-requires c = (c.requires.formed, c.requires.boundaries_are_sorted)
@@ -55,8 +55,8 @@ returns-then-fits c =
     let ids = gone_with a.lanes.now a.i a.boundaries.now in
     let w = c.write.new in
     lane-read a.lanes.now a.i t a.modified.now a.deleted.now a.warnings.now ids _
-    (done_removal (get_or a.lanes.now (1 + a.i * 52) 0) t a.modified.now a.deleted.now a.warnings.now c.own_boundaries-own.result ids c.own_boundaries-own.ensures c.count_named-named.result c.count-orphans.result c.count_named-named.ensures c.count-orphans.ensures (sym c.fits2.ensures ∙ c.if-fits.true)
-    (tables w.0 w.1.0 w.1.1.0 w.1.1.1.0 w.1.1.1.1.0) c.list_named.new.modified.0 c.list_gone.new.deleted.0 c.warn.new.warnings.0 c.write.ensures c.list_named.ensures c.list_gone.ensures c.warn.ensures)
+    (done_removal (get_or a.lanes.now (1 + a.i * 52) 0) t a.modified.now a.deleted.now a.warnings.now c.own_boundaries-own.result ids c.own_boundaries-own.ensures c.count_named-named.result c.count-orphans.result c.count_named-named.ensures c.count-orphans.ensures (sym c.fits.ensures ∙ c.if-fits.true)
+    (tables w.lanes w.boundaries w.roads w.junctions w.rules) c.list_named.new.modified c.list_gone.new.deleted c.warn.new.warnings c.write.ensures c.list_named.ensures c.list_gone.ensures c.warn.ensures)
 
 pub returns : goal.returns
 returns c =
@@ -64,4 +64,4 @@ returns c =
     let t = tables a.lanes.now a.boundaries.now a.roads.now a.junctions.now a.rules.now in
     let ids = gone_with a.lanes.now a.i a.boundaries.now in
     lane-read a.lanes.now a.i t a.modified.now a.deleted.now a.warnings.now ids _
-    (refused_removal (get_or a.lanes.now (1 + a.i * 52) 0) t a.modified.now a.deleted.now a.warnings.now c.own_boundaries-own.result ids c.own_boundaries-own.ensures c.count_named-named.result c.count-orphans.result c.count_named-named.ensures c.count-orphans.ensures (sym c.fits2.ensures ∙ c.if-fits.false))
+    (refused_removal (get_or a.lanes.now (1 + a.i * 52) 0) t a.modified.now a.deleted.now a.warnings.now c.own_boundaries-own.result ids c.own_boundaries-own.ensures c.count_named-named.result c.count-orphans.result c.count_named-named.ensures c.count-orphans.ensures (sym c.fits.ensures ∙ c.if-fits.false))

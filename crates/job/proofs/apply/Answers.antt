@@ -40,7 +40,7 @@ mapOf s =
 
 abbrev old_of : AtStart → Tables
 old_of s =
-    tables_of s.args.old-lanes.now s.args.old-boundaries.now s.args.old-roads.now s.args.old-junctions.now s.args.old-rules.now s.args.old-stop-lines.now s.args.old-crosswalks.now s.args.old-coordinates.now
+    tables_of s.args.old_lanes.now s.args.old_boundaries.now s.args.old_roads.now s.args.old_junctions.now s.args.old_rules.now s.args.old_stop_lines.now s.args.old_crosswalks.now s.args.old_coordinates.now
 
 abbrev lentOn : AtStart → Tables → Lent
 lentOn s z =
@@ -66,17 +66,17 @@ told_of k = k.before.before.before.before.before.before.before.before.before.bef
 -- the second area with the copy, and its front, which the edits read
 abbrev areaOf : AtAfterKeepCopy → Tables
 areaOf k =
-    tables_of k.keep-copy.new.1.1.1.1.1.1.1.1.0 k.keep-copy.new.1.1.1.1.1.1.1.1.1.0 k.keep-copy.new.1.1.1.1.1.1.1.1.1.1.0 k.keep-copy.new.1.1.1.1.1.1.1.1.1.1.1.0 k.keep-copy.new.1.1.1.1.1.1.1.1.1.1.1.1.0 k.keep-copy.new.1.1.1.1.1.1.1.1.1.1.1.1.1.0 k.keep-copy.new.1.1.1.1.1.1.1.1.1.1.1.1.1.1.0 k.keep-copy.new.1.1.1.1.1.1.1.1.1.1.1.1.1.1.1.0
+    tables_of k.keep-copy.new.old_lanes k.keep-copy.new.old_boundaries k.keep-copy.new.old_roads k.keep-copy.new.old_junctions k.keep-copy.new.old_rules k.keep-copy.new.old_stop_lines k.keep-copy.new.old_crosswalks k.keep-copy.new.old_coordinates
 
 abbrev frontOf : AtAfterKeepCopy → Tables
 frontOf k =
     let t = mapOf (start_of (told_of k)) in
-    tables_of (take (length t.lanes) k.keep-copy.new.1.1.1.1.1.1.1.1.0) (take (length t.boundaries) k.keep-copy.new.1.1.1.1.1.1.1.1.1.0) (take (length t.roads) k.keep-copy.new.1.1.1.1.1.1.1.1.1.1.0) (take (length t.junctions) k.keep-copy.new.1.1.1.1.1.1.1.1.1.1.1.0) (take (length t.rules) k.keep-copy.new.1.1.1.1.1.1.1.1.1.1.1.1.0) (take (length t.stop_lines) k.keep-copy.new.1.1.1.1.1.1.1.1.1.1.1.1.1.0) (take (length t.crosswalks) k.keep-copy.new.1.1.1.1.1.1.1.1.1.1.1.1.1.1.0) (take (length t.coordinates) k.keep-copy.new.1.1.1.1.1.1.1.1.1.1.1.1.1.1.1.0)
+    tables_of (take (length t.lanes) k.keep-copy.new.old_lanes) (take (length t.boundaries) k.keep-copy.new.old_boundaries) (take (length t.roads) k.keep-copy.new.old_roads) (take (length t.junctions) k.keep-copy.new.old_junctions) (take (length t.rules) k.keep-copy.new.old_rules) (take (length t.stop_lines) k.keep-copy.new.old_stop_lines) (take (length t.crosswalks) k.keep-copy.new.old_crosswalks) (take (length t.coordinates) k.keep-copy.new.old_coordinates)
 
 -- what the edits leave
 abbrev left_by : AtAfterMake → Lent
 left_by m =
-    lent_of m.make.result.counter m.make.new.1.1.0 m.make.new.1.1.1.0 m.make.new.1.1.1.1.0 m.make.new.1.1.1.1.1.0 m.make.new.1.1.1.1.1.1.0 m.make.new.1.1.1.1.1.1.1.0 m.make.new.1.1.1.1.1.1.1.1.0 m.make.new.1.1.1.1.1.1.1.1.1.0 m.make.new.1.1.1.1.1.1.1.1.1.1.1.1.1.1.1.1.1.1.1.0 m.make.new.1.1.1.1.1.1.1.1.1.1.1.1.1.1.1.1.1.1.1.1.0 m.make.new.1.1.1.1.1.1.1.1.1.1.1.1.1.1.1.1.1.1.1.1.1.0 m.make.new.1.1.1.1.1.1.1.1.1.1.1.1.1.1.1.1.1.1.1.1.1.1.0
+    lent_of m.make.result.counter m.make.new.lanes m.make.new.boundaries m.make.new.roads m.make.new.junctions m.make.new.rules m.make.new.stop_lines m.make.new.crosswalks m.make.new.coordinates m.make.new.created m.make.new.modified m.make.new.deleted m.make.new.warnings
 
 -- the three tests
 passes : (e : AtInDefault)
@@ -92,14 +92,14 @@ room k =
     let s = start_of (told_of k) in
     let f = fits-of (mapOf s) (old_of s) (passes (told_of k)).1.1 in
     record {
-      lanes_fit = let a = f.lanes_fit in let b = k.keep_copy.auto.1.1.1.1.1.1.1.1.0 in omega (arith, a, b);
-      boundaries_fit = let a = f.boundaries_fit in let b = k.keep_copy.auto.1.1.1.1.1.1.1.1.1.0 in omega (arith, a, b);
-      roads-fit = let a = f.roads-fit in let b = k.keep_copy.auto.1.1.1.1.1.1.1.1.1.1.0 in omega (arith, a, b);
-      junctions-fit = let a = f.junctions-fit in let b = k.keep_copy.auto.1.1.1.1.1.1.1.1.1.1.1.0 in omega (arith, a, b);
-      rules-fit = let a = f.rules-fit in let b = k.keep_copy.auto.1.1.1.1.1.1.1.1.1.1.1.1.0 in omega (arith, a, b);
-      stop-lines-fit = let a = f.stop-lines-fit in let b = k.keep_copy.auto.1.1.1.1.1.1.1.1.1.1.1.1.1.0 in omega (arith, a, b);
-      crosswalks-fit = let a = f.crosswalks-fit in let b = k.keep_copy.auto.1.1.1.1.1.1.1.1.1.1.1.1.1.1.0 in omega (arith, a, b);
-      coordinates-fit = let a = f.coordinates-fit in let b = k.keep_copy.auto.1.1.1.1.1.1.1.1.1.1.1.1.1.1.1.0 in omega (arith, a, b);
+      lanes_fit = let a = f.lanes_fit in let b = k.keep_copy.auto.old_lanes in omega (arith, a, b);
+      boundaries_fit = let a = f.boundaries_fit in let b = k.keep_copy.auto.old_boundaries in omega (arith, a, b);
+      roads-fit = let a = f.roads-fit in let b = k.keep_copy.auto.old_roads in omega (arith, a, b);
+      junctions-fit = let a = f.junctions-fit in let b = k.keep_copy.auto.old_junctions in omega (arith, a, b);
+      rules-fit = let a = f.rules-fit in let b = k.keep_copy.auto.old_rules in omega (arith, a, b);
+      stop-lines-fit = let a = f.stop-lines-fit in let b = k.keep_copy.auto.old_stop_lines in omega (arith, a, b);
+      crosswalks-fit = let a = f.crosswalks-fit in let b = k.keep_copy.auto.old_crosswalks in omega (arith, a, b);
+      coordinates-fit = let a = f.coordinates-fit in let b = k.keep_copy.auto.old_coordinates in omega (arith, a, b);
     }
 
 -- src/lib.rt:111:9
@@ -240,7 +240,7 @@ slice_bounds-make-end-15 c = (room c.before.before.before.before.before.before.b
 
 -- src/lib.rt:171:9
 pub slice_bounds-make-end-16 : goal.slice_bounds-make-end-16
-slice_bounds-make-end-16 c = sym (length-take-le (length c.args.coordinates.now) c.keep_copy.new.old_coordinates.0 (room c.before.before.before.before.before.before.before.before.before.before.before.before.before.before.before.before.before.before.before.before.before.before.before.before.before).coordinates-fit)
+slice_bounds-make-end-16 c = sym (length-take-le (length c.args.coordinates.now) c.keep_copy.new.old_coordinates (room c.before.before.before.before.before.before.before.before.before.before.before.before.before.before.before.before.before.before.before.before.before.before.before.before.before).coordinates-fit)
 
 -- src/lib.rt:152:5
 pub make-requires : goal.make-requires
@@ -248,83 +248,83 @@ make-requires c = ((passes c.before.before.before.before.before.before.before.be
 
 -- src/lib.rt:84:1
 pub shape_of-lanes : goal.shape_of-lanes
-shape_of-lanes c = c.make.auto.1.1.0
+shape_of-lanes c = c.make.auto.lanes
 
 -- src/lib.rt:84:1
 pub shape_of-boundaries : goal.shape_of-boundaries
-shape_of-boundaries c = c.make.auto.1.1.1.0
+shape_of-boundaries c = c.make.auto.boundaries
 
 -- src/lib.rt:84:1
 pub shape_of-roads : goal.shape_of-roads
-shape_of-roads c = c.make.auto.1.1.1.1.0
+shape_of-roads c = c.make.auto.roads
 
 -- src/lib.rt:84:1
 pub shape_of-junctions : goal.shape_of-junctions
-shape_of-junctions c = c.make.auto.1.1.1.1.1.0
+shape_of-junctions c = c.make.auto.junctions
 
 -- src/lib.rt:84:1
 pub shape_of-rules : goal.shape_of-rules
-shape_of-rules c = c.make.auto.1.1.1.1.1.1.0
+shape_of-rules c = c.make.auto.rules
 
 -- src/lib.rt:84:1
 pub shape_of-stop_lines : goal.shape_of-stop_lines
-shape_of-stop_lines c = c.make.auto.1.1.1.1.1.1.1.0
+shape_of-stop_lines c = c.make.auto.stop_lines
 
 -- src/lib.rt:84:1
 pub shape_of-crosswalks : goal.shape_of-crosswalks
-shape_of-crosswalks c = c.make.auto.1.1.1.1.1.1.1.1.0
+shape_of-crosswalks c = c.make.auto.crosswalks
 
 -- src/lib.rt:84:1
 pub shape_of-coordinates : goal.shape_of-coordinates
-shape_of-coordinates c = c.make.auto.1.1.1.1.1.1.1.1.1.0
+shape_of-coordinates c = c.make.auto.coordinates
 
 -- src/lib.rt:84:1
 pub shape_of-old_lanes : goal.shape_of-old_lanes
-shape_of-old_lanes c = c.keep_copy.auto.1.1.1.1.1.1.1.1.0
+shape_of-old_lanes c = c.keep_copy.auto.old_lanes
 
 -- src/lib.rt:84:1
 pub shape_of-old_boundaries : goal.shape_of-old_boundaries
-shape_of-old_boundaries c = c.keep_copy.auto.1.1.1.1.1.1.1.1.1.0
+shape_of-old_boundaries c = c.keep_copy.auto.old_boundaries
 
 -- src/lib.rt:84:1
 pub shape_of-old_roads : goal.shape_of-old_roads
-shape_of-old_roads c = c.keep_copy.auto.1.1.1.1.1.1.1.1.1.1.0
+shape_of-old_roads c = c.keep_copy.auto.old_roads
 
 -- src/lib.rt:84:1
 pub shape_of-old_junctions : goal.shape_of-old_junctions
-shape_of-old_junctions c = c.keep_copy.auto.1.1.1.1.1.1.1.1.1.1.1.0
+shape_of-old_junctions c = c.keep_copy.auto.old_junctions
 
 -- src/lib.rt:84:1
 pub shape_of-old_rules : goal.shape_of-old_rules
-shape_of-old_rules c = c.keep_copy.auto.1.1.1.1.1.1.1.1.1.1.1.1.0
+shape_of-old_rules c = c.keep_copy.auto.old_rules
 
 -- src/lib.rt:84:1
 pub shape_of-old_stop_lines : goal.shape_of-old_stop_lines
-shape_of-old_stop_lines c = c.keep_copy.auto.1.1.1.1.1.1.1.1.1.1.1.1.1.0
+shape_of-old_stop_lines c = c.keep_copy.auto.old_stop_lines
 
 -- src/lib.rt:84:1
 pub shape_of-old_crosswalks : goal.shape_of-old_crosswalks
-shape_of-old_crosswalks c = c.keep_copy.auto.1.1.1.1.1.1.1.1.1.1.1.1.1.1.0
+shape_of-old_crosswalks c = c.keep_copy.auto.old_crosswalks
 
 -- src/lib.rt:84:1
 pub shape_of-old_coordinates : goal.shape_of-old_coordinates
-shape_of-old_coordinates c = c.keep_copy.auto.1.1.1.1.1.1.1.1.1.1.1.1.1.1.1.0
+shape_of-old_coordinates c = c.keep_copy.auto.old_coordinates
 
 -- src/lib.rt:84:1
 pub shape_of-created : goal.shape_of-created
-shape_of-created c = c.make.auto.1.1.1.1.1.1.1.1.1.1.1.1.1.1.1.1.1.1.1.0
+shape_of-created c = c.make.auto.created
 
 -- src/lib.rt:84:1
 pub shape_of-modified : goal.shape_of-modified
-shape_of-modified c = c.make.auto.1.1.1.1.1.1.1.1.1.1.1.1.1.1.1.1.1.1.1.1.0
+shape_of-modified c = c.make.auto.modified
 
 -- src/lib.rt:84:1
 pub shape_of-deleted : goal.shape_of-deleted
-shape_of-deleted c = c.make.auto.1.1.1.1.1.1.1.1.1.1.1.1.1.1.1.1.1.1.1.1.1.0
+shape_of-deleted c = c.make.auto.deleted
 
 -- src/lib.rt:84:1
 pub shape_of-warnings : goal.shape_of-warnings
-shape_of-warnings c = c.make.auto.1.1.1.1.1.1.1.1.1.1.1.1.1.1.1.1.1.1.1.1.1.1.0
+shape_of-warnings c = c.make.auto.warnings
 
 -- src/lib.rt:84:1
 pub returns : goal.returns

@@ -1,4 +1,5 @@
-use mathlib.Core.Path.{sym, ◌∙◌}
+use mathlib.Core.Bool.{not}
+use mathlib.Core.Path.{sym, ◌∙◌, ap}
 use borrow.Author.Tests.{le-leb, lt-leb, not-false, not-true}
 use Rattle.tables.specs.View.{Tables, tables_of}
 use Rattle.job.proofs.Ends.{many-refused, short-refused, unsound_refused, all-passed}
@@ -17,7 +18,7 @@ mapOf s =
 
 abbrev old_of : AtStart → Tables
 old_of s =
-    tables_of s.args.old-lanes.now s.args.old-boundaries.now s.args.old-roads.now s.args.old-junctions.now s.args.old-rules.now s.args.old-stop-lines.now s.args.old-crosswalks.now s.args.old-coordinates.now
+    tables_of s.args.old_lanes.now s.args.old_boundaries.now s.args.old_roads.now s.args.old_junctions.now s.args.old_rules.now s.args.old_stop_lines.now s.args.old_crosswalks.now s.args.old_coordinates.now
 
 -- src/lib.rt:44:9
 pub returns-then-edits-gt-MAX_EDITS : goal.returns-then-edits-gt-MAX_EDITS
@@ -29,7 +30,7 @@ sound-requires c = tt
 
 -- src/lib.rt:57:9
 pub returns-then-not-sound : goal.returns-then-not-sound
-returns-then-not-sound c = sym (unsound_refused c.args.counter (mapOf c.before.before.before.before.before.before.before.before.before.before.before.before.before.before.before.before.before.before.before.before) c.args.edits (old_of c.before.before.before.before.before.before.before.before.before.before.before.before.before.before.before.before.before.before.before.before) (le-leb c.args.edits 64 c.if-edits-gt-MAX_EDITS.false) (sym c.sound.ensures ∙ not-true c.sound.result c.if-not-sound.true))
+returns-then-not-sound c = sym (unsound_refused c.args.counter (mapOf c.before.before.before.before.before.before.before.before.before.before.before.before.before.before.before.before.before.before.before.before) c.args.edits (old_of c.before.before.before.before.before.before.before.before.before.before.before.before.before.before.before.before.before.before.before.before) (le-leb c.args.edits 64 c.if-edits-gt-MAX_EDITS.false) (sym c.sound.ensures ∙ not-true c.sound.result (ap not c.if-not-sound.true)))
 
 -- src/lib.rt:59:9
 pub fits-requires : goal.fits-requires
@@ -37,8 +38,8 @@ fits-requires c = tt
 
 -- src/lib.rt:77:9
 pub returns-then-not-fits : goal.returns-then-not-fits
-returns-then-not-fits c = sym (short-refused c.args.counter (mapOf c.before.before.before.before.before.before.before.before.before.before.before.before.before.before.before.before.before.before.before.before.before.before) c.args.edits (old_of c.before.before.before.before.before.before.before.before.before.before.before.before.before.before.before.before.before.before.before.before.before.before) (le-leb c.args.edits 64 c.if-edits-gt-MAX_EDITS.false) (sym c.sound.ensures ∙ not-false c.sound.result c.if-not-sound.false) (sym c.fits2.ensures ∙ not-true c.fits2.result c.if-not-fits.true))
+returns-then-not-fits c = sym (short-refused c.args.counter (mapOf c.before.before.before.before.before.before.before.before.before.before.before.before.before.before.before.before.before.before.before.before.before.before) c.args.edits (old_of c.before.before.before.before.before.before.before.before.before.before.before.before.before.before.before.before.before.before.before.before.before.before) (le-leb c.args.edits 64 c.if-edits-gt-MAX_EDITS.false) (sym c.sound.ensures ∙ not-false c.sound.result (ap not c.if-not-sound.false)) (sym c.fits.ensures ∙ not-true c.fits.result (ap not c.if-not-fits.true)))
 
 -- src/lib.rt:21:1
 pub returns : goal.returns
-returns c = sym (all-passed c.args.counter (mapOf c.before.before.before.before.before.before.before.before.before.before.before.before.before.before.before.before.before.before.before.before.before.before) c.args.edits (old_of c.before.before.before.before.before.before.before.before.before.before.before.before.before.before.before.before.before.before.before.before.before.before) (le-leb c.args.edits 64 c.if-edits-gt-MAX_EDITS.false) (sym c.sound.ensures ∙ not-false c.sound.result c.if-not-sound.false) (sym c.fits2.ensures ∙ not-false c.fits2.result c.if-not-fits.false))
+returns c = sym (all-passed c.args.counter (mapOf c.before.before.before.before.before.before.before.before.before.before.before.before.before.before.before.before.before.before.before.before.before.before) c.args.edits (old_of c.before.before.before.before.before.before.before.before.before.before.before.before.before.before.before.before.before.before.before.before.before.before) (le-leb c.args.edits 64 c.if-edits-gt-MAX_EDITS.false) (sym c.sound.ensures ∙ not-false c.sound.result (ap not c.if-not-sound.false)) (sym c.fits.ensures ∙ not-false c.fits.result (ap not c.if-not-fits.false)))

@@ -37,40 +37,40 @@ pub make_with-requires : goal.make_with-requires
 make_with-requires c = (c.requires.0, (c.requires.1.0, (c.requires.1.1, (refl, (c.copy.ensures ∙ front_kept c.args.warnings.now c.kept_words-m.result c.kept_words-m.ensures, (length-replicate {A = ℕ} 13568 0, (length-replicate {A = ℕ} 13568 0, length-replicate {A = ℕ} 13568 0)))))))
 
 pub shape_of-lanes : goal.shape_of-lanes
-shape_of-lanes c = c.make_with.auto.1.1.0
+shape_of-lanes c = c.make_with.auto.lanes
 
 pub shape_of-boundaries : goal.shape_of-boundaries
-shape_of-boundaries c = c.make_with.auto.1.1.1.0
+shape_of-boundaries c = c.make_with.auto.boundaries
 
 pub shape_of-roads : goal.shape_of-roads
-shape_of-roads c = c.make_with.auto.1.1.1.1.0
+shape_of-roads c = c.make_with.auto.roads
 
 pub shape_of-junctions : goal.shape_of-junctions
-shape_of-junctions c = c.make_with.auto.1.1.1.1.1.0
+shape_of-junctions c = c.make_with.auto.junctions
 
 pub shape_of-rules : goal.shape_of-rules
-shape_of-rules c = c.make_with.auto.1.1.1.1.1.1.0
+shape_of-rules c = c.make_with.auto.rules
 
 pub shape_of-stop_lines : goal.shape_of-stop_lines
-shape_of-stop_lines c = c.make_with.auto.1.1.1.1.1.1.1.0
+shape_of-stop_lines c = c.make_with.auto.stop_lines
 
 pub shape_of-crosswalks : goal.shape_of-crosswalks
-shape_of-crosswalks c = c.make_with.auto.1.1.1.1.1.1.1.1.0
+shape_of-crosswalks c = c.make_with.auto.crosswalks
 
 pub shape_of-coordinates : goal.shape_of-coordinates
-shape_of-coordinates c = c.make_with.auto.1.1.1.1.1.1.1.1.1.0
+shape_of-coordinates c = c.make_with.auto.coordinates
 
 pub shape_of-created : goal.shape_of-created
-shape_of-created c = c.make_with.auto.1.1.1.1.1.1.1.1.1.1.1.1.1.1.1.1.1.1.1.1.1.1.1.1.0
+shape_of-created c = c.make_with.auto.created
 
 pub shape_of-modified : goal.shape_of-modified
-shape_of-modified c = c.make_with.auto.1.1.1.1.1.1.1.1.1.1.1.1.1.1.1.1.1.1.1.1.1.1.1.1.1.0
+shape_of-modified c = c.make_with.auto.modified
 
 pub shape_of-deleted : goal.shape_of-deleted
-shape_of-deleted c = c.make_with.auto.1.1.1.1.1.1.1.1.1.1.1.1.1.1.1.1.1.1.1.1.1.1.1.1.1.1.0
+shape_of-deleted c = c.make_with.auto.deleted
 
 pub shape_of-warnings : goal.shape_of-warnings
-shape_of-warnings c = c.make_with.auto.1.1.1.1.1.1.1.1.1.1.1.1.1.1.1.1.1.1.1.1.1.1.1.1.1.1.1.0
+shape_of-warnings c = c.make_with.auto.warnings
 
 pub returns : goal.returns
 returns c = c.make_with.ensures

@@ -46,8 +46,8 @@ mapOf s =
 
 abbrev old_of : AtStart → Tables
 old_of s =
-    tables_of s.args.old-lanes.now s.args.old-boundaries.now s.args.old-roads.now s.args.old-junctions.now s.args.old-rules.now
-    s.args.old-stop-lines.now s.args.old-crosswalks.now s.args.old-coordinates.now
+    tables_of s.args.old_lanes.now s.args.old_boundaries.now s.args.old_roads.now s.args.old_junctions.now s.args.old_rules.now
+    s.args.old_stop_lines.now s.args.old_crosswalks.now s.args.old_coordinates.now
 
 abbrev runOn : AtStart → Tables → Run Held
 runOn s z = table_edits s.args.tolerance 1 (commands s.args.job) (record { counter = s.args.counter; tables = z })
@@ -82,13 +82,13 @@ start_of m = m.before.before.before.before.before.before.before.before.before.be
 
 abbrev left_by : AtAfterMakeEditsRan → Tables
 left_by m =
-    tables_of m.make-edits.new.1.1.0 m.make-edits.new.1.1.1.0 m.make-edits.new.1.1.1.1.0 m.make-edits.new.1.1.1.1.1.0 m.make-edits.new.1.1.1.1.1.1.0 m.make-edits.new.1.1.1.1.1.1.1.0 m.make-edits.new.1.1.1.1.1.1.1.1.0 m.make-edits.new.1.1.1.1.1.1.1.1.1.0
+    tables_of m.make_edits-ran.new.lanes m.make_edits-ran.new.boundaries m.make_edits-ran.new.roads m.make_edits-ran.new.junctions m.make_edits-ran.new.rules m.make_edits-ran.new.stop_lines m.make_edits-ran.new.crosswalks m.make_edits-ran.new.coordinates
 
 abbrev marks_by : AtAfterMakeEditsRan → List ℕ
-marks_by m = m.make-edits.new.1.1.1.1.1.1.1.1.1.1.1.1.1.1.1.1.1.1.1.1.1.1.1.0
+marks_by m = m.make_edits-ran.new.marks
 
 abbrev keptBy : AtAfterMakeEditsRan → List ℕ
-keptBy m = m.make-edits.new.1.1.1.1.1.1.1.1.1.1.1.1.1.1.0
+keptBy m = m.make_edits-ran.new.warnings
 
 ran : (m : AtAfterMakeEditsRan)
     → RanAs (bare (old_of (start_of m))) (start_of m).args.marks.now kept_rows (start_of m).args.kept.now (old_of (start_of m)) (runOn (start_of m) (old_of (start_of m)))
@@ -112,128 +112,128 @@ abbrev decidedOf : AtInMade2 → AtAfterDecidedEnd
 decidedOf a = a.before.before.before.before.before.before.before.before
 
 abbrev counts_of : AtInMade2 → Counts
-counts_of a = a.answer.given.0.0
+counts_of a = a.answer-1.given.0.0
 
 abbrev ReadyAt : AtInMade2 → AtAfterDecidedEnd → AtAfterMakeEditsRan → AtStart → Type 0
 ReadyAt a d m s =
-    Ready (lentOn s (old_of s)) (runOn s (old_of s)) d.decided.result.counter (left_by m) (counts_of a) d.decided.new.all_created d.decided.new.all_modified d.decided.new.all_deleted (keptBy m)
+    Ready (lentOn s (old_of s)) (runOn s (old_of s)) d.decided-end.result.counter (left_by m) (counts_of a) d.decided-end.new.all_created d.decided-end.new.all_modified d.decided-end.new.all_deleted (keptBy m)
 
 ready : (a : AtInMade2) → ReadyAt a (decidedOf a) (editsOf (decidedOf a)) (start_of (editsOf (decidedOf a)))
 ready a =
     let d = decidedOf a in
     let m = editsOf d in
     let s = start_of m in
-    decided-ready (lentOn s (old_of s)) (left_by m) s.args.marks.now s.args.kept.now (marks_by m) (keptBy m) m.make-edits.result
-    m.make-edits.new.created m.make-edits.new.modified m.make-edits.new.deleted d.decided.result d.decided.new.all_created d.decided.new.all_modified d.decided.new.all_deleted
-    (old-sorted s) s.pre.1.1.1.0 s.pre.1.1.1.1.0 (counts_of a) a.in-Made.is (runOn s (old_of s)) (ran m) d.decided.ensures
+    decided-ready (lentOn s (old_of s)) (left_by m) s.args.marks.now s.args.kept.now (marks_by m) (keptBy m) m.make_edits-ran.result
+    m.make_edits-ran.new.created m.make_edits-ran.new.modified m.make_edits-ran.new.deleted d.decided-end.result d.decided-end.new.all_created d.decided-end.new.all_modified d.decided-end.new.all_deleted
+    (old-sorted s) s.requires.1.1.1.0 s.requires.1.1.1.1.0 (counts_of a) a.answer-1.given.1 (runOn s (old_of s)) (ran m) d.decided-end.ensures
 
 pub make_edits-ran-requires : goal.make_edits-ran-requires
 make_edits-ran-requires c = (c.requires.0, (c.requires.1.0, (old-sorted c.before.before.before.before.before.before.before.before.before.before.before.before.before.before.before.before.before.before.before.before.before.before.before.before.before.before.before.before.before.before.before.before.before.before.before.before.before.before.before, (marks-long c.before.before.before.before.before.before.before.before.before.before.before.before.before.before.before.before.before.before.before.before.before.before.before.before.before.before.before.before.before.before.before.before.before.before.before.before.before.before.before, (inl (let e = kept-long c.before.before.before.before.before.before.before.before.before.before.before.before.before.before.before.before.before.before.before.before.before.before.before.before.before.before.before.before.before.before.before.before.before.before.before.before.before.before.before in omega (arith, e)), c.requires.1.1.1.1.1)))))
 
 pub decided-end-requires : goal.decided-end-requires
-decided-end-requires c = (ran-sorted c.args.tolerance c.args.job c.args.counter (old_of c.before.before.before.before.before.before.before.before.before.before.before.before.before.before.before.before.before.before.before.before.before.before.before.before.before.before.before.before.before.before.before.before.before.before.before.before.before.before.before.before.before.before.before.before.before.before.before.before.before.before.before.before.before.before.before.before.before.before.before.before.before.before.before.before.before.before.before.before.before.before.before.before.before.before.before.before.before.before.before.before.before) (left_by c.before.before.before.before.before.before.before.before.before.before.before.before.before.before.before.before.before.before.before.before.before.before.before.before.before.before.before.before.before.before.before.before.before.before.before.before.before.before.before.before.before.before) (old-sound c.before.before.before.before.before.before.before.before.before.before.before.before.before.before.before.before.before.before.before.before.before.before.before.before.before.before.before.before.before.before.before.before.before.before.before.before.before.before.before.before.before.before.before.before.before.before.before.before.before.before.before.before.before.before.before.before.before.before.before.before.before.before.before.before.before.before.before.before.before) c.args.marks.now c.args.kept.now (marks_by c.before.before.before.before.before.before.before.before.before.before.before.before.before.before.before.before.before.before.before.before.before.before.before.before.before.before.before.before.before.before.before.before.before.before.before.before.before.before.before.before.before.before) (keptBy c.before.before.before.before.before.before.before.before.before.before.before.before.before.before.before.before.before.before.before.before.before.before.before.before.before.before.before.before.before.before.before.before.before.before.before.before.before.before.before.before.before.before) c.make_edits-ran.result (ran c.before.before.before.before.before.before.before.before.before.before.before.before.before.before.before.before.before.before.before.before.before.before.before.before.before.before.before.before.before.before), (c.make_edits-ran.auto.1.1.1.1.1.1.1.1.1.1.1.1.1.1.1.1.1.1.1.1.1.1.1.0 ∙ marks-long c.before.before.before.before.before.before.before.before.before.before.before.before.before.before.before.before.before.before.before.before.before.before.before.before.before.before.before.before.before.before.before.before.before.before.before.before.before.before.before.before.before.before.before.before.before.before.before.before.before.before.before.before.before.before.before.before.before.before.before.before.before.before.before.before.before.before.before.before.before.before.before.before.before.before.before.before.before.before.before.before.before, (c.make_edits-ran.auto.1.1.1.1.1.1.1.1.1.1.1.0 ∙ c.requires.1.1.1.1.1.0, (c.make_edits-ran.auto.1.1.1.1.1.1.1.1.1.1.1.1.0 ∙ c.requires.1.1.1.1.1.1.0, c.make_edits-ran.auto.1.1.1.1.1.1.1.1.1.1.1.1.1.0 ∙ c.requires.1.1.1.1.1.1.1))))
+decided-end-requires c = (ran-sorted c.args.tolerance c.args.job c.args.counter (old_of c.before.before.before.before.before.before.before.before.before.before.before.before.before.before.before.before.before.before.before.before.before.before.before.before.before.before.before.before.before.before.before.before.before.before.before.before.before.before.before.before.before.before.before.before.before.before.before.before.before.before.before.before.before.before.before.before.before.before.before.before.before.before.before.before.before.before.before.before.before.before.before.before.before.before.before.before.before.before.before.before.before) (left_by c.before.before.before.before.before.before.before.before.before.before.before.before.before.before.before.before.before.before.before.before.before.before.before.before.before.before.before.before.before.before.before.before.before.before.before.before.before.before.before.before.before.before) (old-sound c.before.before.before.before.before.before.before.before.before.before.before.before.before.before.before.before.before.before.before.before.before.before.before.before.before.before.before.before.before.before.before.before.before.before.before.before.before.before.before.before.before.before.before.before.before.before.before.before.before.before.before.before.before.before.before.before.before.before.before.before.before.before.before.before.before.before.before.before.before) c.args.marks.now c.args.kept.now (marks_by c.before.before.before.before.before.before.before.before.before.before.before.before.before.before.before.before.before.before.before.before.before.before.before.before.before.before.before.before.before.before.before.before.before.before.before.before.before.before.before.before.before.before) (keptBy c.before.before.before.before.before.before.before.before.before.before.before.before.before.before.before.before.before.before.before.before.before.before.before.before.before.before.before.before.before.before.before.before.before.before.before.before.before.before.before.before.before.before) c.make_edits-ran.result (ran c.before.before.before.before.before.before.before.before.before.before.before.before.before.before.before.before.before.before.before.before.before.before.before.before.before.before.before.before.before.before), (c.make_edits-ran.auto.marks ∙ marks-long c.before.before.before.before.before.before.before.before.before.before.before.before.before.before.before.before.before.before.before.before.before.before.before.before.before.before.before.before.before.before.before.before.before.before.before.before.before.before.before.before.before.before.before.before.before.before.before.before.before.before.before.before.before.before.before.before.before.before.before.before.before.before.before.before.before.before.before.before.before.before.before.before.before.before.before.before.before.before.before.before.before, (c.make_edits-ran.auto.created ∙ c.requires.1.1.1.1.1.0, (c.make_edits-ran.auto.modified ∙ c.requires.1.1.1.1.1.1.0, c.make_edits-ran.auto.deleted ∙ c.requires.1.1.1.1.1.1.1))))
 
 pub tell_lists-requires : goal.tell_lists-requires
 tell_lists-requires c = ready-long (lentOn c.before.before.before.before.before.before.before.before.before.before.before.before.before.before.before.before.before.before.before.before.before.before.before.before.before.before.before.before.before.before.before.before.before.before.before.before.before.before.before.before.before.before.before.before.before.before.before.before.before.before.before.before.before.before.before.before.before.before.before.before.before.before.before.before.before.before.before.before.before.before.before.before.before.before.before.before.before.before.before.before.before.before.before.before.before.before.before.before.before.before.before.before.before.before.before.before.before (old_of c.before.before.before.before.before.before.before.before.before.before.before.before.before.before.before.before.before.before.before.before.before.before.before.before.before.before.before.before.before.before.before.before.before.before.before.before.before.before.before.before.before.before.before.before.before.before.before.before.before.before.before.before.before.before.before.before.before.before.before.before.before.before.before.before.before.before.before.before.before.before.before.before.before.before.before.before.before.before.before.before.before.before.before.before.before.before.before.before.before.before.before.before.before.before.before.before.before)) c.decided-end.result.counter (left_by c.before.before.before.before.before.before.before.before.before.before.before.before.before.before.before.before.before.before.before.before.before.before.before.before.before.before.before.before.before.before.before.before.before.before.before.before.before.before.before.before.before.before.before.before.before.before.before.before.before.before.before.before.before.before.before.before.before.before) (counts_of c.before.before.before.before.before.before.before.before) c.decided-end.new.all_created c.decided-end.new.all_modified c.decided-end.new.all_deleted (keptBy c.before.before.before.before.before.before.before.before.before.before.before.before.before.before.before.before.before.before.before.before.before.before.before.before.before.before.before.before.before.before.before.before.before.before.before.before.before.before.before.before.before.before.before.before.before.before.before.before.before.before.before.before.before.before.before.before.before.before) (runOn c.before.before.before.before.before.before.before.before.before.before.before.before.before.before.before.before.before.before.before.before.before.before.before.before.before.before.before.before.before.before.before.before.before.before.before.before.before.before.before.before.before.before.before.before.before.before.before.before.before.before.before.before.before.before.before.before.before.before.before.before.before.before.before.before.before.before.before.before.before.before.before.before.before.before.before.before.before.before.before.before.before.before.before.before.before.before.before.before.before.before.before.before.before.before.before.before.before (old_of c.before.before.before.before.before.before.before.before.before.before.before.before.before.before.before.before.before.before.before.before.before.before.before.before.before.before.before.before.before.before.before.before.before.before.before.before.before.before.before.before.before.before.before.before.before.before.before.before.before.before.before.before.before.before.before.before.before.before.before.before.before.before.before.before.before.before.before.before.before.before.before.before.before.before.before.before.before.before.before.before.before.before.before.before.before.before.before.before.before.before.before.before.before.before.before.before.before)) (ready c.before.before.before.before.before)
 
 pub tell_warnings-requires : goal.tell_warnings-requires
-tell_warnings-requires c = let t = ready-told (lentOn c.before.before.before.before.before.before.before.before.before.before.before.before.before.before.before.before.before.before.before.before.before.before.before.before.before.before.before.before.before.before.before.before.before.before.before.before.before.before.before.before.before.before.before.before.before.before.before.before.before.before.before.before.before.before.before.before.before.before.before.before.before.before.before.before.before.before.before.before.before.before.before.before.before.before.before.before.before.before.before.before.before.before.before.before.before.before.before.before.before.before.before.before.before.before.before.before.before.before.before.before.before.before.before.before.before.before.before.before.before.before.before.before.before.before.before.before.before.before (old_of c.before.before.before.before.before.before.before.before.before.before.before.before.before.before.before.before.before.before.before.before.before.before.before.before.before.before.before.before.before.before.before.before.before.before.before.before.before.before.before.before.before.before.before.before.before.before.before.before.before.before.before.before.before.before.before.before.before.before.before.before.before.before.before.before.before.before.before.before.before.before.before.before.before.before.before.before.before.before.before.before.before.before.before.before.before.before.before.before.before.before.before.before.before.before.before.before.before.before.before.before.before.before.before.before.before.before.before.before.before.before.before.before.before.before.before.before.before.before)) c.decided-end.result.counter (left_by c.before.before.before.before.before.before.before.before.before.before.before.before.before.before.before.before.before.before.before.before.before.before.before.before.before.before.before.before.before.before.before.before.before.before.before.before.before.before.before.before.before.before.before.before.before.before.before.before.before.before.before.before.before.before.before.before.before.before.before.before.before.before.before.before.before.before.before.before.before.before.before.before.before.before.before.before.before.before.before) (counts_of c.before.before.before.before.before.before.before.before.before.before.before.before.before.before.before.before.before.before.before.before.before.before.before.before.before.before.before.before.before) c.decided-end.new.all_created c.decided-end.new.all_modified c.decided-end.new.all_deleted (keptBy c.before.before.before.before.before.before.before.before.before.before.before.before.before.before.before.before.before.before.before.before.before.before.before.before.before.before.before.before.before.before.before.before.before.before.before.before.before.before.before.before.before.before.before.before.before.before.before.before.before.before.before.before.before.before.before.before.before.before.before.before.before.before.before.before.before.before.before.before.before.before.before.before.before.before.before.before.before.before.before) (c.make_edits-ran.auto.1.1.1.1.1.1.1.1.1.1.1.1.1.1.0 ∙ kept-long c.before.before.before.before.before.before.before.before.before.before.before.before.before.before.before.before.before.before.before.before.before.before.before.before.before.before.before.before.before.before.before.before.before.before.before.before.before.before.before.before.before.before.before.before.before.before.before.before.before.before.before.before.before.before.before.before.before.before.before.before.before.before.before.before.before.before.before.before.before.before.before.before.before.before.before.before.before.before.before.before.before.before.before.before.before.before.before.before.before.before.before.before.before.before.before.before.before.before.before.before.before.before.before.before.before.before.before.before.before.before.before.before.before.before.before.before.before.before) (runOn c.before.before.before.before.before.before.before.before.before.before.before.before.before.before.before.before.before.before.before.before.before.before.before.before.before.before.before.before.before.before.before.before.before.before.before.before.before.before.before.before.before.before.before.before.before.before.before.before.before.before.before.before.before.before.before.before.before.before.before.before.before.before.before.before.before.before.before.before.before.before.before.before.before.before.before.before.before.before.before.before.before.before.before.before.before.before.before.before.before.before.before.before.before.before.before.before.before.before.before.before.before.before.before.before.before.before.before.before.before.before.before.before.before.before.before.before.before.before (old_of c.before.before.before.before.before.before.before.before.before.before.before.before.before.before.before.before.before.before.before.before.before.before.before.before.before.before.before.before.before.before.before.before.before.before.before.before.before.before.before.before.before.before.before.before.before.before.before.before.before.before.before.before.before.before.before.before.before.before.before.before.before.before.before.before.before.before.before.before.before.before.before.before.before.before.before.before.before.before.before.before.before.before.before.before.before.before.before.before.before.before.before.before.before.before.before.before.before.before.before.before.before.before.before.before.before.before.before.before.before.before.before.before.before.before.before.before.before.before)) (ready c.before.before.before.before.before.before.before.before.before.before.before.before.before.before.before.before.before.before.before.before.before.before.before.before.before) in (old-sound c.before.before.before.before.before.before.before.before.before.before.before.before.before.before.before.before.before.before.before.before.before.before.before.before.before.before.before.before.before.before.before.before.before.before.before.before.before.before.before.before.before.before.before.before.before.before.before.before.before.before.before.before.before.before.before.before.before.before.before.before.before.before.before.before.before.before.before.before.before.before.before.before.before.before.before.before.before.before.before.before.before.before.before.before.before.before.before.before.before.before.before.before.before.before.before.before.before.before.before.before.before.before, (c.requires.1.0, (t.0, (t.1.0, (t.1.1, (c.make_edits-ran.auto.1.1.1.1.1.1.1.1.1.1.1.1.1.1.0 ∙ kept-long c.before.before.before.before.before.before.before.before.before.before.before.before.before.before.before.before.before.before.before.before.before.before.before.before.before.before.before.before.before.before.before.before.before.before.before.before.before.before.before.before.before.before.before.before.before.before.before.before.before.before.before.before.before.before.before.before.before.before.before.before.before.before.before.before.before.before.before.before.before.before.before.before.before.before.before.before.before.before.before.before.before.before.before.before.before.before.before.before.before.before.before.before.before.before.before.before.before.before.before.before.before.before.before.before.before.before.before.before.before.before.before.before.before.before.before.before.before.before, (c.make_edits-ran.auto.1.1.1.1.1.1.1.1.1.1.1.1.1.1.1.1.1.1.1.1.1.1.1.0 ∙ marks-long c.before.before.before.before.before.before.before.before.before.before.before.before.before.before.before.before.before.before.before.before.before.before.before.before.before.before.before.before.before.before.before.before.before.before.before.before.before.before.before.before.before.before.before.before.before.before.before.before.before.before.before.before.before.before.before.before.before.before.before.before.before.before.before.before.before.before.before.before.before.before.before.before.before.before.before.before.before.before.before.before.before.before.before.before.before.before.before.before.before.before.before.before.before.before.before.before.before.before.before.before.before.before.before.before.before.before.before.before.before.before.before.before.before.before.before.before.before.before, (c.decided-end.auto.1.1.1.1.1.1.1.1.1.1.1.1.1.1.1.1.0 ∙ c.make_edits-ran.auto.1.1.1.1.1.1.1.1.1.1.1.0 ∙ c.requires.1.1.1.1.1.0, (c.decided-end.auto.1.1.1.1.1.1.1.1.1.1.1.1.1.1.1.1.1.0 ∙ c.make_edits-ran.auto.1.1.1.1.1.1.1.1.1.1.1.1.0 ∙ c.requires.1.1.1.1.1.1.0, c.decided-end.auto.1.1.1.1.1.1.1.1.1.1.1.1.1.1.1.1.1.1.0 ∙ c.make_edits-ran.auto.1.1.1.1.1.1.1.1.1.1.1.1.1.0 ∙ c.requires.1.1.1.1.1.1.1)))))))))
+tell_warnings-requires c = let t = ready-told (lentOn c.before.before.before.before.before.before.before.before.before.before.before.before.before.before.before.before.before.before.before.before.before.before.before.before.before.before.before.before.before.before.before.before.before.before.before.before.before.before.before.before.before.before.before.before.before.before.before.before.before.before.before.before.before.before.before.before.before.before.before.before.before.before.before.before.before.before.before.before.before.before.before.before.before.before.before.before.before.before.before.before.before.before.before.before.before.before.before.before.before.before.before.before.before.before.before.before.before.before.before.before.before.before.before.before.before.before.before.before.before.before.before.before.before.before.before.before.before.before (old_of c.before.before.before.before.before.before.before.before.before.before.before.before.before.before.before.before.before.before.before.before.before.before.before.before.before.before.before.before.before.before.before.before.before.before.before.before.before.before.before.before.before.before.before.before.before.before.before.before.before.before.before.before.before.before.before.before.before.before.before.before.before.before.before.before.before.before.before.before.before.before.before.before.before.before.before.before.before.before.before.before.before.before.before.before.before.before.before.before.before.before.before.before.before.before.before.before.before.before.before.before.before.before.before.before.before.before.before.before.before.before.before.before.before.before.before.before.before.before)) c.decided-end.result.counter (left_by c.before.before.before.before.before.before.before.before.before.before.before.before.before.before.before.before.before.before.before.before.before.before.before.before.before.before.before.before.before.before.before.before.before.before.before.before.before.before.before.before.before.before.before.before.before.before.before.before.before.before.before.before.before.before.before.before.before.before.before.before.before.before.before.before.before.before.before.before.before.before.before.before.before.before.before.before.before.before.before) (counts_of c.before.before.before.before.before.before.before.before.before.before.before.before.before.before.before.before.before.before.before.before.before.before.before.before.before.before.before.before.before) c.decided-end.new.all_created c.decided-end.new.all_modified c.decided-end.new.all_deleted (keptBy c.before.before.before.before.before.before.before.before.before.before.before.before.before.before.before.before.before.before.before.before.before.before.before.before.before.before.before.before.before.before.before.before.before.before.before.before.before.before.before.before.before.before.before.before.before.before.before.before.before.before.before.before.before.before.before.before.before.before.before.before.before.before.before.before.before.before.before.before.before.before.before.before.before.before.before.before.before.before.before) (c.make_edits-ran.auto.warnings ∙ kept-long c.before.before.before.before.before.before.before.before.before.before.before.before.before.before.before.before.before.before.before.before.before.before.before.before.before.before.before.before.before.before.before.before.before.before.before.before.before.before.before.before.before.before.before.before.before.before.before.before.before.before.before.before.before.before.before.before.before.before.before.before.before.before.before.before.before.before.before.before.before.before.before.before.before.before.before.before.before.before.before.before.before.before.before.before.before.before.before.before.before.before.before.before.before.before.before.before.before.before.before.before.before.before.before.before.before.before.before.before.before.before.before.before.before.before.before.before.before.before) (runOn c.before.before.before.before.before.before.before.before.before.before.before.before.before.before.before.before.before.before.before.before.before.before.before.before.before.before.before.before.before.before.before.before.before.before.before.before.before.before.before.before.before.before.before.before.before.before.before.before.before.before.before.before.before.before.before.before.before.before.before.before.before.before.before.before.before.before.before.before.before.before.before.before.before.before.before.before.before.before.before.before.before.before.before.before.before.before.before.before.before.before.before.before.before.before.before.before.before.before.before.before.before.before.before.before.before.before.before.before.before.before.before.before.before.before.before.before.before.before (old_of c.before.before.before.before.before.before.before.before.before.before.before.before.before.before.before.before.before.before.before.before.before.before.before.before.before.before.before.before.before.before.before.before.before.before.before.before.before.before.before.before.before.before.before.before.before.before.before.before.before.before.before.before.before.before.before.before.before.before.before.before.before.before.before.before.before.before.before.before.before.before.before.before.before.before.before.before.before.before.before.before.before.before.before.before.before.before.before.before.before.before.before.before.before.before.before.before.before.before.before.before.before.before.before.before.before.before.before.before.before.before.before.before.before.before.before.before.before.before)) (ready c.before.before.before.before.before.before.before.before.before.before.before.before.before.before.before.before.before.before.before.before.before.before.before.before.before) in (old-sound c.before.before.before.before.before.before.before.before.before.before.before.before.before.before.before.before.before.before.before.before.before.before.before.before.before.before.before.before.before.before.before.before.before.before.before.before.before.before.before.before.before.before.before.before.before.before.before.before.before.before.before.before.before.before.before.before.before.before.before.before.before.before.before.before.before.before.before.before.before.before.before.before.before.before.before.before.before.before.before.before.before.before.before.before.before.before.before.before.before.before.before.before.before.before.before.before.before.before.before.before.before.before, (c.requires.1.0, (t.0, (t.1.0, (t.1.1, (c.make_edits-ran.auto.warnings ∙ kept-long c.before.before.before.before.before.before.before.before.before.before.before.before.before.before.before.before.before.before.before.before.before.before.before.before.before.before.before.before.before.before.before.before.before.before.before.before.before.before.before.before.before.before.before.before.before.before.before.before.before.before.before.before.before.before.before.before.before.before.before.before.before.before.before.before.before.before.before.before.before.before.before.before.before.before.before.before.before.before.before.before.before.before.before.before.before.before.before.before.before.before.before.before.before.before.before.before.before.before.before.before.before.before.before.before.before.before.before.before.before.before.before.before.before.before.before.before.before.before, (c.make_edits-ran.auto.marks ∙ marks-long c.before.before.before.before.before.before.before.before.before.before.before.before.before.before.before.before.before.before.before.before.before.before.before.before.before.before.before.before.before.before.before.before.before.before.before.before.before.before.before.before.before.before.before.before.before.before.before.before.before.before.before.before.before.before.before.before.before.before.before.before.before.before.before.before.before.before.before.before.before.before.before.before.before.before.before.before.before.before.before.before.before.before.before.before.before.before.before.before.before.before.before.before.before.before.before.before.before.before.before.before.before.before.before.before.before.before.before.before.before.before.before.before.before.before.before.before.before.before, (c.decided-end.auto.all_created ∙ c.make_edits-ran.auto.created ∙ c.requires.1.1.1.1.1.0, (c.decided-end.auto.all_modified ∙ c.make_edits-ran.auto.modified ∙ c.requires.1.1.1.1.1.1.0, c.decided-end.auto.all_deleted ∙ c.make_edits-ran.auto.deleted ∙ c.requires.1.1.1.1.1.1.1)))))))))
 
 pub shape_of-lanes-in-Made : goal.shape_of-lanes-in-Made
-shape_of-lanes-in-Made c = c.tell_warnings.auto.1.1.0 ∙ c.make_edits-ran.auto.1.1.0
+shape_of-lanes-in-Made c = c.tell_warnings.auto.lanes ∙ c.make_edits-ran.auto.lanes
 
 pub shape_of-boundaries-in-Made : goal.shape_of-boundaries-in-Made
-shape_of-boundaries-in-Made c = c.tell_warnings.auto.1.1.1.0 ∙ c.make_edits-ran.auto.1.1.1.0
+shape_of-boundaries-in-Made c = c.tell_warnings.auto.boundaries ∙ c.make_edits-ran.auto.boundaries
 
 pub shape_of-roads-in-Made : goal.shape_of-roads-in-Made
-shape_of-roads-in-Made c = c.tell_warnings.auto.1.1.1.1.0 ∙ c.make_edits-ran.auto.1.1.1.1.0
+shape_of-roads-in-Made c = c.tell_warnings.auto.roads ∙ c.make_edits-ran.auto.roads
 
 pub shape_of-junctions-in-Made : goal.shape_of-junctions-in-Made
-shape_of-junctions-in-Made c = c.tell_warnings.auto.1.1.1.1.1.0 ∙ c.make_edits-ran.auto.1.1.1.1.1.0
+shape_of-junctions-in-Made c = c.tell_warnings.auto.junctions ∙ c.make_edits-ran.auto.junctions
 
 pub shape_of-rules-in-Made : goal.shape_of-rules-in-Made
-shape_of-rules-in-Made c = c.tell_warnings.auto.1.1.1.1.1.1.0 ∙ c.make_edits-ran.auto.1.1.1.1.1.1.0
+shape_of-rules-in-Made c = c.tell_warnings.auto.rules ∙ c.make_edits-ran.auto.rules
 
 pub shape_of-stop_lines-in-Made : goal.shape_of-stop_lines-in-Made
-shape_of-stop_lines-in-Made c = c.tell_warnings.auto.1.1.1.1.1.1.1.0 ∙ c.make_edits-ran.auto.1.1.1.1.1.1.1.0
+shape_of-stop_lines-in-Made c = c.tell_warnings.auto.stop_lines ∙ c.make_edits-ran.auto.stop_lines
 
 pub shape_of-crosswalks-in-Made : goal.shape_of-crosswalks-in-Made
-shape_of-crosswalks-in-Made c = c.tell_warnings.auto.1.1.1.1.1.1.1.1.0 ∙ c.make_edits-ran.auto.1.1.1.1.1.1.1.1.0
+shape_of-crosswalks-in-Made c = c.tell_warnings.auto.crosswalks ∙ c.make_edits-ran.auto.crosswalks
 
 pub shape_of-coordinates-in-Made : goal.shape_of-coordinates-in-Made
-shape_of-coordinates-in-Made c = c.tell_warnings.auto.1.1.1.1.1.1.1.1.1.0 ∙ c.make_edits-ran.auto.1.1.1.1.1.1.1.1.1.0
+shape_of-coordinates-in-Made c = c.tell_warnings.auto.coordinates ∙ c.make_edits-ran.auto.coordinates
 
 pub shape_of-marks-in-Made : goal.shape_of-marks-in-Made
-shape_of-marks-in-Made c = c.tell_warnings.auto.1.1.1.1.1.1.1.1.1.1.1.1.1.1.1.1.1.1.1.0 ∙ c.make_edits-ran.auto.1.1.1.1.1.1.1.1.1.1.1.1.1.1.1.1.1.1.1.1.1.1.1.0
+shape_of-marks-in-Made c = c.tell_warnings.auto.marks ∙ c.make_edits-ran.auto.marks
 
 pub shape_of-all_created-in-Made : goal.shape_of-all_created-in-Made
-shape_of-all_created-in-Made c = c.tell_warnings.auto.1.1.1.1.1.1.1.1.1.1.1.1.1.1.1.1.1.1.1.1.0 ∙ (c.decided-end.auto.1.1.1.1.1.1.1.1.1.1.1.1.1.1.1.1.0 ∙ c.make_edits-ran.auto.1.1.1.1.1.1.1.1.1.1.1.0)
+shape_of-all_created-in-Made c = c.tell_warnings.auto.all_created ∙ (c.decided-end.auto.all_created ∙ c.make_edits-ran.auto.created)
 
 pub shape_of-all_modified-in-Made : goal.shape_of-all_modified-in-Made
-shape_of-all_modified-in-Made c = c.tell_warnings.auto.1.1.1.1.1.1.1.1.1.1.1.1.1.1.1.1.1.1.1.1.1.0 ∙ (c.decided-end.auto.1.1.1.1.1.1.1.1.1.1.1.1.1.1.1.1.1.0 ∙ c.make_edits-ran.auto.1.1.1.1.1.1.1.1.1.1.1.1.0)
+shape_of-all_modified-in-Made c = c.tell_warnings.auto.all_modified ∙ (c.decided-end.auto.all_modified ∙ c.make_edits-ran.auto.modified)
 
 pub shape_of-all_deleted-in-Made : goal.shape_of-all_deleted-in-Made
-shape_of-all_deleted-in-Made c = c.tell_warnings.auto.1.1.1.1.1.1.1.1.1.1.1.1.1.1.1.1.1.1.1.1.1.1.0 ∙ (c.decided-end.auto.1.1.1.1.1.1.1.1.1.1.1.1.1.1.1.1.1.1.0 ∙ c.make_edits-ran.auto.1.1.1.1.1.1.1.1.1.1.1.1.1.0)
+shape_of-all_deleted-in-Made c = c.tell_warnings.auto.all_deleted ∙ (c.decided-end.auto.all_deleted ∙ c.make_edits-ran.auto.deleted)
 
 pub shape_of-kept-in-Made : goal.shape_of-kept-in-Made
-shape_of-kept-in-Made c = c.make_edits-ran.auto.1.1.1.1.1.1.1.1.1.1.1.1.1.1.0
+shape_of-kept-in-Made c = c.make_edits-ran.auto.warnings
 
 pub shape_of-created-in-Made : goal.shape_of-created-in-Made
-shape_of-created-in-Made c = c.tell_lists.auto.1.1.1.1.0
+shape_of-created-in-Made c = c.tell_lists.auto.created
 
 pub shape_of-modified-in-Made : goal.shape_of-modified-in-Made
-shape_of-modified-in-Made c = c.tell_lists.auto.1.1.1.1.1.0
+shape_of-modified-in-Made c = c.tell_lists.auto.modified
 
 pub shape_of-deleted-in-Made : goal.shape_of-deleted-in-Made
-shape_of-deleted-in-Made c = c.tell_lists.auto.1.1.1.1.1.1.0
+shape_of-deleted-in-Made c = c.tell_lists.auto.deleted
 
 pub shape_of-warnings-in-Made : goal.shape_of-warnings-in-Made
-shape_of-warnings-in-Made c = c.tell_warnings.auto.1.1.1.1.1.1.1.1.1.1.1.1.1.1.1.1.1.1.1.1.1.1.1.1.1.0
+shape_of-warnings-in-Made c = c.tell_warnings.auto.warnings
 
 pub returns-in-Made : goal.returns-in-Made
-returns-in-Made c = ap (λ a. job_ended (record { counter = c.decided-end.result.counter; tables = tables_of c.tell_warnings.new.lanes c.tell_warnings.new.boundaries c.tell_warnings.new.roads c.tell_warnings.new.junctions c.tell_warnings.new.rules c.tell_warnings.new.stop_lines c.tell_warnings.new.crosswalks c.tell_warnings.new.coordinates; created = c.tell_lists.new.created; modified = c.tell_lists.new.modified; deleted = c.tell_lists.new.deleted.0; warnings = c.tell_warnings.new.warnings.0 }) (old_of c.before.before.before.before.before.before.before.before.before.before.before.before.before.before.before.before.before.before.before.before.before.before.before.before.before.before.before.before.before.before.before.before.before.before.before.before.before.before.before.before.before.before.before.before.before.before.before.before.before.before.before.before.before.before.before.before.before.before.before.before.before.before.before.before.before.before.before.before.before.before.before.before.before.before.before.before.before.before.before.before.before.before.before.before.before.before.before.before.before.before.before.before.before.before.before.before.before.before.before.before.before.before.before.before.before.before.before.before.before.before.before.before.before.before.before.before.before.before.before.before.before.before.before.before.before.before.before.before.before.before.before.before.before.before.before.before.before.before.before.before.before.before.before.before.before) a) c.in-Made.is ∙ (ready-ends (lentOn c.before.before.before.before.before.before.before.before.before.before.before.before.before.before.before.before.before.before.before.before.before.before.before.before.before.before.before.before.before.before.before.before.before.before.before.before.before.before.before.before.before.before.before.before.before.before.before.before.before.before.before.before.before.before.before.before.before.before.before.before.before.before.before.before.before.before.before.before.before.before.before.before.before.before.before.before.before.before.before.before.before.before.before.before.before.before.before.before.before.before.before.before.before.before.before.before.before.before.before.before.before.before.before.before.before.before.before.before.before.before.before.before.before.before.before.before.before.before.before.before.before.before.before.before.before.before.before.before.before.before.before.before.before.before.before.before.before.before.before.before.before.before.before.before.before (old_of c.before.before.before.before.before.before.before.before.before.before.before.before.before.before.before.before.before.before.before.before.before.before.before.before.before.before.before.before.before.before.before.before.before.before.before.before.before.before.before.before.before.before.before.before.before.before.before.before.before.before.before.before.before.before.before.before.before.before.before.before.before.before.before.before.before.before.before.before.before.before.before.before.before.before.before.before.before.before.before.before.before.before.before.before.before.before.before.before.before.before.before.before.before.before.before.before.before.before.before.before.before.before.before.before.before.before.before.before.before.before.before.before.before.before.before.before.before.before.before.before.before.before.before.before.before.before.before.before.before.before.before.before.before.before.before.before.before.before.before.before.before.before.before.before.before)) c.decided-end.result.counter (left_by c.before.before.before.before.before.before.before.before.before.before.before.before.before.before.before.before.before.before.before.before.before.before.before.before.before.before.before.before.before.before.before.before.before.before.before.before.before.before.before.before.before.before.before.before.before.before.before.before.before.before.before.before.before.before.before.before.before.before.before.before.before.before.before.before.before.before.before.before.before.before.before.before.before.before.before.before.before.before.before.before.before.before.before.before.before.before.before.before.before.before.before.before.before.before.before.before.before.before.before.before.before.before.before.before.before.before) (counts_of c.before.before.before.before.before.before.before.before.before.before.before.before.before.before.before.before.before.before.before.before.before.before.before.before.before.before.before.before.before.before.before.before.before.before.before.before.before.before.before.before.before.before.before.before.before.before.before.before.before.before.before.before.before.before.before.before) c.decided-end.new.all_created c.decided-end.new.all_modified c.decided-end.new.all_deleted (keptBy c.before.before.before.before.before.before.before.before.before.before.before.before.before.before.before.before.before.before.before.before.before.before.before.before.before.before.before.before.before.before.before.before.before.before.before.before.before.before.before.before.before.before.before.before.before.before.before.before.before.before.before.before.before.before.before.before.before.before.before.before.before.before.before.before.before.before.before.before.before.before.before.before.before.before.before.before.before.before.before.before.before.before.before.before.before.before.before.before.before.before.before.before.before.before.before.before.before.before.before.before.before.before.before.before.before.before) (runOn c.before.before.before.before.before.before.before.before.before.before.before.before.before.before.before.before.before.before.before.before.before.before.before.before.before.before.before.before.before.before.before.before.before.before.before.before.before.before.before.before.before.before.before.before.before.before.before.before.before.before.before.before.before.before.before.before.before.before.before.before.before.before.before.before.before.before.before.before.before.before.before.before.before.before.before.before.before.before.before.before.before.before.before.before.before.before.before.before.before.before.before.before.before.before.before.before.before.before.before.before.before.before.before.before.before.before.before.before.before.before.before.before.before.before.before.before.before.before.before.before.before.before.before.before.before.before.before.before.before.before.before.before.before.before.before.before.before.before.before.before.before.before.before.before.before (old_of c.before.before.before.before.before.before.before.before.before.before.before.before.before.before.before.before.before.before.before.before.before.before.before.before.before.before.before.before.before.before.before.before.before.before.before.before.before.before.before.before.before.before.before.before.before.before.before.before.before.before.before.before.before.before.before.before.before.before.before.before.before.before.before.before.before.before.before.before.before.before.before.before.before.before.before.before.before.before.before.before.before.before.before.before.before.before.before.before.before.before.before.before.before.before.before.before.before.before.before.before.before.before.before.before.before.before.before.before.before.before.before.before.before.before.before.before.before.before.before.before.before.before.before.before.before.before.before.before.before.before.before.before.before.before.before.before.before.before.before.before.before.before.before.before.before)) (ready c.before.before.before.before.before.before.before.before.before.before.before.before.before.before.before.before.before.before.before.before.before.before.before.before.before.before.before.before.before.before.before.before.before.before.before.before.before.before.before.before.before.before.before.before.before.before.before.before.before.before.before.before) (tables_of c.tell_warnings.new.lanes c.tell_warnings.new.boundaries c.tell_warnings.new.roads c.tell_warnings.new.junctions c.tell_warnings.new.rules c.tell_warnings.new.stop_lines c.tell_warnings.new.crosswalks c.tell_warnings.new.coordinates) c.tell_lists.new.created c.tell_lists.new.modified c.tell_lists.new.deleted.0 c.tell_warnings.new.warnings.0 c.tell_warnings.ensures c.tell_lists.ensures ∙ ap (λ (z : Tables). ending (lentOn c.before.before.before.before.before.before.before.before.before.before.before.before.before.before.before.before.before.before.before.before.before.before.before.before.before.before.before.before.before.before.before.before.before.before.before.before.before.before.before.before.before.before.before.before.before.before.before.before.before.before.before.before.before.before.before.before.before.before.before.before.before.before.before.before.before.before.before.before.before.before.before.before.before.before.before.before.before.before.before.before.before.before.before.before.before.before.before.before.before.before.before.before.before.before.before.before.before.before.before.before.before.before.before.before.before.before.before.before.before.before.before.before.before.before.before.before.before.before.before.before.before.before.before.before.before.before.before.before.before.before.before.before.before.before.before.before.before.before.before.before.before.before.before.before.before z) (old_of c.before.before.before.before.before.before.before.before.before.before.before.before.before.before.before.before.before.before.before.before.before.before.before.before.before.before.before.before.before.before.before.before.before.before.before.before.before.before.before.before.before.before.before.before.before.before.before.before.before.before.before.before.before.before.before.before.before.before.before.before.before.before.before.before.before.before.before.before.before.before.before.before.before.before.before.before.before.before.before.before.before.before.before.before.before.before.before.before.before.before.before.before.before.before.before.before.before.before.before.before.before.before.before.before.before.before.before.before.before.before.before.before.before.before.before.before.before.before.before.before.before.before.before.before.before.before.before.before.before.before.before.before.before.before.before.before.before.before.before.before.before.before.before.before.before) (runOn c.before.before.before.before.before.before.before.before.before.before.before.before.before.before.before.before.before.before.before.before.before.before.before.before.before.before.before.before.before.before.before.before.before.before.before.before.before.before.before.before.before.before.before.before.before.before.before.before.before.before.before.before.before.before.before.before.before.before.before.before.before.before.before.before.before.before.before.before.before.before.before.before.before.before.before.before.before.before.before.before.before.before.before.before.before.before.before.before.before.before.before.before.before.before.before.before.before.before.before.before.before.before.before.before.before.before.before.before.before.before.before.before.before.before.before.before.before.before.before.before.before.before.before.before.before.before.before.before.before.before.before.before.before.before.before.before.before.before.before.before.before.before.before.before.before z)) c.requires.1.1.0)
+returns-in-Made c = ap (λ a. job_ended (record { counter = c.decided-end.result.counter; tables = tables_of c.tell_warnings.new.lanes c.tell_warnings.new.boundaries c.tell_warnings.new.roads c.tell_warnings.new.junctions c.tell_warnings.new.rules c.tell_warnings.new.stop_lines c.tell_warnings.new.crosswalks c.tell_warnings.new.coordinates; created = c.tell_lists.new.created; modified = c.tell_lists.new.modified; deleted = c.tell_lists.new.deleted; warnings = c.tell_warnings.new.warnings }) (old_of c.before.before.before.before.before.before.before.before.before.before.before.before.before.before.before.before.before.before.before.before.before.before.before.before.before.before.before.before.before.before.before.before.before.before.before.before.before.before.before.before.before.before.before.before.before.before.before.before.before.before.before.before.before.before.before.before.before.before.before.before.before.before.before.before.before.before.before.before.before.before.before.before.before.before.before.before.before.before.before.before.before.before.before.before.before.before.before.before.before.before.before.before.before.before.before.before.before.before.before.before.before.before.before.before.before.before.before.before.before.before.before.before.before.before.before.before.before.before.before.before.before.before.before.before.before.before.before.before.before.before.before.before.before.before.before.before.before.before.before.before.before.before.before.before.before) a) c.in-Made.is ∙ (ready-ends (lentOn c.before.before.before.before.before.before.before.before.before.before.before.before.before.before.before.before.before.before.before.before.before.before.before.before.before.before.before.before.before.before.before.before.before.before.before.before.before.before.before.before.before.before.before.before.before.before.before.before.before.before.before.before.before.before.before.before.before.before.before.before.before.before.before.before.before.before.before.before.before.before.before.before.before.before.before.before.before.before.before.before.before.before.before.before.before.before.before.before.before.before.before.before.before.before.before.before.before.before.before.before.before.before.before.before.before.before.before.before.before.before.before.before.before.before.before.before.before.before.before.before.before.before.before.before.before.before.before.before.before.before.before.before.before.before.before.before.before.before.before.before.before.before.before.before.before (old_of c.before.before.before.before.before.before.before.before.before.before.before.before.before.before.before.before.before.before.before.before.before.before.before.before.before.before.before.before.before.before.before.before.before.before.before.before.before.before.before.before.before.before.before.before.before.before.before.before.before.before.before.before.before.before.before.before.before.before.before.before.before.before.before.before.before.before.before.before.before.before.before.before.before.before.before.before.before.before.before.before.before.before.before.before.before.before.before.before.before.before.before.before.before.before.before.before.before.before.before.before.before.before.before.before.before.before.before.before.before.before.before.before.before.before.before.before.before.before.before.before.before.before.before.before.before.before.before.before.before.before.before.before.before.before.before.before.before.before.before.before.before.before.before.before.before)) c.decided-end.result.counter (left_by c.before.before.before.before.before.before.before.before.before.before.before.before.before.before.before.before.before.before.before.before.before.before.before.before.before.before.before.before.before.before.before.before.before.before.before.before.before.before.before.before.before.before.before.before.before.before.before.before.before.before.before.before.before.before.before.before.before.before.before.before.before.before.before.before.before.before.before.before.before.before.before.before.before.before.before.before.before.before.before.before.before.before.before.before.before.before.before.before.before.before.before.before.before.before.before.before.before.before.before.before.before.before.before.before.before.before) (counts_of c.before.before.before.before.before.before.before.before.before.before.before.before.before.before.before.before.before.before.before.before.before.before.before.before.before.before.before.before.before.before.before.before.before.before.before.before.before.before.before.before.before.before.before.before.before.before.before.before.before.before.before.before.before.before.before.before) c.decided-end.new.all_created c.decided-end.new.all_modified c.decided-end.new.all_deleted (keptBy c.before.before.before.before.before.before.before.before.before.before.before.before.before.before.before.before.before.before.before.before.before.before.before.before.before.before.before.before.before.before.before.before.before.before.before.before.before.before.before.before.before.before.before.before.before.before.before.before.before.before.before.before.before.before.before.before.before.before.before.before.before.before.before.before.before.before.before.before.before.before.before.before.before.before.before.before.before.before.before.before.before.before.before.before.before.before.before.before.before.before.before.before.before.before.before.before.before.before.before.before.before.before.before.before.before.before) (runOn c.before.before.before.before.before.before.before.before.before.before.before.before.before.before.before.before.before.before.before.before.before.before.before.before.before.before.before.before.before.before.before.before.before.before.before.before.before.before.before.before.before.before.before.before.before.before.before.before.before.before.before.before.before.before.before.before.before.before.before.before.before.before.before.before.before.before.before.before.before.before.before.before.before.before.before.before.before.before.before.before.before.before.before.before.before.before.before.before.before.before.before.before.before.before.before.before.before.before.before.before.before.before.before.before.before.before.before.before.before.before.before.before.before.before.before.before.before.before.before.before.before.before.before.before.before.before.before.before.before.before.before.before.before.before.before.before.before.before.before.before.before.before.before.before.before (old_of c.before.before.before.before.before.before.before.before.before.before.before.before.before.before.before.before.before.before.before.before.before.before.before.before.before.before.before.before.before.before.before.before.before.before.before.before.before.before.before.before.before.before.before.before.before.before.before.before.before.before.before.before.before.before.before.before.before.before.before.before.before.before.before.before.before.before.before.before.before.before.before.before.before.before.before.before.before.before.before.before.before.before.before.before.before.before.before.before.before.before.before.before.before.before.before.before.before.before.before.before.before.before.before.before.before.before.before.before.before.before.before.before.before.before.before.before.before.before.before.before.before.before.before.before.before.before.before.before.before.before.before.before.before.before.before.before.before.before.before.before.before.before.before.before.before)) (ready c.before.before.before.before.before.before.before.before.before.before.before.before.before.before.before.before.before.before.before.before.before.before.before.before.before.before.before.before.before.before.before.before.before.before.before.before.before.before.before.before.before.before.before.before.before.before.before.before.before.before.before.before) (tables_of c.tell_warnings.new.lanes c.tell_warnings.new.boundaries c.tell_warnings.new.roads c.tell_warnings.new.junctions c.tell_warnings.new.rules c.tell_warnings.new.stop_lines c.tell_warnings.new.crosswalks c.tell_warnings.new.coordinates) c.tell_lists.new.created c.tell_lists.new.modified c.tell_lists.new.deleted c.tell_warnings.new.warnings c.tell_warnings.ensures c.tell_lists.ensures ∙ ap (λ (z : Tables). ending (lentOn c.before.before.before.before.before.before.before.before.before.before.before.before.before.before.before.before.before.before.before.before.before.before.before.before.before.before.before.before.before.before.before.before.before.before.before.before.before.before.before.before.before.before.before.before.before.before.before.before.before.before.before.before.before.before.before.before.before.before.before.before.before.before.before.before.before.before.before.before.before.before.before.before.before.before.before.before.before.before.before.before.before.before.before.before.before.before.before.before.before.before.before.before.before.before.before.before.before.before.before.before.before.before.before.before.before.before.before.before.before.before.before.before.before.before.before.before.before.before.before.before.before.before.before.before.before.before.before.before.before.before.before.before.before.before.before.before.before.before.before.before.before.before.before.before.before z) (old_of c.before.before.before.before.before.before.before.before.before.before.before.before.before.before.before.before.before.before.before.before.before.before.before.before.before.before.before.before.before.before.before.before.before.before.before.before.before.before.before.before.before.before.before.before.before.before.before.before.before.before.before.before.before.before.before.before.before.before.before.before.before.before.before.before.before.before.before.before.before.before.before.before.before.before.before.before.before.before.before.before.before.before.before.before.before.before.before.before.before.before.before.before.before.before.before.before.before.before.before.before.before.before.before.before.before.before.before.before.before.before.before.before.before.before.before.before.before.before.before.before.before.before.before.before.before.before.before.before.before.before.before.before.before.before.before.before.before.before.before.before.before.before.before.before.before) (runOn c.before.before.before.before.before.before.before.before.before.before.before.before.before.before.before.before.before.before.before.before.before.before.before.before.before.before.before.before.before.before.before.before.before.before.before.before.before.before.before.before.before.before.before.before.before.before.before.before.before.before.before.before.before.before.before.before.before.before.before.before.before.before.before.before.before.before.before.before.before.before.before.before.before.before.before.before.before.before.before.before.before.before.before.before.before.before.before.before.before.before.before.before.before.before.before.before.before.before.before.before.before.before.before.before.before.before.before.before.before.before.before.before.before.before.before.before.before.before.before.before.before.before.before.before.before.before.before.before.before.before.before.before.before.before.before.before.before.before.before.before.before.before.before.before.before z)) c.requires.1.1.0)
 
 pub put_back-requires : goal.put_back-requires
 put_back-requires c = same-fits (left_by c.before.before.before.before.before.before.before.before.before.before.before.before.before.before.before.before.before.before.before.before.before.before.before.before.before.before.before.before.before.before.before.before.before.before.before.before.before.before.before.before.before.before.before.before.before.before.before.before.before.before.before.before.before.before.before.before.before.before) (old_of c.before.before.before.before.before.before.before.before.before.before.before.before.before.before.before.before.before.before.before.before.before.before.before.before.before.before.before.before.before.before.before.before.before.before.before.before.before.before.before.before.before.before.before.before.before.before.before.before.before.before.before.before.before.before.before.before.before.before.before.before.before.before.before.before.before.before.before.before.before.before.before.before.before.before.before.before.before.before.before.before.before.before.before.before.before.before.before.before.before.before.before.before.before.before.before.before.before) (long c.before.before.before.before.before.before.before.before.before.before.before.before.before.before.before.before.before.before.before.before.before.before.before.before.before.before.before.before.before.before.before.before.before.before.before.before.before.before.before.before.before.before.before.before.before.before)
 
 pub shape_of-lanes : goal.shape_of-lanes
-shape_of-lanes c = c.put_back.auto.1.1.1.1.1.1.1.1.0 ∙ c.make_edits-ran.auto.1.1.0
+shape_of-lanes c = c.put_back.auto.lanes ∙ c.make_edits-ran.auto.lanes
 
 pub shape_of-boundaries : goal.shape_of-boundaries
-shape_of-boundaries c = c.put_back.auto.1.1.1.1.1.1.1.1.1.0 ∙ c.make_edits-ran.auto.1.1.1.0
+shape_of-boundaries c = c.put_back.auto.boundaries ∙ c.make_edits-ran.auto.boundaries
 
 pub shape_of-roads : goal.shape_of-roads
-shape_of-roads c = c.put_back.auto.1.1.1.1.1.1.1.1.1.1.0 ∙ c.make_edits-ran.auto.1.1.1.1.0
+shape_of-roads c = c.put_back.auto.roads ∙ c.make_edits-ran.auto.roads
 
 pub shape_of-junctions : goal.shape_of-junctions
-shape_of-junctions c = c.put_back.auto.1.1.1.1.1.1.1.1.1.1.1.0 ∙ c.make_edits-ran.auto.1.1.1.1.1.0
+shape_of-junctions c = c.put_back.auto.junctions ∙ c.make_edits-ran.auto.junctions
 
 pub shape_of-rules : goal.shape_of-rules
-shape_of-rules c = c.put_back.auto.1.1.1.1.1.1.1.1.1.1.1.1.0 ∙ c.make_edits-ran.auto.1.1.1.1.1.1.0
+shape_of-rules c = c.put_back.auto.rules ∙ c.make_edits-ran.auto.rules
 
 pub shape_of-stop_lines : goal.shape_of-stop_lines
-shape_of-stop_lines c = c.put_back.auto.1.1.1.1.1.1.1.1.1.1.1.1.1.0 ∙ c.make_edits-ran.auto.1.1.1.1.1.1.1.0
+shape_of-stop_lines c = c.put_back.auto.stop_lines ∙ c.make_edits-ran.auto.stop_lines
 
 pub shape_of-crosswalks : goal.shape_of-crosswalks
-shape_of-crosswalks c = c.put_back.auto.1.1.1.1.1.1.1.1.1.1.1.1.1.1.0 ∙ c.make_edits-ran.auto.1.1.1.1.1.1.1.1.0
+shape_of-crosswalks c = c.put_back.auto.crosswalks ∙ c.make_edits-ran.auto.crosswalks
 
 pub shape_of-coordinates : goal.shape_of-coordinates
-shape_of-coordinates c = c.put_back.auto.1.1.1.1.1.1.1.1.1.1.1.1.1.1.1.0 ∙ c.make_edits-ran.auto.1.1.1.1.1.1.1.1.1.0
+shape_of-coordinates c = c.put_back.auto.coordinates ∙ c.make_edits-ran.auto.coordinates
 
 pub shape_of-marks : goal.shape_of-marks
-shape_of-marks c = c.make_edits-ran.auto.1.1.1.1.1.1.1.1.1.1.1.1.1.1.1.1.1.1.1.1.1.1.1.0
+shape_of-marks c = c.make_edits-ran.auto.marks
 
 pub shape_of-all_created : goal.shape_of-all_created
-shape_of-all_created c = c.decided-end.auto.1.1.1.1.1.1.1.1.1.1.1.1.1.1.1.1.0 ∙ c.make_edits-ran.auto.1.1.1.1.1.1.1.1.1.1.1.0
+shape_of-all_created c = c.decided-end.auto.all_created ∙ c.make_edits-ran.auto.created
 
 pub shape_of-all_modified : goal.shape_of-all_modified
-shape_of-all_modified c = c.decided-end.auto.1.1.1.1.1.1.1.1.1.1.1.1.1.1.1.1.1.0 ∙ c.make_edits-ran.auto.1.1.1.1.1.1.1.1.1.1.1.1.0
+shape_of-all_modified c = c.decided-end.auto.all_modified ∙ c.make_edits-ran.auto.modified
 
 pub shape_of-all_deleted : goal.shape_of-all_deleted
-shape_of-all_deleted c = c.decided-end.auto.1.1.1.1.1.1.1.1.1.1.1.1.1.1.1.1.1.1.0 ∙ c.make_edits-ran.auto.1.1.1.1.1.1.1.1.1.1.1.1.1.0
+shape_of-all_deleted c = c.decided-end.auto.all_deleted ∙ c.make_edits-ran.auto.deleted
 
 pub shape_of-kept : goal.shape_of-kept
-shape_of-kept c = c.make_edits-ran.auto.1.1.1.1.1.1.1.1.1.1.1.1.1.1.0
+shape_of-kept c = c.make_edits-ran.auto.warnings
 
 pub shape_of-created : goal.shape_of-created
 shape_of-created c = refl

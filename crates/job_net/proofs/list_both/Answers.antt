@@ -44,7 +44,7 @@ abbrev held : AtStart → Tables
 held s = tables_of s.args.lanes.now s.args.boundaries.now s.args.roads.now s.args.junctions.now s.args.rules.now s.args.stop_lines.now s.args.crosswalks.now []
 
 abbrev other : AtStart → Tables
-other s = tables_of s.args.other-lanes.now s.args.other-boundaries.now s.args.other-roads.now s.args.other-junctions.now s.args.other-rules.now s.args.other-stop-lines.now s.args.other-crosswalks.now []
+other s = tables_of s.args.other_lanes.now s.args.other_boundaries.now s.args.other_roads.now s.args.other_junctions.now s.args.other_rules.now s.args.other_stop_lines.now s.args.other_crosswalks.now []
 
 -- ---- what is written behind each call
 abbrev lanes_start : AtAfterListMarkedLanesEnd → AtStart

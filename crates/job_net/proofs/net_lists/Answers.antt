@@ -15,15 +15,15 @@ list_both-modified-requires c = let l = c.requires.1.1.1.1.0 in (c.requires.1.0,
 
 -- src/lib.rt:104:1
 pub shape_of-all_created : goal.shape_of-all_created
-shape_of-all_created c = c.list_only-created.auto.1.1.1.1.1.1.1.1.1.1.1.1.1.1.0
+shape_of-all_created c = c.list_only-created.auto.out
 
 -- src/lib.rt:104:1
 pub shape_of-all_modified : goal.shape_of-all_modified
-shape_of-all_modified c = c.list_both-modified.auto.1.1.1.1.1.1.1.1.1.1.1.1.1.1.1.0
+shape_of-all_modified c = c.list_both-modified.auto.out
 
 -- src/lib.rt:104:1
 pub shape_of-all_deleted : goal.shape_of-all_deleted
-shape_of-all_deleted c = c.list_only-deleted.auto.1.1.1.1.1.1.1.1.1.1.1.1.1.1.0
+shape_of-all_deleted c = c.list_only-deleted.auto.out
 
 -- src/lib.rt:104:1
 pub returns : goal.returns

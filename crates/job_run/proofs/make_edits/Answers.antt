@@ -41,7 +41,7 @@ held_of s =
     }
 
 abbrev old_of : Start → Tables
-old_of s = tables_of s.args.old-lanes.now s.args.old-boundaries.now s.args.old-roads.now s.args.old-junctions.now s.args.old-rules.now s.args.old-stop-lines.now s.args.old-crosswalks.now []
+old_of s = tables_of s.args.old_lanes.now s.args.old_boundaries.now s.args.old_roads.now s.args.old_junctions.now s.args.old_rules.now s.args.old_stop_lines.now s.args.old_crosswalks.now []
 
 -- the memory before an edit
 abbrev held_at : Turn → Held
@@ -86,57 +86,57 @@ pub overflow_add-result : goal.overflow_add-result
 overflow_add-result c = omega (arith, c.loop-i-test.true, c.requires.1.0)
 
 pub shape_of-lanes-in-Stopped : goal.shape_of-lanes-in-Stopped
-shape_of-lanes-in-Stopped c = c.make_edit-turn.auto.1.1.0 ∙ ap (λ ns. get_or ns 0 0) c.loop-i.invariant.0.along.long
+shape_of-lanes-in-Stopped c = c.make_edit-turn.auto.lanes ∙ ap (λ ns. get_or ns 0 0) c.loop-i.invariant.0.along.long
 
 pub shape_of-boundaries-in-Stopped : goal.shape_of-boundaries-in-Stopped
-shape_of-boundaries-in-Stopped c = c.make_edit-turn.auto.1.1.1.0 ∙ ap (λ ns. get_or ns 1 0) c.loop-i.invariant.0.along.long
+shape_of-boundaries-in-Stopped c = c.make_edit-turn.auto.boundaries ∙ ap (λ ns. get_or ns 1 0) c.loop-i.invariant.0.along.long
 
 pub shape_of-roads-in-Stopped : goal.shape_of-roads-in-Stopped
-shape_of-roads-in-Stopped c = c.make_edit-turn.auto.1.1.1.1.0 ∙ ap (λ ns. get_or ns 2 0) c.loop-i.invariant.0.along.long
+shape_of-roads-in-Stopped c = c.make_edit-turn.auto.roads ∙ ap (λ ns. get_or ns 2 0) c.loop-i.invariant.0.along.long
 
 pub shape_of-junctions-in-Stopped : goal.shape_of-junctions-in-Stopped
-shape_of-junctions-in-Stopped c = c.make_edit-turn.auto.1.1.1.1.1.0 ∙ ap (λ ns. get_or ns 3 0) c.loop-i.invariant.0.along.long
+shape_of-junctions-in-Stopped c = c.make_edit-turn.auto.junctions ∙ ap (λ ns. get_or ns 3 0) c.loop-i.invariant.0.along.long
 
 pub shape_of-rules-in-Stopped : goal.shape_of-rules-in-Stopped
-shape_of-rules-in-Stopped c = c.make_edit-turn.auto.1.1.1.1.1.1.0 ∙ ap (λ ns. get_or ns 4 0) c.loop-i.invariant.0.along.long
+shape_of-rules-in-Stopped c = c.make_edit-turn.auto.rules ∙ ap (λ ns. get_or ns 4 0) c.loop-i.invariant.0.along.long
 
 pub shape_of-stop_lines-in-Stopped : goal.shape_of-stop_lines-in-Stopped
-shape_of-stop_lines-in-Stopped c = c.make_edit-turn.auto.1.1.1.1.1.1.1.0 ∙ ap (λ ns. get_or ns 5 0) c.loop-i.invariant.0.along.long
+shape_of-stop_lines-in-Stopped c = c.make_edit-turn.auto.stop_lines ∙ ap (λ ns. get_or ns 5 0) c.loop-i.invariant.0.along.long
 
 pub shape_of-crosswalks-in-Stopped : goal.shape_of-crosswalks-in-Stopped
-shape_of-crosswalks-in-Stopped c = c.make_edit-turn.auto.1.1.1.1.1.1.1.1.0 ∙ ap (λ ns. get_or ns 6 0) c.loop-i.invariant.0.along.long
+shape_of-crosswalks-in-Stopped c = c.make_edit-turn.auto.crosswalks ∙ ap (λ ns. get_or ns 6 0) c.loop-i.invariant.0.along.long
 
 pub shape_of-coordinates-in-Stopped : goal.shape_of-coordinates-in-Stopped
-shape_of-coordinates-in-Stopped c = c.make_edit-turn.auto.1.1.1.1.1.1.1.1.1.0 ∙ ap (λ ns. get_or ns 7 0) c.loop-i.invariant.0.along.long
+shape_of-coordinates-in-Stopped c = c.make_edit-turn.auto.coordinates ∙ ap (λ ns. get_or ns 7 0) c.loop-i.invariant.0.along.long
 
 pub shape_of-created-in-Stopped : goal.shape_of-created-in-Stopped
-shape_of-created-in-Stopped c = c.make_edit-turn.auto.1.1.1.1.1.1.1.1.1.1.1.0 ∙ c.loop-i.invariant.1.0
+shape_of-created-in-Stopped c = c.make_edit-turn.auto.created ∙ c.loop-i.invariant.1.0
 
 pub shape_of-modified-in-Stopped : goal.shape_of-modified-in-Stopped
-shape_of-modified-in-Stopped c = c.make_edit-turn.auto.1.1.1.1.1.1.1.1.1.1.1.1.0 ∙ c.loop-i.invariant.1.1.0
+shape_of-modified-in-Stopped c = c.make_edit-turn.auto.modified ∙ c.loop-i.invariant.1.1.0
 
 pub shape_of-deleted-in-Stopped : goal.shape_of-deleted-in-Stopped
-shape_of-deleted-in-Stopped c = c.make_edit-turn.auto.1.1.1.1.1.1.1.1.1.1.1.1.1.0 ∙ c.loop-i.invariant.1.1.1
+shape_of-deleted-in-Stopped c = c.make_edit-turn.auto.deleted ∙ c.loop-i.invariant.1.1.1
 
 pub shape_of-warnings-in-Stopped : goal.shape_of-warnings-in-Stopped
-shape_of-warnings-in-Stopped c = c.make_edit-turn.auto.1.1.1.1.1.1.1.1.1.1.1.1.1.1.0 ∙ c.loop-i.invariant.0.long
+shape_of-warnings-in-Stopped c = c.make_edit-turn.auto.warnings ∙ c.loop-i.invariant.0.long
 
 pub shape_of-marks-in-Stopped : goal.shape_of-marks-in-Stopped
-shape_of-marks-in-Stopped c = c.make_edit-turn.auto.1.1.1.1.1.1.1.1.1.1.1.1.1.1.1.1.1.1.1.1.1.1.1.0 ∙ marks-same c.before.before.before.before.before.before.before.before.before.before.before.before.before.before.before.before.before.before.before.before.before.before.before.before.before.before.before.before.before.before.before.before.before.before.before.before.before.before.before.before.before.before.before.before.before.before.before
+shape_of-marks-in-Stopped c = c.make_edit-turn.auto.marks ∙ marks-same c.before.before.before.before.before.before.before.before.before.before.before.before.before.before.before.before.before.before.before.before.before.before.before.before.before.before.before.before.before.before.before.before.before.before.before.before.before.before.before.before.before.before.before.before.before.before.before
 
 pub returns-in-Stopped : goal.returns-in-Stopped
 returns-in-Stopped c =
     let s = c in
     let a = c in
     let e = c in
-    running-stops s.args.tolerance (old_of s) s.args.t11 (held_of s) s.args.marks.now s.args.rows s.args.warnings.now (held_at a) a.loop-i.marks a.loop-i.warnings a.loop-i.told a.loop-i.i a.loop-i.invariant.0 (listed s) c.loop-i-test.true s.requires.1.1.1.1.0 c.row_for-at.result c.row_for-at.ensures (left_by e) e.make_edit-turn.new.marks.0 e.make_edit-turn.new.warnings e.make_edit-turn.result e.make_edit-turn.ensures _ c.in-Stopped.is
+    running-stops s.args.tolerance (old_of s) s.args.t11 (held_of s) s.args.marks.now s.args.rows s.args.warnings.now (held_at a) a.loop-i.marks a.loop-i.warnings a.loop-i.told a.loop-i.i a.loop-i.invariant.0 (listed s) c.loop-i-test.true s.requires.1.1.1.1.0 c.row_for-at.result c.row_for-at.ensures (left_by e) e.make_edit-turn.new.marks e.make_edit-turn.new.warnings e.make_edit-turn.result e.make_edit-turn.ensures _ c.in-Stopped.is
 
 pub overflow_add-told : goal.overflow_add-told
 overflow_add-told c =
     let s = c in
     let a = c in
     let e = c in
-    omega (arith, turn-few s.args.tolerance (old_of s) s.args.t11 (held_of s) s.args.marks.now s.args.rows s.args.warnings.now (held_at a) a.loop-i.marks a.loop-i.warnings a.loop-i.told a.loop-i.i a.loop-i.invariant.0 (listed s) c.loop-i-test.true s.requires.1.1.1.1.0 c.row_for-at.result c.row_for-at.ensures (left_by e) e.make_edit-turn.new.marks.0 e.make_edit-turn.new.warnings e.make_edit-turn.result e.make_edit-turn.ensures _ _ c.in-Done.is, a.loop-i.invariant.0.few, c.loop-i-test.true, s.requires.1.0)
+    omega (arith, turn-few s.args.tolerance (old_of s) s.args.t11 (held_of s) s.args.marks.now s.args.rows s.args.warnings.now (held_at a) a.loop-i.marks a.loop-i.warnings a.loop-i.told a.loop-i.i a.loop-i.invariant.0 (listed s) c.loop-i-test.true s.requires.1.1.1.1.0 c.row_for-at.result c.row_for-at.ensures (left_by e) e.make_edit-turn.new.marks e.make_edit-turn.new.warnings e.make_edit-turn.result e.make_edit-turn.ensures _ _ c.in-Done.is, a.loop-i.invariant.0.few, c.loop-i-test.true, s.requires.1.0)
 
 pub overflow_add-i : goal.overflow_add-i
 overflow_add-i c = omega (arith, c.loop-i-test.true, c.requires.1.0)
@@ -149,7 +149,7 @@ loop-i-preserved c =
     let s = c in
     let a = c in
     let e = c in
-    (running-turns s.args.tolerance (old_of s) s.args.t11 (held_of s) s.args.marks.now s.args.rows s.args.warnings.now (held_at a) a.loop-i.marks a.loop-i.warnings a.loop-i.told a.loop-i.i a.loop-i.invariant.0 (listed s) c.loop-i-test.true s.requires.1.1.1.1.0 c.row_for-at.result c.row_for-at.ensures (left_by e) e.make_edit-turn.new.marks.0 e.make_edit-turn.new.warnings e.make_edit-turn.result e.make_edit-turn.ensures _ _ c.in-Done.is e.make_edit-turn.auto.1.1.1.1.1.1.1.1.1.1.1.1.1.1.0, (e.make_edit-turn.auto.1.1.1.1.1.1.1.1.1.1.1.0 ∙ a.loop-i.invariant.1.0, (e.make_edit-turn.auto.1.1.1.1.1.1.1.1.1.1.1.1.0 ∙ a.loop-i.invariant.1.1.0, e.make_edit-turn.auto.1.1.1.1.1.1.1.1.1.1.1.1.1.0 ∙ a.loop-i.invariant.1.1.1)))
+    (running-turns s.args.tolerance (old_of s) s.args.t11 (held_of s) s.args.marks.now s.args.rows s.args.warnings.now (held_at a) a.loop-i.marks a.loop-i.warnings a.loop-i.told a.loop-i.i a.loop-i.invariant.0 (listed s) c.loop-i-test.true s.requires.1.1.1.1.0 c.row_for-at.result c.row_for-at.ensures (left_by e) e.make_edit-turn.new.marks e.make_edit-turn.new.warnings e.make_edit-turn.result e.make_edit-turn.ensures _ _ c.in-Done.is e.make_edit-turn.auto.warnings, (e.make_edit-turn.auto.created ∙ a.loop-i.invariant.1.0, (e.make_edit-turn.auto.modified ∙ a.loop-i.invariant.1.1.0, e.make_edit-turn.auto.deleted ∙ a.loop-i.invariant.1.1.1)))
 
 pub shape_of-lanes : goal.shape_of-lanes
 shape_of-lanes c = ap (λ ns. get_or ns 0 0) c.loop-i.invariant.0.along.long

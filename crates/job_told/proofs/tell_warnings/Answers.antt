@@ -29,13 +29,13 @@ mapOf s =
 
 abbrev old_of : AtStart → Tables
 old_of s =
-    tables_of s.args.old-lanes.now s.args.old-boundaries.now s.args.old-roads.now s.args.old-junctions.now s.args.old-rules.now
-    s.args.old-stop-lines.now s.args.old-crosswalks.now s.args.old-coordinates.now
+    tables_of s.args.old_lanes.now s.args.old_boundaries.now s.args.old_roads.now s.args.old_junctions.now s.args.old_rules.now
+    s.args.old_stop_lines.now s.args.old_crosswalks.now s.args.old_coordinates.now
 
 abbrev bareOf : AtStart → Tables
 bareOf s =
-    tables_of s.args.old-lanes.now s.args.old-boundaries.now s.args.old-roads.now s.args.old-junctions.now s.args.old-rules.now
-    s.args.old-stop-lines.now s.args.old-crosswalks.now []
+    tables_of s.args.old_lanes.now s.args.old_boundaries.now s.args.old_roads.now s.args.old_junctions.now s.args.old_rules.now
+    s.args.old_stop_lines.now s.args.old_crosswalks.now []
 
 abbrev runOn : AtStart → Tables → Run Held
 runOn s z = table_edits s.args.tolerance 1 (commands s.args.job) (record { counter = s.args.counter; tables = z })
@@ -54,7 +54,7 @@ pub copy-requires : goal.copy-requires
 copy-requires c = let e = length-take-le (c.args.n * 10) c.args.kept.now (let l = c.if-n-le-KEPT.true in let k = c.requires.1.1.1.1.1.0 in omega (arith, l, k)) in let f = c.requires.1.1.1.1.0 in omega (arith, e, f)
 
 pub shape_of-warnings-then-n-le-KEPT : goal.shape_of-warnings-then-n-le-KEPT
-shape_of-warnings-then-n-le-KEPT c = c.copy.auto.1.0
+shape_of-warnings-then-n-le-KEPT c = c.copy.auto.to
 
 pub returns-then-n-le-KEPT : goal.returns-then-n-le-KEPT
 returns-then-n-le-KEPT c = kept-told (mapOf c.before.before.before.before.before.before.before.before.before.before.before.before.before.before.before.before.before.before.before.before.before.before.before.before.before.before.before.before.before) c.args.n (runOn c.before.before.before.before.before.before.before.before.before.before.before.before.before.before.before.before.before.before.before.before.before.before.before.before.before.before.before.before.before (old_of c.before.before.before.before.before.before.before.before.before.before.before.before.before.before.before.before.before.before.before.before.before.before.before.before.before.before.before.before.before)) c.args.kept.now c.args.warnings.now c.copy.new.to c.requires.1.1.0 c.requires.1.1.1.0 c.if-n-le-KEPT.true c.requires.1.1.1.1.0 c.copy.ensures
@@ -68,43 +68,43 @@ make_edits-requires c =
     (ap (sound_tables c.args.counter) e ∙ c.requires.0, (c.requires.1.0, (sound-sorted c.args.counter (old_of c.before.before.before.before.before.before.before.before.before.before.before.before.before.before.before.before.before.before.before.before.before.before.before.before.before.before.before.before.before.before.before.before.before.before.before.before.before.before.before.before.before.before.before.before.before.before.before.before.before.before.before.before.before.before.before.before.before.before.before.before.before.before) c.requires.0, (c.requires.1.1.1.1.1.1.0, (subst (λ (z : Tables). WarningRoom (runOn c.before.before.before.before.before.before.before.before.before.before.before.before.before.before.before.before.before.before.before.before.before.before.before.before.before.before.before.before.before.before.before.before.before.before.before.before.before.before.before.before.before.before.before.before.before.before.before.before.before.before.before.before.before.before.before.before.before.before.before.before.before.before z) c.args.n (length c.args.warnings.now)) (sym e) (inr (made-within (mapOf c.before.before.before.before.before.before.before.before.before.before.before.before.before.before.before.before.before.before.before.before.before.before.before.before.before.before.before.before.before.before.before.before.before.before.before.before.before.before.before.before.before.before.before.before.before.before.before.before.before.before.before.before.before.before.before.before.before.before.before.before.before.before) c.args.n (runOn c.before.before.before.before.before.before.before.before.before.before.before.before.before.before.before.before.before.before.before.before.before.before.before.before.before.before.before.before.before.before.before.before.before.before.before.before.before.before.before.before.before.before.before.before.before.before.before.before.before.before.before.before.before.before.before.before.before.before.before.before.before.before (old_of c.before.before.before.before.before.before.before.before.before.before.before.before.before.before.before.before.before.before.before.before.before.before.before.before.before.before.before.before.before.before.before.before.before.before.before.before.before.before.before.before.before.before.before.before.before.before.before.before.before.before.before.before.before.before.before.before.before.before.before.before.before.before)) c.requires.1.1.0, c.requires.1.1.1.1.0)), c.requires.1.1.1.1.1.1.1)))))
 
 pub shape_of-lanes : goal.shape_of-lanes
-shape_of-lanes c = c.make_edits.auto.1.1.0 ∙ c.put_back.auto.1.1.1.1.1.1.1.1.0
+shape_of-lanes c = c.make_edits.auto.lanes ∙ c.put_back.auto.lanes
 
 pub shape_of-boundaries : goal.shape_of-boundaries
-shape_of-boundaries c = c.make_edits.auto.1.1.1.0 ∙ c.put_back.auto.1.1.1.1.1.1.1.1.1.0
+shape_of-boundaries c = c.make_edits.auto.boundaries ∙ c.put_back.auto.boundaries
 
 pub shape_of-roads : goal.shape_of-roads
-shape_of-roads c = c.make_edits.auto.1.1.1.1.0 ∙ c.put_back.auto.1.1.1.1.1.1.1.1.1.1.0
+shape_of-roads c = c.make_edits.auto.roads ∙ c.put_back.auto.roads
 
 pub shape_of-junctions : goal.shape_of-junctions
-shape_of-junctions c = c.make_edits.auto.1.1.1.1.1.0 ∙ c.put_back.auto.1.1.1.1.1.1.1.1.1.1.1.0
+shape_of-junctions c = c.make_edits.auto.junctions ∙ c.put_back.auto.junctions
 
 pub shape_of-rules : goal.shape_of-rules
-shape_of-rules c = c.make_edits.auto.1.1.1.1.1.1.0 ∙ c.put_back.auto.1.1.1.1.1.1.1.1.1.1.1.1.0
+shape_of-rules c = c.make_edits.auto.rules ∙ c.put_back.auto.rules
 
 pub shape_of-stop_lines : goal.shape_of-stop_lines
-shape_of-stop_lines c = c.make_edits.auto.1.1.1.1.1.1.1.0 ∙ c.put_back.auto.1.1.1.1.1.1.1.1.1.1.1.1.1.0
+shape_of-stop_lines c = c.make_edits.auto.stop_lines ∙ c.put_back.auto.stop_lines
 
 pub shape_of-crosswalks : goal.shape_of-crosswalks
-shape_of-crosswalks c = c.make_edits.auto.1.1.1.1.1.1.1.1.0 ∙ c.put_back.auto.1.1.1.1.1.1.1.1.1.1.1.1.1.1.0
+shape_of-crosswalks c = c.make_edits.auto.crosswalks ∙ c.put_back.auto.crosswalks
 
 pub shape_of-coordinates : goal.shape_of-coordinates
-shape_of-coordinates c = c.make_edits.auto.1.1.1.1.1.1.1.1.1.0 ∙ c.put_back.auto.1.1.1.1.1.1.1.1.1.1.1.1.1.1.1.0
+shape_of-coordinates c = c.make_edits.auto.coordinates ∙ c.put_back.auto.coordinates
 
 pub shape_of-marks : goal.shape_of-marks
-shape_of-marks c = c.make_edits.auto.1.1.1.1.1.1.1.1.1.1.1.1.1.1.1.1.1.1.1.1.1.1.1.0
+shape_of-marks c = c.make_edits.auto.marks
 
 pub shape_of-all_created : goal.shape_of-all_created
-shape_of-all_created c = c.make_edits.auto.1.1.1.1.1.1.1.1.1.1.1.0
+shape_of-all_created c = c.make_edits.auto.created
 
 pub shape_of-all_modified : goal.shape_of-all_modified
-shape_of-all_modified c = c.make_edits.auto.1.1.1.1.1.1.1.1.1.1.1.1.0
+shape_of-all_modified c = c.make_edits.auto.modified
 
 pub shape_of-all_deleted : goal.shape_of-all_deleted
-shape_of-all_deleted c = c.make_edits.auto.1.1.1.1.1.1.1.1.1.1.1.1.1.0
+shape_of-all_deleted c = c.make_edits.auto.deleted
 
 pub shape_of-warnings : goal.shape_of-warnings
-shape_of-warnings c = c.make_edits.auto.1.1.1.1.1.1.1.1.1.1.1.1.1.1.0
+shape_of-warnings c = c.make_edits.auto.warnings
 
 pub returns : goal.returns
-returns c = ran-told (mapOf c.before.before.before.before.before.before.before.before.before.before.before.before.before.before.before.before.before.before.before.before.before.before.before.before.before.before.before.before.before.before.before.before.before.before.before.before.before.before.before.before.before.before.before.before.before.before.before.before.before.before.before.before.before.before.before.before.before.before.before.before.before.before.before.before.before.before.before.before.before.before.before.before.before.before.before.before.before.before.before.before.before.before.before.before.before.before.before.before.before) c.args.n (bareOf c.before.before.before.before.before.before.before.before.before.before.before.before.before.before.before.before.before.before.before.before.before.before.before.before.before.before.before.before.before.before.before.before.before.before.before.before.before.before.before.before.before.before.before.before.before.before.before.before.before.before.before.before.before.before.before.before.before.before.before.before.before.before.before.before.before.before.before.before.before.before.before.before.before.before.before.before.before.before.before.before.before.before.before.before.before.before.before.before.before) (tables_of c.put_back.new.lanes c.put_back.new.boundaries c.put_back.new.roads c.put_back.new.junctions c.put_back.new.rules c.put_back.new.stop_lines c.put_back.new.crosswalks c.put_back.new.coordinates.0) (tables_of c.make_edits.new.lanes c.make_edits.new.boundaries c.make_edits.new.roads c.make_edits.new.junctions c.make_edits.new.rules c.make_edits.new.stop_lines c.make_edits.new.crosswalks c.make_edits.new.coordinates) c.args.marks.now c.make_edits.new.marks.0 c.args.warnings.now c.make_edits.new.warnings c.make_edits.result (runOn c.before.before.before.before.before.before.before.before.before.before.before.before.before.before.before.before.before.before.before.before.before.before.before.before.before.before.before.before.before.before.before.before.before.before.before.before.before.before.before.before.before.before.before.before.before.before.before.before.before.before.before.before.before.before.before.before.before.before.before.before.before.before.before.before.before.before.before.before.before.before.before.before.before.before.before.before.before.before.before.before.before.before.before.before.before.before.before.before.before) (old_of c.before.before.before.before.before.before.before.before.before.before.before.before.before.before.before.before.before.before.before.before.before.before.before.before.before.before.before.before.before.before.before.before.before.before.before.before.before.before.before.before.before.before.before.before.before.before.before.before.before.before.before.before.before.before.before.before.before.before.before.before.before.before.before.before.before.before.before.before.before.before.before.before.before.before.before.before.before.before.before.before.before.before.before.before.before.before.before.before.before) (tables_of c.put_back.new.lanes c.put_back.new.boundaries c.put_back.new.roads c.put_back.new.junctions c.put_back.new.rules c.put_back.new.stop_lines c.put_back.new.crosswalks c.put_back.new.coordinates.0) (c.put_back.ensures ∙ put-back-same (mapOf c.before.before.before.before.before.before.before.before.before.before.before.before.before.before.before.before.before.before.before.before.before.before.before.before.before.before.before.before.before.before.before.before.before.before.before.before.before.before.before.before.before.before.before.before.before.before.before.before.before.before.before.before.before.before.before.before.before.before.before.before.before.before.before.before.before.before.before.before.before.before.before.before.before.before.before.before.before.before.before.before.before.before.before.before.before.before.before.before.before) (old_of c.before.before.before.before.before.before.before.before.before.before.before.before.before.before.before.before.before.before.before.before.before.before.before.before.before.before.before.before.before.before.before.before.before.before.before.before.before.before.before.before.before.before.before.before.before.before.before.before.before.before.before.before.before.before.before.before.before.before.before.before.before.before.before.before.before.before.before.before.before.before.before.before.before.before.before.before.before.before.before.before.before.before.before.before.before.before.before.before.before) (long c.before.before.before.before.before.before.before.before.before.before.before.before.before.before.before.before.before.before.before.before.before.before.before.before.before.before.before.before.before.before.before.before.before.before.before.before.before.before.before.before.before.before.before.before.before.before.before.before.before.before.before.before.before.before.before.before.before.before.before.before.before.before.before.before.before.before.before.before.before.before.before.before.before.before.before.before.before.before.before.before.before.before.before.before.before.before.before.before.before)) c.requires.1.1.0 c.make_edits.ensures
+returns c = ran-told (mapOf c.before.before.before.before.before.before.before.before.before.before.before.before.before.before.before.before.before.before.before.before.before.before.before.before.before.before.before.before.before.before.before.before.before.before.before.before.before.before.before.before.before.before.before.before.before.before.before.before.before.before.before.before.before.before.before.before.before.before.before.before.before.before.before.before.before.before.before.before.before.before.before.before.before.before.before.before.before.before.before.before.before.before.before.before.before.before.before.before.before) c.args.n (bareOf c.before.before.before.before.before.before.before.before.before.before.before.before.before.before.before.before.before.before.before.before.before.before.before.before.before.before.before.before.before.before.before.before.before.before.before.before.before.before.before.before.before.before.before.before.before.before.before.before.before.before.before.before.before.before.before.before.before.before.before.before.before.before.before.before.before.before.before.before.before.before.before.before.before.before.before.before.before.before.before.before.before.before.before.before.before.before.before.before.before) (tables_of c.put_back.new.lanes c.put_back.new.boundaries c.put_back.new.roads c.put_back.new.junctions c.put_back.new.rules c.put_back.new.stop_lines c.put_back.new.crosswalks c.put_back.new.coordinates) (tables_of c.make_edits.new.lanes c.make_edits.new.boundaries c.make_edits.new.roads c.make_edits.new.junctions c.make_edits.new.rules c.make_edits.new.stop_lines c.make_edits.new.crosswalks c.make_edits.new.coordinates) c.args.marks.now c.make_edits.new.marks c.args.warnings.now c.make_edits.new.warnings c.make_edits.result (runOn c.before.before.before.before.before.before.before.before.before.before.before.before.before.before.before.before.before.before.before.before.before.before.before.before.before.before.before.before.before.before.before.before.before.before.before.before.before.before.before.before.before.before.before.before.before.before.before.before.before.before.before.before.before.before.before.before.before.before.before.before.before.before.before.before.before.before.before.before.before.before.before.before.before.before.before.before.before.before.before.before.before.before.before.before.before.before.before.before.before) (old_of c.before.before.before.before.before.before.before.before.before.before.before.before.before.before.before.before.before.before.before.before.before.before.before.before.before.before.before.before.before.before.before.before.before.before.before.before.before.before.before.before.before.before.before.before.before.before.before.before.before.before.before.before.before.before.before.before.before.before.before.before.before.before.before.before.before.before.before.before.before.before.before.before.before.before.before.before.before.before.before.before.before.before.before.before.before.before.before.before.before) (tables_of c.put_back.new.lanes c.put_back.new.boundaries c.put_back.new.roads c.put_back.new.junctions c.put_back.new.rules c.put_back.new.stop_lines c.put_back.new.crosswalks c.put_back.new.coordinates) (c.put_back.ensures ∙ put-back-same (mapOf c.before.before.before.before.before.before.before.before.before.before.before.before.before.before.before.before.before.before.before.before.before.before.before.before.before.before.before.before.before.before.before.before.before.before.before.before.before.before.before.before.before.before.before.before.before.before.before.before.before.before.before.before.before.before.before.before.before.before.before.before.before.before.before.before.before.before.before.before.before.before.before.before.before.before.before.before.before.before.before.before.before.before.before.before.before.before.before.before.before) (old_of c.before.before.before.before.before.before.before.before.before.before.before.before.before.before.before.before.before.before.before.before.before.before.before.before.before.before.before.before.before.before.before.before.before.before.before.before.before.before.before.before.before.before.before.before.before.before.before.before.before.before.before.before.before.before.before.before.before.before.before.before.before.before.before.before.before.before.before.before.before.before.before.before.before.before.before.before.before.before.before.before.before.before.before.before.before.before.before.before.before) (long c.before.before.before.before.before.before.before.before.before.before.before.before.before.before.before.before.before.before.before.before.before.before.before.before.before.before.before.before.before.before.before.before.before.before.before.before.before.before.before.before.before.before.before.before.before.before.before.before.before.before.before.before.before.before.before.before.before.before.before.before.before.before.before.before.before.before.before.before.before.before.before.before.before.before.before.before.before.before.before.before.before.before.before.before.before.before.before.before.before)) c.requires.1.1.0 c.make_edits.ensures

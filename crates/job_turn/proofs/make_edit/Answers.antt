@@ -29,8 +29,8 @@ lent s =
 -- the tables by whose rows is marked
 abbrev old : AtStart → Tables
 old s =
-    tables_of s.args.old-lanes.now s.args.old-boundaries.now s.args.old-roads.now s.args.old-junctions.now s.args.old-rules.now s.args.old-stop-lines.now
-    s.args.old-crosswalks.now []
+    tables_of s.args.old_lanes.now s.args.old_boundaries.now s.args.old_roads.now s.args.old_junctions.now s.args.old_rules.now s.args.old_stop_lines.now
+    s.args.old_crosswalks.now []
 
 fits : (s : AtStart) → Fits s.args.tolerance s.args.command (lent s)
 fits s =
@@ -57,7 +57,7 @@ pub mark_all-requires : goal.mark_all-requires
 mark_all-requires c =
     let s = c in
     let d = c.dispatch-answer in
-    (s.requires.1.0, (s.requires.1.1.0, may-mark s.args.tolerance s.args.command (lent s) _ d.result d.ensures s.requires.0 (fits c.before.before.before.before.before.before.before.before.before.before.before.before.before.before.before.before.before.before.before.before.before.before.before.before.before.before.before.before.before.before.before.before.before.before.before.before.before.before.before.before.before.before.before.before.before.before.before.before.before.before.before.before.before.before.before.before.before.before.before.before) c.counts-n.result c.counts-n.ensures d.auto.1.1.1.1.1.1.1.1.1.1.1.1.0))
+    (s.requires.1.0, (s.requires.1.1.0, may-mark s.args.tolerance s.args.command (lent s) _ d.result d.ensures s.requires.0 (fits c.before.before.before.before.before.before.before.before.before.before.before.before.before.before.before.before.before.before.before.before.before.before.before.before.before.before.before.before.before.before.before.before.before.before.before.before.before.before.before.before.before.before.before.before.before.before.before.before.before.before.before.before.before.before.before.before.before.before.before.before) c.counts-n.result c.counts-n.ensures d.auto.modified))
 
 pub turn_of-requires : goal.turn_of-requires
 turn_of-requires c =
@@ -66,46 +66,46 @@ turn_of-requires c =
     counter-word s.args.tolerance s.args.command (lent s) _ d.result d.ensures (omega (arith, s.well_formed))
 
 pub shape_of-lanes : goal.shape_of-lanes
-shape_of-lanes c = c.dispatch-answer.auto.1.1.0
+shape_of-lanes c = c.dispatch-answer.auto.lanes
 
 pub shape_of-boundaries : goal.shape_of-boundaries
-shape_of-boundaries c = c.dispatch-answer.auto.1.1.1.0
+shape_of-boundaries c = c.dispatch-answer.auto.boundaries
 
 pub shape_of-roads : goal.shape_of-roads
-shape_of-roads c = c.dispatch-answer.auto.1.1.1.1.0
+shape_of-roads c = c.dispatch-answer.auto.roads
 
 pub shape_of-junctions : goal.shape_of-junctions
-shape_of-junctions c = c.dispatch-answer.auto.1.1.1.1.1.0
+shape_of-junctions c = c.dispatch-answer.auto.junctions
 
 pub shape_of-rules : goal.shape_of-rules
-shape_of-rules c = c.dispatch-answer.auto.1.1.1.1.1.1.0
+shape_of-rules c = c.dispatch-answer.auto.rules
 
 pub shape_of-stop_lines : goal.shape_of-stop_lines
-shape_of-stop_lines c = c.dispatch-answer.auto.1.1.1.1.1.1.1.0
+shape_of-stop_lines c = c.dispatch-answer.auto.stop_lines
 
 pub shape_of-crosswalks : goal.shape_of-crosswalks
-shape_of-crosswalks c = c.dispatch-answer.auto.1.1.1.1.1.1.1.1.0
+shape_of-crosswalks c = c.dispatch-answer.auto.crosswalks
 
 pub shape_of-coordinates : goal.shape_of-coordinates
-shape_of-coordinates c = c.dispatch-answer.auto.1.1.1.1.1.1.1.1.1.0
+shape_of-coordinates c = c.dispatch-answer.auto.coordinates
 
 pub shape_of-created : goal.shape_of-created
-shape_of-created c = c.dispatch-answer.auto.1.1.1.1.1.1.1.1.1.1.1.0
+shape_of-created c = c.dispatch-answer.auto.created
 
 pub shape_of-modified : goal.shape_of-modified
-shape_of-modified c = c.dispatch-answer.auto.1.1.1.1.1.1.1.1.1.1.1.1.0
+shape_of-modified c = c.dispatch-answer.auto.modified
 
 pub shape_of-deleted : goal.shape_of-deleted
-shape_of-deleted c = c.dispatch-answer.auto.1.1.1.1.1.1.1.1.1.1.1.1.1.0
+shape_of-deleted c = c.dispatch-answer.auto.deleted
 
 pub shape_of-warnings : goal.shape_of-warnings
 shape_of-warnings c =
     let s = c in
     let d = c.dispatch-answer in
-    same_len_mid (s.args.at * 10) (length s.args.warnings.now - s.args.at * 10) s.args.warnings.now d.new.warnings.0 d.auto.1.1.1.1.1.1.1.1.1.1.1.1.1.1.0
+    same_len_mid (s.args.at * 10) (length s.args.warnings.now - s.args.at * 10) s.args.warnings.now d.new.warnings d.auto.warnings
 
 pub shape_of-marks : goal.shape_of-marks
-shape_of-marks c = c.mark_all.auto.1.1.1.1.1.1.1.1.1.0
+shape_of-marks c = c.mark_all.auto.marks
 
 pub returns : goal.returns
 returns c =
@@ -113,4 +113,4 @@ returns c =
     let d = c.dispatch-answer in
     let m = c.mark_all in
     let n = c.counts-n in
-    made_as s.args.tolerance s.args.command (lent s) _ d.result d.ensures s.requires.0 (fits c.before.before.before.before.before.before.before.before.before.before.before.before.before.before.before.before.before.before.before.before.before.before.before.before.before.before.before.before.before.before.before.before.before.before.before.before.before.before.before.before.before.before.before.before.before.before.before.before.before.before.before.before.before.before.before.before.before.before.before.before.before.before.before.before) (old s) s.args.marks.now m.new.marks.0 s.args.at s.args.warnings.now _ n.result c.turn_of.result n.ensures m.ensures (begins c.before.before.before.before.before.before.before.before.before.before.before.before.before.before.before.before.before.before.before.before.before.before.before.before.before.before.before.before.before.before.before.before.before.before.before.before.before.before.before.before.before.before.before.before.before.before.before.before.before.before.before.before.before.before.before.before.before.before.before.before.before.before.before.before) refl refl c.turn_of.ensures
+    made_as s.args.tolerance s.args.command (lent s) _ d.result d.ensures s.requires.0 (fits c.before.before.before.before.before.before.before.before.before.before.before.before.before.before.before.before.before.before.before.before.before.before.before.before.before.before.before.before.before.before.before.before.before.before.before.before.before.before.before.before.before.before.before.before.before.before.before.before.before.before.before.before.before.before.before.before.before.before.before.before.before.before.before.before) (old s) s.args.marks.now m.new.marks s.args.at s.args.warnings.now _ n.result c.turn_of.result n.ensures m.ensures (begins c.before.before.before.before.before.before.before.before.before.before.before.before.before.before.before.before.before.before.before.before.before.before.before.before.before.before.before.before.before.before.before.before.before.before.before.before.before.before.before.before.before.before.before.before.before.before.before.before.before.before.before.before.before.before.before.before.before.before.before.before.before.before.before.before) refl refl c.turn_of.ensures

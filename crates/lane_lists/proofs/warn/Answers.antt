@@ -80,3 +80,6 @@ returns c =
     let a = c.args in
     let l = c.loop-i in
     warned-all a.lane a.rules.now a.warnings.now c.requires.1 l.warnings l.i l.place l.invariant c.loop-i-test.false
+
+pub slice_bounds-names_lane-end : goal.slice_bounds-names_lane-end
+slice_bounds-names_lane-end c = omega (arith, lent-room Orphans c.args.rules.now c.requires.0 330 refl c.loop-i.i c.loop-i-test.true)

@@ -8,7 +8,6 @@ use Rattle.merge_lists.specs.Changes.{warnings_of}
 use Rattle.rules.specs.Sound.{next_id}
 use Rattle.lookup.proofs.Laws.{sorted-row}
 use Rattle.merge_made.proofs.Parts.{no-map-room, no-list-room, lists-ask, write-asks, merge-made}
-use Rattle.merge_made.proofs.Parts.{no-map-room, no-list-room, lists-ask, write-asks, merge-made}
 use Rattle.merge_made.proofs.merge_with.Goals as goal
 
 -- src/lib.rt:165:28

@@ -22,51 +22,51 @@ dispatch-requires c = sym c.sound.ensures ∙ c.if-sound.true
 
 -- src/lib.rt:154:9
 pub shape_of-lanes-then-sound : goal.shape_of-lanes-then-sound
-shape_of-lanes-then-sound c = c.dispatch.auto.1.1.0
+shape_of-lanes-then-sound c = c.dispatch.auto.lanes
 
 -- src/lib.rt:154:9
 pub shape_of-boundaries-then-sound : goal.shape_of-boundaries-then-sound
-shape_of-boundaries-then-sound c = c.dispatch.auto.1.1.1.0
+shape_of-boundaries-then-sound c = c.dispatch.auto.boundaries
 
 -- src/lib.rt:154:9
 pub shape_of-roads-then-sound : goal.shape_of-roads-then-sound
-shape_of-roads-then-sound c = c.dispatch.auto.1.1.1.1.0
+shape_of-roads-then-sound c = c.dispatch.auto.roads
 
 -- src/lib.rt:154:9
 pub shape_of-junctions-then-sound : goal.shape_of-junctions-then-sound
-shape_of-junctions-then-sound c = c.dispatch.auto.1.1.1.1.1.0
+shape_of-junctions-then-sound c = c.dispatch.auto.junctions
 
 -- src/lib.rt:154:9
 pub shape_of-rules-then-sound : goal.shape_of-rules-then-sound
-shape_of-rules-then-sound c = c.dispatch.auto.1.1.1.1.1.1.0
+shape_of-rules-then-sound c = c.dispatch.auto.rules
 
 -- src/lib.rt:154:9
 pub shape_of-stop_lines-then-sound : goal.shape_of-stop_lines-then-sound
-shape_of-stop_lines-then-sound c = c.dispatch.auto.1.1.1.1.1.1.1.0
+shape_of-stop_lines-then-sound c = c.dispatch.auto.stop_lines
 
 -- src/lib.rt:154:9
 pub shape_of-crosswalks-then-sound : goal.shape_of-crosswalks-then-sound
-shape_of-crosswalks-then-sound c = c.dispatch.auto.1.1.1.1.1.1.1.1.0
+shape_of-crosswalks-then-sound c = c.dispatch.auto.crosswalks
 
 -- src/lib.rt:154:9
 pub shape_of-coordinates-then-sound : goal.shape_of-coordinates-then-sound
-shape_of-coordinates-then-sound c = c.dispatch.auto.1.1.1.1.1.1.1.1.1.0
+shape_of-coordinates-then-sound c = c.dispatch.auto.coordinates
 
 -- src/lib.rt:154:9
 pub shape_of-created-then-sound : goal.shape_of-created-then-sound
-shape_of-created-then-sound c = c.dispatch.auto.1.1.1.1.1.1.1.1.1.1.1.0
+shape_of-created-then-sound c = c.dispatch.auto.created
 
 -- src/lib.rt:154:9
 pub shape_of-modified-then-sound : goal.shape_of-modified-then-sound
-shape_of-modified-then-sound c = c.dispatch.auto.1.1.1.1.1.1.1.1.1.1.1.1.0
+shape_of-modified-then-sound c = c.dispatch.auto.modified
 
 -- src/lib.rt:154:9
 pub shape_of-deleted-then-sound : goal.shape_of-deleted-then-sound
-shape_of-deleted-then-sound c = c.dispatch.auto.1.1.1.1.1.1.1.1.1.1.1.1.1.0
+shape_of-deleted-then-sound c = c.dispatch.auto.deleted
 
 -- src/lib.rt:154:9
 pub shape_of-warnings-then-sound : goal.shape_of-warnings-then-sound
-shape_of-warnings-then-sound c = c.dispatch.auto.1.1.1.1.1.1.1.1.1.1.1.1.1.1.0
+shape_of-warnings-then-sound c = c.dispatch.auto.warnings
 
 -- src/lib.rt:124:1
 pub shape_of-lanes : goal.shape_of-lanes

@@ -39,4 +39,4 @@ returns c =
     let d = c.column_reach-lefts in
     let e = c.column_reach-rights in
     let f = c.column_reach in
-    columns-reach (tables s) a.result b.result d.result e.result f.result a.ensures b.ensures d.ensures e.ensures f.ensures
+    columns-reach (line_tables s.args.lanes.now s.args.boundaries.now s.args.stop_lines.now s.args.crosswalks.now []) a.result b.result d.result e.result f.result a.ensures b.ensures d.ensures e.ensures f.ensures

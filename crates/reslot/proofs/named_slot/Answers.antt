@@ -14,6 +14,5 @@ pub returns : goal.returns
 returns c =
     let a = c.args in
     let h = c.requires in
-    let g = c.slot-1.given in
     let m = c.named in
-    one-named a.slot g.0.0 a.ids.now m.new.ids a.n m.result g.1 (named-front a.ids.now a.n g.0.0.lane h.0 m.new.ids m.result h.1 m.ensures)
+    one-named a.slot c.in-Some.s a.ids.now m.new.ids a.n m.result c.in-Some.is (named-front a.ids.now a.n c.in-Some.s.lane h.0 m.new.ids m.result h.1 m.ensures)

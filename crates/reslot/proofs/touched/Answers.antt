@@ -24,7 +24,7 @@ AtAfterNamedSlotC = lts.After-named_slot2 tie.the-claims reads.Pre reads.Post
 
 front : (c : AtAfterNamedA) → (take c.named-a.result c.named-a.new.ids ≡ place c.args.lane (take 0 c.args.ids.now)) × (c.named-a.result ≡ length (place c.args.lane (take 0 c.args.ids.now)))
 front c =
-    let s = c in
+    let s = c.before.before.before.before in
     named-front s.args.ids.now 0 s.args.lane (omega (arith, s.requires)) c.named-a.new.ids c.named-a.result nothing-up c.named-a.ensures
 
 one : (c : AtAfterNamedA) → Named 1 c.named-a.result c.named-a.new.ids
@@ -34,13 +34,13 @@ one c =
 
 two : (c : AtAfterNamedSlotB) → Named 2 c.named_slot-b.result c.named_slot-b.new.ids
 two c =
-    let p = c in
-    next-named 1 p.named-a.result c.named_slot-b.result c.named_slot-b.new.ids p.named-a.new.ids (neighbor_option c.args.old) (one c.before.before.before.before) c.named_slot-b.ensures
+    let p = c.before.before.before.before in
+    next-named 1 p.named-a.result c.named_slot-b.result c.named_slot-b.new.ids p.named-a.new.ids (neighbor_option c.args.old) (one p) c.named_slot-b.ensures
 
 three : (c : AtAfterNamedSlotC) → Named 3 c.named_slot-c.result c.named_slot-c.new.ids
 three c =
-    let p = c in
-    next-named 2 p.named_slot-b.result c.named_slot-c.result c.named_slot-c.new.ids p.named_slot-b.new.ids (neighbor_option c.args.new) (two c.before.before.before.before) c.named_slot-c.ensures
+    let p = c.before.before.before.before in
+    next-named 2 p.named_slot-b.result c.named_slot-c.result c.named_slot-c.new.ids p.named_slot-b.new.ids (neighbor_option c.args.new) (two p) c.named_slot-c.ensures
 
 pub named-a-requires : goal.named-a-requires
 named-a-requires c = (omega (arith, c.requires), nothing-up)
@@ -49,19 +49,19 @@ pub named_slot-b-requires : goal.named_slot-b-requires
 named_slot-b-requires c =
     let m = c.named-a in
     let f = one c.before.before.before in
-    (omega (arith, named-few 1 m.result m.new.ids f, m.auto.0, c.requires), named-up 1 m.result m.new.ids f)
+    (omega (arith, named-few 1 m.result m.new.ids f, m.auto.ids, c.requires), named-up 1 m.result m.new.ids f)
 
 pub named_slot-c-requires : goal.named_slot-c-requires
 named_slot-c-requires c =
     let m = c.named_slot-b in
     let f = two c.before.before.before in
-    (omega (arith, named-few 2 m.result m.new.ids f, c.named-a.auto.0, m.auto.0, c.requires), named-up 2 m.result m.new.ids f)
+    (omega (arith, named-few 2 m.result m.new.ids f, c.named-a.auto.ids, m.auto.ids, c.requires), named-up 2 m.result m.new.ids f)
 
 pub named_slot-requires : goal.named_slot-requires
 named_slot-requires c =
     let m = c.named_slot-c in
     let f = three c.before.before.before in
-    (omega (arith, named-few 3 m.result m.new.ids f, c.named-a.auto.0, c.named_slot-b.auto.0, m.auto.0, c.requires), named-up 3 m.result m.new.ids f)
+    (omega (arith, named-few 3 m.result m.new.ids f, c.named-a.auto.ids, c.named_slot-b.auto.ids, m.auto.ids, c.requires), named-up 3 m.result m.new.ids f)
 
 pub returns : goal.returns
 returns c =

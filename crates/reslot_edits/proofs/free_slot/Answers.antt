@@ -22,15 +22,15 @@ abbrev start : tie.After-fits2 → AtStart
 start c = c.before.before.before.before.before.before.before.before.before.before.before.before.before.before
 
 ends : (c : tie.After-fits2) →
-    FreeEnds (start c).args.lanes.now (start c).args.i (start c).args.side (start c).args.modified.now (start c).args.warnings.now c.is_free-free.result c.no_op_where-first.result c.touched-n.result c.touched-n.new.ids.0 c.fits2.result
+    FreeEnds (start c).args.lanes.now (start c).args.i (start c).args.side (start c).args.modified.now (start c).args.warnings.now c.is_free-free.result c.no_op_where-first.result c.touched-n.result c.touched-n.new.ids c.fits.result
 ends c =
     let a = (start c).args in
     let o = c.neighbor-old in
     let f = c.is_free-free in
     let w = c.no_op_where-first in
     let m = c.touched-n in
-    free-ends a.lanes.now a.i a.side a.modified.now a.warnings.now o.result f.result w.result m.result m.new.ids.0 c.fits2.result
-    o.ensures f.ensures w.ensures m.ensures c.fits2.ensures
+    free-ends a.lanes.now a.i a.side a.modified.now a.warnings.now o.result f.result w.result m.result m.new.ids c.fits.result
+    o.ensures f.ensures w.ensures m.ensures c.fits.ensures
 
 pub overflow_mul-lane : goal.overflow_mul-lane
 overflow_mul-lane c = omega (arith, room c.before.before.before.before)
@@ -48,7 +48,7 @@ pub slice_bounds-ids-end : goal.slice_bounds-ids-end
 slice_bounds-ids-end c =
     let a = c.args in
     let m = c.touched-n in
-    omega (arith, m.auto.1.1.1.1.1.0, ids_few c.is_free-free.result (get_or a.lanes.now (1 + a.i * 52) 0) (neighbor_option c.neighbor-old.result) none none m.result m.ensures.1)
+    omega (arith, m.auto.ids, ids_few c.is_free-free.result (get_or a.lanes.now (1 + a.i * 52) 0) (neighbor_option c.neighbor-old.result) none none m.result m.ensures.1)
 
 pub slice_bounds-report-end : goal.slice_bounds-report-end
 slice_bounds-report-end c = (ends c.before.before).counted
@@ -60,7 +60,7 @@ pub returns-then-fits : goal.returns-then-fits
 returns-then-fits c =
     let v = c.clear_unless in
     let m = c.report-counts in
-    (ends c.before.before.before.before.before.before.before.before.before.before.before.before.before.before).changed c.if-fits.true v.new.lanes m.new.modified m.new.warnings.0 m.result v.ensures m.ensures
+    (ends c.before.before.before.before.before.before.before.before.before.before.before.before.before.before).changed c.if-fits.true v.new.lanes m.new.modified m.new.warnings m.result v.ensures m.ensures
 
 pub returns : goal.returns
 returns c = (ends c.before).refused c.if-fits.false

@@ -25,7 +25,7 @@ abbrev start : tie.After-fits2 → AtStart
 start c = c.before.before.before.before.before.before.before.before.before.before.before.before.before.before.before.before.before.before.before.before.before
 
 ends : (c : tie.After-fits2) →
-    SetEnds (start c).args.lanes.now (start c).args.i (start c).args.side (start c).args.j (start c).args.direction (start c).args.modified.now (start c).args.warnings.now c.holds-set.result c.no_op_where-first.result c.pair_where-second.result c.touched-n.result c.touched-n.new.ids.0 c.fits2.result
+    SetEnds (start c).args.lanes.now (start c).args.i (start c).args.side (start c).args.j (start c).args.direction (start c).args.modified.now (start c).args.warnings.now c.holds-set.result c.no_op_where-first.result c.pair_where-second.result c.touched-n.result c.touched-n.new.ids c.fits.result
 ends c =
     let a = (start c).args in
     let r = c.reciprocal_side-answer in
@@ -36,8 +36,8 @@ ends c =
     let u = c.unshared-apart in
     let p = c.pair_where-second in
     let m = c.touched-n in
-    set-ends a.lanes.now a.i a.side a.j a.direction a.modified.now a.warnings.now r.result o.result h.result s.result w.result u.result p.result m.result m.new.ids.0 c.fits2.result
-    r.ensures o.ensures h.ensures s.ensures w.ensures u.ensures p.ensures m.ensures c.fits2.ensures
+    set-ends a.lanes.now a.i a.side a.j a.direction a.modified.now a.warnings.now r.result o.result h.result s.result w.result u.result p.result m.result m.new.ids c.fits.result
+    r.ensures o.ensures h.ensures s.ensures w.ensures u.ensures p.ensures m.ensures c.fits.ensures
 
 pub overflow_mul-lane : goal.overflow_mul-lane
 overflow_mul-lane c = omega (arith, room c.before.before.before.before.before)
@@ -67,7 +67,7 @@ pub slice_bounds-ids-end : goal.slice_bounds-ids-end
 slice_bounds-ids-end c =
     let a = c.args in
     let m = c.touched-n in
-    omega (arith, m.auto.1.1.1.1.1.0, ids_few c.holds-set.result (get_or a.lanes.now (1 + a.i * 52) 0) (neighbor_option c.neighbor-old.result) (some (record { lane = get_or a.lanes.now (1 + a.j * 52) 0; direction = a.direction })) (neighbor_option c.neighbor-other.result) m.result m.ensures.1)
+    omega (arith, m.auto.ids, ids_few c.holds-set.result (get_or a.lanes.now (1 + a.i * 52) 0) (neighbor_option c.neighbor-old.result) (some (record { lane = get_or a.lanes.now (1 + a.j * 52) 0; direction = a.direction })) (neighbor_option c.neighbor-other.result) m.result m.ensures.1)
 
 pub slice_bounds-report-end : goal.slice_bounds-report-end
 slice_bounds-report-end c = (ends c.before.before).counted
@@ -82,7 +82,7 @@ pub returns-then-fits : goal.returns-then-fits
 returns-then-fits c =
     let v = c.set_unless in
     let m = c.report-counts in
-    (ends c.before.before.before.before.before.before.before.before.before.before.before.before.before.before).changed c.if-fits.true v.new.lanes m.new.modified m.new.warnings.0 m.result v.ensures m.ensures
+    (ends c.before.before.before.before.before.before.before.before.before.before.before.before.before.before).changed c.if-fits.true v.new.lanes m.new.modified m.new.warnings m.result v.ensures m.ensures
 
 pub returns : goal.returns
 returns c = (ends c.before).refused c.if-fits.false

@@ -5,7 +5,7 @@ use Rattle.in_place.proofs.Whole.{placed-down, placed-up, movable_down, movable_
 use Rattle.settling.proofs.settle.Goals as goal
 
 pub all_down-end-requires : goal.all_down-end-requires
-all_down-end-requires c = let s = c.before.before.before.before.before.before.before.before.before.before.before.before in (placed-down s.args.reach s.args.drawn.now s.args.lanes.now s.args.boundaries.now s.args.stop_lines.now s.args.crosswalks.now s.args.coordinates.now s.requires, movable_down s.args.reach s.args.drawn.now s.args.lanes.now s.args.boundaries.now s.args.stop_lines.now s.args.crosswalks.now s.args.coordinates.now s.requires)
+all_down-end-requires c = let s = c in (placed-down s.args.reach s.args.drawn.now s.args.lanes.now s.args.boundaries.now s.args.stop_lines.now s.args.crosswalks.now s.args.coordinates.now s.requires, movable_down s.args.reach s.args.drawn.now s.args.lanes.now s.args.boundaries.now s.args.stop_lines.now s.args.crosswalks.now s.args.coordinates.now s.requires)
 
 pub all_up-requires : goal.all_up-requires
 all_up-requires c =
@@ -14,7 +14,7 @@ all_up-requires c =
     (placed-up s.args.reach s.args.drawn.now s.args.lanes.now s.args.boundaries.now s.args.stop_lines.now s.args.crosswalks.now s.args.coordinates.now s.requires, (g.ensures.0, movable_up s.args.reach s.args.drawn.now s.args.lanes.now s.args.boundaries.now s.args.stop_lines.now s.args.crosswalks.now s.args.coordinates.now s.requires g.new.coordinates g.result g.auto.coordinates g.ensures.0))
 
 pub all_starts-requires : goal.all_starts-requires
-all_starts-requires c = let s = c.before.before.before.before.before.before.before.before.before.before.before.before.before.before.before.before.before.before.before.before.before.before.before.before.before.before.before in ((placed-up s.args.reach s.args.drawn.now s.args.lanes.now s.args.boundaries.now s.args.stop_lines.now s.args.crosswalks.now s.args.coordinates.now s.requires).counts, omega (arith, points-room s.args.reach s.args.drawn.now s.args.lanes.now s.args.boundaries.now s.args.stop_lines.now s.args.crosswalks.now s.args.coordinates.now s.requires, s.well_formed))
+all_starts-requires c = let s = c in ((placed-up s.args.reach s.args.drawn.now s.args.lanes.now s.args.boundaries.now s.args.stop_lines.now s.args.crosswalks.now s.args.coordinates.now s.requires).counts, omega (arith, points-room s.args.reach s.args.drawn.now s.args.lanes.now s.args.boundaries.now s.args.stop_lines.now s.args.crosswalks.now s.args.coordinates.now s.requires, s.well_formed))
 
 pub returns : goal.returns
 returns c =

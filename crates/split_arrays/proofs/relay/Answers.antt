@@ -16,7 +16,7 @@ returns-then-both c =
     let a = c.args in
     let g = c.relay_small.new in
     let h = (sym c.both.ensures ∙ c.if-both.true) in
-    small-relaid (cutting a.point a.reach a.seen.now a.cut.now a.next a.marks.now a.pieces.now a.m a.lines.now a.centers.now) (line_tables a.lanes.now a.boundaries.now a.stop_lines.now a.crosswalks.now a.coordinates.now) (line_tables g.0 g.1.0 g.1.1.0 g.1.1.1.0 g.1.1.1.1.0) 6144 c.relay_small.ensures (length a.cut.now) a.points refl (few-lanes (length a.cut.now) a.points h) (few-points (length a.cut.now) a.points h)
+    small-relaid (cutting a.point a.reach a.seen.now a.cut.now a.next a.marks.now a.pieces.now a.m a.lines.now a.centers.now) (line_tables a.lanes.now a.boundaries.now a.stop_lines.now a.crosswalks.now a.coordinates.now) (line_tables g.lanes g.boundaries g.stop_lines g.crosswalks g.coordinates) 6144 c.relay_small.ensures (length a.cut.now) a.points refl (few-lanes (length a.cut.now) a.points h) (few-points (length a.cut.now) a.points h)
 
 pub relay_large-requires : goal.relay_large-requires
 relay_large-requires c = c.requires.0
@@ -25,4 +25,4 @@ pub returns : goal.returns
 returns c =
     let a = c.args in
     let g = c.relay_large.new in
-    large-relaid (cutting a.point a.reach a.seen.now a.cut.now a.next a.marks.now a.pieces.now a.m a.lines.now a.centers.now) (line_tables a.lanes.now a.boundaries.now a.stop_lines.now a.crosswalks.now a.coordinates.now) (line_tables g.0 g.1.0 g.1.1.0 g.1.1.1.0 g.1.1.1.1.0) 196608 c.relay_large.ensures.1 (length a.cut.now) a.points refl (sym c.both.ensures ∙ c.if-both.false)
+    large-relaid (cutting a.point a.reach a.seen.now a.cut.now a.next a.marks.now a.pieces.now a.m a.lines.now a.centers.now) (line_tables a.lanes.now a.boundaries.now a.stop_lines.now a.crosswalks.now a.coordinates.now) (line_tables g.lanes g.boundaries g.stop_lines g.crosswalks g.coordinates) 196608 c.relay_large.ensures.1 (length a.cut.now) a.points refl (sym c.both.ensures ∙ c.if-both.false)

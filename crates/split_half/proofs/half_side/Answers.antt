@@ -21,10 +21,10 @@ pub half_line-n-requires : goal.half_line-n-requires
 half_line-n-requires c = let a = c.args in let p = c.requires in (boundary-few a.coordinates.now a.boundaries.now a.point a.second c.boundary_ref-r.result c.in-At.x (sym c.boundary-found.ensures ∙ c.in-At.is) c.boundary_line-line.result.now c.boundary_line-line.ensures p.0.drawable.boundaries_short, p.1.0)
 
 pub slice_bounds-put_line-end-2 : goal.slice_bounds-put_line-end-2
-slice_bounds-put_line-end-2 c = let a = c.args in let p = c.requires in written-lent a.piece.now c.half_line-n.new.out.0 (half_of (not (beq a.second c.boundary_ref-r.result.reversed)) a.point (points c.boundary_line-line.result.now)) c.half_line-n.result c.half_line-n.ensures.1.0 c.half_line-n.ensures.0 (omega (arith, c.half_line-n.ensures, p.1.0))
+slice_bounds-put_line-end-2 c = let a = c.args in let p = c.requires in written-lent a.piece.now c.half_line-n.new.out (half_of (not (beq a.second c.boundary_ref-r.result.reversed)) a.point (points c.boundary_line-line.result.now)) c.half_line-n.result c.half_line-n.ensures.1.0 c.half_line-n.ensures.0 (omega (arith, c.half_line-n.ensures, p.1.0))
 
 pub put_line-requires : goal.put_line-requires
-put_line-requires c = let a = c.args in let p = c.requires in omega (arith, p.1, c.half_line-n.ensures, ap length (written_back a.piece.now c.half_line-n.new.out.0 (half_of (not (beq a.second c.boundary_ref-r.result.reversed)) a.point (points c.boundary_line-line.result.now)) c.half_line-n.result c.half_line-n.ensures.1.0 c.half_line-n.ensures.0 (omega (arith, c.half_line-n.ensures, p.1.0))))
+put_line-requires c = let a = c.args in let p = c.requires in omega (arith, p.1, c.half_line-n.ensures, ap length (written_back a.piece.now c.half_line-n.new.out (half_of (not (beq a.second c.boundary_ref-r.result.reversed)) a.point (points c.boundary_line-line.result.now)) c.half_line-n.result c.half_line-n.ensures.1.0 c.half_line-n.ensures.0 (omega (arith, c.half_line-n.ensures, p.1.0))))
 
 pub returns : goal.returns
-returns c = let a = c.args in let p = c.requires in side-some a.coordinates.now a.lanes.now a.boundaries.now a.point a.second a.i a.side c.boundary_ref-r.result c.boundary_ref-r.ensures a.out.now c.in-At.x (sym c.boundary-found.ensures ∙ c.in-At.is) c.boundary_line-line.result.now c.boundary_line-line.ensures (points (take (c.half_line-n.result * 3) c.half_line-n.new.out.0)) (written_back a.piece.now c.half_line-n.new.out.0 (half_of (not (beq a.second c.boundary_ref-r.result.reversed)) a.point (points c.boundary_line-line.result.now)) c.half_line-n.result c.half_line-n.ensures.1.0 c.half_line-n.ensures.0 (omega (arith, c.half_line-n.ensures, p.1.0))) c.put_line.result c.put_line.new.out.0 c.put_line.ensures
+returns c = let a = c.args in let p = c.requires in side-some a.coordinates.now a.lanes.now a.boundaries.now a.point a.second a.i a.side c.boundary_ref-r.result c.boundary_ref-r.ensures a.out.now c.in-At.x (sym c.boundary-found.ensures ∙ c.in-At.is) c.boundary_line-line.result.now c.boundary_line-line.ensures (points (take (c.half_line-n.result * 3) c.half_line-n.new.out)) (written_back a.piece.now c.half_line-n.new.out (half_of (not (beq a.second c.boundary_ref-r.result.reversed)) a.point (points c.boundary_line-line.result.now)) c.half_line-n.result c.half_line-n.ensures.1.0 c.half_line-n.ensures.0 (omega (arith, c.half_line-n.ensures, p.1.0))) c.put_line.result c.put_line.new.out c.put_line.ensures

@@ -11,4 +11,4 @@ pub second_half-requires : goal.second_half-requires
 second_half-requires c = let a = c.args in (c.requires.0, (c.requires.1.0, (onto-long a.t.now a.i a.at c.requires.1.1.0 c.requires.1.1.1.0 (replicate 52 0) c.copy.new.to refl c.copy.ensures, (old-long a.t.now a.i a.at c.requires.1.1.0 c.requires.1.1.1.0 (replicate 52 0) c.copy.new.to refl c.copy.ensures, ap lane_formed (old_row a.t.now a.i a.at c.requires.1.1.0 c.requires.1.1.1.0 (replicate 52 0) c.copy.new.to refl c.copy.ensures) ∙ c.requires.1.1.1.1))))
 
 pub returns : goal.returns
-returns c = let a = c.args in half-put a.t.now a.i a.at c.requires.1.1.0 c.requires.1.1.1.0 (replicate 52 0) c.copy.new.to refl c.copy.ensures (λ v w. second_row a.pieces.now a.m a.cut.now a.next a.centers.now a.rank v w) c.second_half.new.row c.second_half.auto.0 c.second_half.ensures
+returns c = let a = c.args in half-put a.t.now a.i a.at c.requires.1.1.0 c.requires.1.1.1.0 (replicate 52 0) c.copy.new.to refl c.copy.ensures (λ v w. second_row a.pieces.now a.m a.cut.now a.next a.centers.now a.rank v w) c.second_half.new.row c.second_half.auto.row c.second_half.ensures

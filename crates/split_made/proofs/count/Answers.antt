@@ -15,4 +15,4 @@ count_warnings-requires c = let h = c.requires in (h.pieces, (h.few, h.beside))
 
 -- src/lib.rt:131:1
 pub returns : goal.returns
-returns c = let s = c.before.before.before.before.before.before.before.before.before.before.before.before.before.before.before in counted s.args.drawn.ids (cutting_of s.args.drawn s.args.seen.now s.args.cut.now s.args.marks.now s.args.pieces.now [] []) s.args.anchored.now s.args.past.now (tables_of s.args.lanes.now s.args.boundaries.now s.args.roads.now s.args.junctions.now s.args.rules.now [] [] []) c.count_modified.result c.count_warnings.result c.count_modified.ensures c.count_warnings.ensures
+returns c = let s = c in counted s.args.drawn.ids (cutting_of s.args.drawn s.args.seen.now s.args.cut.now s.args.marks.now s.args.pieces.now [] []) s.args.anchored.now s.args.past.now (tables_of s.args.lanes.now s.args.boundaries.now s.args.roads.now s.args.junctions.now s.args.rules.now [] [] []) c.count_modified.result c.count_warnings.result c.count_modified.ensures c.count_warnings.ensures

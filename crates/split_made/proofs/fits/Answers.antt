@@ -30,4 +30,4 @@ rules_fit-rules_fit-requires c = c.requires.rules
 
 -- src/lib.rt:85:1
 pub returns : goal.returns
-returns c = let s = c.before.before.before.before.before.before.before.before.before.before.before.before.before.before.before.before.before.before.before.before.before.before.before.before.before.before.before.before in all_fit (cutting_of s.args.drawn s.args.seen.now s.args.cut.now s.args.marks.now s.args.pieces.now s.args.lines.now s.args.centers.now) s.args.anchored.now (tables_of s.args.lanes.now s.args.boundaries.now s.args.roads.now s.args.junctions.now s.args.rules.now s.args.stop_lines.now s.args.crosswalks.now s.args.coordinates.now) c.points_after-points.result c.pieces_fit.result c.pieces_fit-2.result c.both-pieces_fit.result c.points_fit.result c.both-lines_fit.result c.lists_fit-roads_fit.result c.lists_fit-junctions_fit.result c.rules_fit-rules_fit.result c.both.result c.both-2.result c.both-3.result c.points_after-points.ensures c.pieces_fit.ensures c.pieces_fit-2.ensures c.both-pieces_fit.ensures c.points_fit.ensures c.both-lines_fit.ensures c.lists_fit-roads_fit.ensures c.lists_fit-junctions_fit.ensures c.rules_fit-rules_fit.ensures c.both.ensures c.both-2.ensures c.both-3.ensures
+returns c = let s = c in all_fit (cutting_of s.args.drawn s.args.seen.now s.args.cut.now s.args.marks.now s.args.pieces.now s.args.lines.now s.args.centers.now) s.args.anchored.now (tables_of s.args.lanes.now s.args.boundaries.now s.args.roads.now s.args.junctions.now s.args.rules.now s.args.stop_lines.now s.args.crosswalks.now s.args.coordinates.now) c.points_after-points.result c.pieces_fit.result c.pieces_fit-2.result c.both-pieces_fit.result c.points_fit.result c.both-lines_fit.result c.lists_fit-roads_fit.result c.lists_fit-junctions_fit.result c.rules_fit-rules_fit.result c.both.result c.both-2.result c.both-3.result c.points_after-points.ensures c.pieces_fit.ensures c.pieces_fit-2.ensures c.both-pieces_fit.ensures c.points_fit.ensures c.both-lines_fit.ensures c.lists_fit-roads_fit.ensures c.lists_fit-junctions_fit.ensures c.rules_fit-rules_fit.ensures c.both.ensures c.both-2.ensures c.both-3.ensures

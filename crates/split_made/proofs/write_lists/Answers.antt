@@ -15,15 +15,15 @@ warn-requires c = let h = c.requires in (h.notable.pieces, (h.notable.beside, h.
 
 -- src/lib.rt:168:1
 pub shape_of-created : goal.shape_of-created
-shape_of-created c = c.list_created.auto.1.1.1.0
+shape_of-created c = c.list_created.auto.created
 
 -- src/lib.rt:168:1
 pub shape_of-modified : goal.shape_of-modified
-shape_of-modified c = c.list_modified.auto.1.1.1.1.1.1.1.1.1.1.0
+shape_of-modified c = c.list_modified.auto.modified
 
 -- src/lib.rt:168:1
 pub shape_of-warnings : goal.shape_of-warnings
-shape_of-warnings c = c.warn.auto.1.1.1.1.1.1.0
+shape_of-warnings c = c.warn.auto.warnings
 
 -- src/lib.rt:168:1
 pub returns : goal.returns

@@ -34,11 +34,11 @@ pub half_line-requires : goal.half_line-requires
 half_line-requires c = let a = c.args in let p = c.requires in (own-few a.coordinates.now a.lanes.now a.boundaries.now a.point a.second a.i p.0 c.if-lanes-at-ne0.true c.line_of-line.result.now c.line_of-line.ensures, p.1)
 
 pub returns-then-count-ne0 : goal.returns-then-count-ne0
-returns-then-count-ne0 c = let a = c.args in let p = c.requires in own-written a.coordinates.now a.lanes.now a.boundaries.now a.point a.second a.i c.if-lanes-at-ne0.true c.line_of-line.result.now c.line_of-line.ensures (λ z. c.if-count-ne0.true (c.count.ensures ∙ z)) a.out.now c.half_line.new.out.0 c.half_line.result c.half_line.ensures
+returns-then-count-ne0 c = let a = c.args in let p = c.requires in own-written a.coordinates.now a.lanes.now a.boundaries.now a.point a.second a.i c.if-lanes-at-ne0.true c.line_of-line.result.now c.line_of-line.ensures (λ z. c.if-count-ne0.true (c.count.ensures ∙ z)) a.out.now c.half_line.new.out c.half_line.result c.half_line.ensures
 
 pub returns : goal.returns
 returns c =
     let a = c.args in let p = c.requires in
-    written_as (row_derived a.coordinates.now a.lanes.now a.boundaries.now a.point a.second a.i) (row_half a.coordinates.now a.lanes.now a.boundaries.now a.point a.second a.i) c.half_derived.result a.out.now c.half_derived.new.out.0
+    written_as (row_derived a.coordinates.now a.lanes.now a.boundaries.now a.point a.second a.i) (row_half a.coordinates.now a.lanes.now a.boundaries.now a.point a.second a.i) c.half_derived.result a.out.now c.half_derived.new.out
     (⊎_elim (λ s. half-between a.coordinates.now a.lanes.now a.boundaries.now a.point a.second a.i (inl (s.if-lanes-at-ne0.true, (s.line_of-line.result.now, (s.line_of-line.ensures, sym s.count.ensures ∙ s.if-count-ne0.false))))) (λ s. half-between a.coordinates.now a.lanes.now a.boundaries.now a.point a.second a.i (inr s.if-lanes-at-ne0.false)) c.if-lanes-at-ne0.branch-raw)
     c.half_derived.ensures

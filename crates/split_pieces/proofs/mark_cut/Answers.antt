@@ -15,7 +15,7 @@ bounds-lanes-0 c = omega (arith, sorted-room 1024 52 c.args.lanes.now c.requires
 
 pub loop-j-init : goal.loop-j-init
 loop-j-init c =
-    let u = c in
+    let u = c.before.before.before.before.before.before in
     (omega arith, (refl, mark-begins u.args.seen.now u.args.lanes.now u.args.boundaries.now u.args.marks.now u.requires.1.1 u.requires.0.1.1))
 
 pub bounds-seen-j : goal.bounds-seen-j
@@ -31,7 +31,7 @@ mark_side-requires-then-seen-j c =
     let u = c.requires.0 in
     let a = c.args in
     let t = c.loop-j in
-    let e = side-length a.lanes.now t.j Left a.boundaries.now t.marks c.mark_side.new.marks.0 c.mark_side.ensures in
+    let e = side-length a.lanes.now t.j Left a.boundaries.now t.marks c.mark_side.new.marks c.mark_side.ensures in
     ((u.0, (u.1.0, omega (arith, u.1.1, t.invariant.1.0, e))), c.loop-j-test.true)
 
 pub overflow_add-j : goal.overflow_add-j

@@ -1,4 +1,6 @@
 -- `split_pieces::used_beyond` meets its contract. The invariant: no lane before row j that is not marked uses the boundary. The measure is how
+use mathlib.Core.Bool.{not}
+use mathlib.Core.Path.{ap}
 use mathlib.Core.Logic.{⊎_elim}
 use Prim.Native.Nat.{◌-◌, ◌≤◌}
 use native.Mathlib.Omega.{arith}
@@ -20,7 +22,7 @@ pub row_uses-requires : goal.row_uses-requires
 row_uses-requires c = (c.requires.0, c.loop-j-test.true)
 
 pub returns-then-row_uses : goal.returns-then-row_uses
-returns-then-row_uses c = beyond-stops c.args.seen.now c.args.lanes.now c.args.id c.loop-j.j c.loop-j.invariant.1 c.loop-j-test.true c.requires.1 c.if-not-seen-j.true c.row_uses.result c.row_uses.ensures c.if-row_uses.true
+returns-then-row_uses c = beyond-stops c.args.seen.now c.args.lanes.now c.args.id c.loop-j.j c.loop-j.invariant.1 c.loop-j-test.true c.requires.1 (ap not c.if-not-seen-j.true) c.row_uses.result c.row_uses.ensures c.if-row_uses.true
 
 pub overflow_add-j : goal.overflow_add-j
 overflow_add-j c = omega (arith, c.loop-j-test.true, sorted-few 1024 52 c.args.lanes.now c.requires.0)
@@ -30,12 +32,12 @@ loop-j-smaller c = omega (arith, c.loop-j-test.true)
 
 pub loop-j-preserved : goal.loop-j-preserved
 loop-j-preserved c =
-    let u = c in
+    let u = c.before.before.before.before.before.before.before.before in
     let t = c.loop-j in
     let l = c.loop-j-test.true in
     ⊎_elim
-    (λ s. (omega (arith, l), beyond-none u.args.seen.now u.args.lanes.now u.args.id t.j t.invariant.1 l u.requires.1 s.if-not-seen-j.true s.row_uses.result s.row_uses.ensures s.if-row_uses.false))
-    (λ s. (omega (arith, l), beyond-marked u.args.seen.now u.args.lanes.now u.args.id t.j t.invariant.1 l u.requires.1 s.if-not-seen-j.false))
+    (λ s. (omega (arith, l), beyond-none u.args.seen.now u.args.lanes.now u.args.id t.j t.invariant.1 l u.requires.1 (ap not s.if-not-seen-j.true) s.row_uses.result s.row_uses.ensures s.if-row_uses.false))
+    (λ s. (omega (arith, l), beyond-marked u.args.seen.now u.args.lanes.now u.args.id t.j t.invariant.1 l u.requires.1 (ap not s.if-not-seen-j.false)))
     c.if-not-seen-j.branch-raw
 
 pub returns : goal.returns

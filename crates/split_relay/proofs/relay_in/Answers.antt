@@ -14,7 +14,7 @@ draw-behind-requires c =
 pub draw-requires : goal.draw-requires
 draw-requires c =
     let a = c.args in
-    second-asks (cutting a.point a.reach a.seen.now a.cut.now a.next a.marks.now a.pieces.now a.m a.lines.now a.centers.now) a.lanes.now a.boundaries.now a.stop_lines.now a.crosswalks.now a.coordinates.now a.drawn.now c.requires.0 c.requires.1 c.draw-behind.result c.draw-behind.new.out c.draw-behind.ensures c.draw-behind.auto.1.1.1.1.1.1.1.0
+    second-asks (cutting a.point a.reach a.seen.now a.cut.now a.next a.marks.now a.pieces.now a.m a.lines.now a.centers.now) a.lanes.now a.boundaries.now a.stop_lines.now a.crosswalks.now a.coordinates.now a.drawn.now c.requires.0 c.requires.1 c.draw-behind.result c.draw-behind.new.out c.draw-behind.ensures c.draw-behind.auto.out
 
 pub cut_boundaries-requires : goal.cut_boundaries-requires
 cut_boundaries-requires c = c.requires.0.boundaries_are_cut
@@ -25,13 +25,13 @@ cut_lanes-requires c = c.requires.0.lanes_are_cut
 pub lay_out-requires : goal.lay_out-requires
 lay_out-requires c =
     let a = c.args in
-    lay-asks (cutting a.point a.reach a.seen.now a.cut.now a.next a.marks.now a.pieces.now a.m a.lines.now a.centers.now) a.lanes.now a.boundaries.now a.stop_lines.now a.crosswalks.now a.coordinates.now a.drawn.now c.requires.0 c.requires.1 c.draw-behind.result c.draw-behind.new.out c.draw-behind.ensures c.draw-behind.auto.1.1.1.1.1.1.1.0 c.draw.new.out c.draw.ensures.1 c.draw.auto.1.1.1.1.1.1.1.0 c.cut_boundaries.new.t c.cut_boundaries.ensures c.cut_lanes.new.t c.cut_lanes.ensures
+    lay-asks (cutting a.point a.reach a.seen.now a.cut.now a.next a.marks.now a.pieces.now a.m a.lines.now a.centers.now) a.lanes.now a.boundaries.now a.stop_lines.now a.crosswalks.now a.coordinates.now a.drawn.now c.requires.0 c.requires.1 c.draw-behind.result c.draw-behind.new.out c.draw-behind.ensures c.draw-behind.auto.out c.draw.new.out c.draw.ensures.1 c.draw.auto.out c.cut_boundaries.new.t c.cut_boundaries.ensures c.cut_lanes.new.t c.cut_lanes.ensures
 
 pub shape_of-drawn : goal.shape_of-drawn
-shape_of-drawn c = c.draw.auto.1.1.1.1.1.1.1.0 ∙ c.draw-behind.auto.1.1.1.1.1.1.1.0
+shape_of-drawn c = c.draw.auto.out ∙ c.draw-behind.auto.out
 
 pub returns : goal.returns
 returns c =
     let a = c.args in
     let g = c.lay_out.new in
-    all-relaid (cutting a.point a.reach a.seen.now a.cut.now a.next a.marks.now a.pieces.now a.m a.lines.now a.centers.now) a.lanes.now a.boundaries.now a.stop_lines.now a.crosswalks.now a.coordinates.now a.drawn.now c.requires.0 c.requires.1 c.draw-behind.result c.draw-behind.new.out c.draw-behind.ensures c.draw-behind.auto.1.1.1.1.1.1.1.0 c.draw.new.out c.draw.ensures.1 c.draw.auto.1.1.1.1.1.1.1.0 c.cut_boundaries.new.t c.cut_boundaries.ensures c.cut_lanes.new.t c.cut_lanes.ensures (line_tables g.0 g.1.0 g.1.1.0 g.1.1.1.0 g.1.1.1.1.0) c.lay_out.ensures
+    all-relaid (cutting a.point a.reach a.seen.now a.cut.now a.next a.marks.now a.pieces.now a.m a.lines.now a.centers.now) a.lanes.now a.boundaries.now a.stop_lines.now a.crosswalks.now a.coordinates.now a.drawn.now c.requires.0 c.requires.1 c.draw-behind.result c.draw-behind.new.out c.draw-behind.ensures c.draw-behind.auto.out c.draw.new.out c.draw.ensures.1 c.draw.auto.out c.cut_boundaries.new.t c.cut_boundaries.ensures c.cut_lanes.new.t c.cut_lanes.ensures (line_tables g.lanes g.boundaries g.stop_lines g.crosswalks g.coordinates) c.lay_out.ensures

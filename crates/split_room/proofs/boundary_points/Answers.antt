@@ -91,7 +91,7 @@ loop-i-smaller c = omega (arith, c.loop-i-test.true)
 pub loop-i-preserved : goal.loop-i-preserved
 loop-i-preserved c =
     ⊎_elim
-    (λ s. bounds-one c.args.pieces.now c.args.lines.now c.args.marks.now c.args.boundaries.now c.requires c.loop-i.i c.loop-i.j c.loop-i.points c.loop-i.invariant c.loop-i-test.true s.if-marks-i.true s.if-pieces-at.points c.if-marks-i.j c.if-marks-i.points (⊎_elim (λ q. kept-own c.args.pieces.now c.args.lines.now c.args.marks.now c.args.boundaries.now c.requires c.loop-i.i c.loop-i.j c.loop-i.points c.loop-i.invariant c.loop-i-test.true s.if-pieces-at.points q.0.taken q.1) (λ q. kept-none c.args.pieces.now c.args.lines.now c.args.marks.now c.args.boundaries.now c.requires c.loop-i.i c.loop-i.j c.loop-i.points c.loop-i.invariant c.loop-i-test.true s.if-pieces-at.points q.0.left q.1) s.if-pieces-at.came) s.j-is s.points-is)
+    (λ s. bounds-one c.args.pieces.now c.args.lines.now c.args.marks.now c.args.boundaries.now c.requires c.loop-i.i c.loop-i.j c.loop-i.points c.loop-i.invariant c.loop-i-test.true s.if-marks-i.true s.if-pieces-at.points c.if-marks-i.j c.if-marks-i.points (⊎_elim (λ q. kept-own c.args.pieces.now c.args.lines.now c.args.marks.now c.args.boundaries.now c.requires c.loop-i.i c.loop-i.j c.loop-i.points c.loop-i.invariant c.loop-i-test.true s.if-pieces-at.points q.if-pieces-at.true q.points-is) (λ q. kept-none c.args.pieces.now c.args.lines.now c.args.marks.now c.args.boundaries.now c.requires c.loop-i.i c.loop-i.j c.loop-i.points c.loop-i.invariant c.loop-i-test.true s.if-pieces-at.points q.if-pieces-at.false q.points-is) s.if-pieces-at.branch-raw) s.j-is s.points-is)
     (λ s. bounds-none c.args.pieces.now c.args.lines.now c.args.marks.now c.args.boundaries.now c.requires c.loop-i.i c.loop-i.j c.loop-i.points c.loop-i.invariant c.loop-i-test.true s.if-marks-i.false c.if-marks-i.j c.if-marks-i.points s.j-is s.points-is)
     c.if-marks-i.branch-raw
 

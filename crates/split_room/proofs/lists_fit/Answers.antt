@@ -1,5 +1,6 @@
 -- `split_room::lists_fit` meets its contract. The invariant: the lists of the rows before number i have places, so all have where those from there on have. The measure is how many are left. Assumes nothing.
-use mathlib.Core.Path.{◌≡◌}
+use mathlib.Core.Bool.{not}
+use mathlib.Core.Path.{◌≡◌, ap}
 use Prim.Native.Nat.{◌-◌, ◌≤◌}
 use native.Mathlib.Omega.{arith}
 use Rattle.tables.specs.View.{word}
@@ -28,7 +29,7 @@ pub list_fits-requires : goal.list_fits-requires
 list_fits-requires c = list-asks c.args.s c.args.k c.args.cut.now c.args.t.now c.requires c.loop-i.i c.loop-i-test.true
 
 pub returns-then-not-list_fits : goal.returns-then-not-list_fits
-returns-then-not-list_fits c = pass-stops c.args.s (list_fits c.args.cut.now c.args.k) c.args.t.now c.loop-i.i c.loop-i.invariant.1 c.list_fits.result c.loop-i-test.true (list-there c.args.s c.args.k c.args.cut.now c.args.t.now c.requires c.loop-i.i c.loop-i-test.true c.list_fits.result c.list_fits.ensures) (not-true c.list_fits.result c.if-not-list_fits.true)
+returns-then-not-list_fits c = pass-stops c.args.s (list_fits c.args.cut.now c.args.k) c.args.t.now c.loop-i.i c.loop-i.invariant.1 c.list_fits.result c.loop-i-test.true (list-there c.args.s c.args.k c.args.cut.now c.args.t.now c.requires c.loop-i.i c.loop-i-test.true c.list_fits.result c.list_fits.ensures) (not-true c.list_fits.result (ap not c.if-not-list_fits.true))
 
 pub overflow_add-i-in-loop-i-2 : goal.overflow_add-i-in-loop-i-2
 overflow_add-i-in-loop-i-2 c = omega (arith, lists-few c.args.s c.args.k c.args.cut.now c.args.t.now c.requires c.loop-i.i c.loop-i-test.true, lists-room c.args.s c.args.k c.args.cut.now c.args.t.now c.requires c.loop-i.i c.loop-i-test.true, c.requires.list)
@@ -37,7 +38,7 @@ pub loop-i-smaller : goal.loop-i-smaller
 loop-i-smaller c = omega (arith, c.loop-i-test.true)
 
 pub loop-i-preserved : goal.loop-i-preserved
-loop-i-preserved c = (omega (arith, c.loop-i-test.true), pass-goes-on c.args.s (list_fits c.args.cut.now c.args.k) c.args.t.now c.loop-i.i c.loop-i.invariant.1 c.list_fits.result c.loop-i-test.true (list-there c.args.s c.args.k c.args.cut.now c.args.t.now c.requires c.loop-i.i c.loop-i-test.true c.list_fits.result c.list_fits.ensures) (not-false c.list_fits.result c.if-not-list_fits.false))
+loop-i-preserved c = (omega (arith, c.loop-i-test.true), pass-goes-on c.args.s (list_fits c.args.cut.now c.args.k) c.args.t.now c.loop-i.i c.loop-i.invariant.1 c.list_fits.result c.loop-i-test.true (list-there c.args.s c.args.k c.args.cut.now c.args.t.now c.requires c.loop-i.i c.loop-i-test.true c.list_fits.result c.list_fits.ensures) (not-false c.list_fits.result (ap not c.if-not-list_fits.false)))
 
 pub returns : goal.returns
 returns c = pass-ends c.args.s (list_fits c.args.cut.now c.args.k) c.args.t.now c.loop-i.i c.loop-i.invariant.1 c.loop-i-test.false

@@ -1,5 +1,6 @@
 -- `split_room::rules_fit` meets its contract. The invariant: the rules before number i fit, so all do where those from there on do. The measure is how many are left. Assumes nothing.
-use mathlib.Core.Path.{◌≡◌, refl}
+use mathlib.Core.Bool.{not}
+use mathlib.Core.Path.{◌≡◌, refl, ap}
 use Prim.Native.Nat.{◌-◌, ◌≤◌}
 use native.Mathlib.Omega.{arith}
 use lib.ListN.{drop}
@@ -29,6 +30,12 @@ offset_bounds-rules-at c = omega (arith, rules-few c.args.anchored.now c.args.cu
 pub slice_bounds-rule_fits-count : goal.slice_bounds-rule_fits-count
 slice_bounds-rule_fits-count c = omega (arith, rules-few c.args.anchored.now c.args.cut.now c.args.rules.now c.requires c.loop-i.i c.loop-i.invariant.1 c.loop-i-test.true)
 
+pub slice_bounds-rule_fits-start : goal.slice_bounds-rule_fits-start
+slice_bounds-rule_fits-start c = omega (arith, rules-few c.args.anchored.now c.args.cut.now c.args.rules.now c.requires c.loop-i.i c.loop-i.invariant.1 c.loop-i-test.true)
+
+pub slice_bounds-rule_fits-end : goal.slice_bounds-rule_fits-end
+slice_bounds-rule_fits-end c = omega (arith, rules-room c.args.anchored.now c.args.cut.now c.args.rules.now c.requires c.loop-i.i c.loop-i.invariant.1 c.loop-i-test.true)
+
 pub bounds-anchored-i : goal.bounds-anchored-i
 bounds-anchored-i c = omega (arith, c.loop-i-test.true, c.requires.anchors)
 
@@ -36,7 +43,7 @@ pub rule_fits-requires : goal.rule_fits-requires
 rule_fits-requires c = rule-asks c.args.anchored.now c.args.cut.now c.args.rules.now c.requires c.loop-i.i c.loop-i.invariant.1 c.loop-i-test.true
 
 pub returns-then-not-rule_fits : goal.returns-then-not-rule_fits
-returns-then-not-rule_fits c = rules-stop c.args.anchored.now c.args.cut.now c.args.rules.now c.requires c.loop-i.i c.loop-i.invariant.1 c.loop-i-test.true c.rule_fits.result c.rule_fits.ensures c.if-not-rule_fits.true
+returns-then-not-rule_fits c = rules-stop c.args.anchored.now c.args.cut.now c.args.rules.now c.requires c.loop-i.i c.loop-i.invariant.1 c.loop-i-test.true c.rule_fits.result c.rule_fits.ensures (ap not c.if-not-rule_fits.true)
 
 pub overflow_add-i : goal.overflow_add-i
 overflow_add-i c = omega (arith, rules-few c.args.anchored.now c.args.cut.now c.args.rules.now c.requires c.loop-i.i c.loop-i.invariant.1 c.loop-i-test.true)
@@ -45,7 +52,7 @@ pub loop-i-smaller : goal.loop-i-smaller
 loop-i-smaller c = omega (arith, c.loop-i-test.true)
 
 pub loop-i-preserved : goal.loop-i-preserved
-loop-i-preserved c = (omega (arith, c.loop-i-test.true), rules-go-on c.args.anchored.now c.args.cut.now c.args.rules.now c.requires c.loop-i.i c.loop-i.invariant.1 c.loop-i-test.true c.rule_fits.result c.rule_fits.ensures c.if-not-rule_fits.false)
+loop-i-preserved c = (omega (arith, c.loop-i-test.true), rules-go-on c.args.anchored.now c.args.cut.now c.args.rules.now c.requires c.loop-i.i c.loop-i.invariant.1 c.loop-i-test.true c.rule_fits.result c.rule_fits.ensures (ap not c.if-not-rule_fits.false))
 
 pub returns : goal.returns
 returns c = rules-end c.args.anchored.now c.args.cut.now c.args.rules.now c.requires c.loop-i.i c.loop-i.invariant.1 c.loop-i-test.false

@@ -29,6 +29,9 @@ overflow_add-to c = let a = c.args in omega (arith, rule-there a.rules.now c.req
 pub offset_bounds-rules-from-2 : goal.offset_bounds-rules-from-2
 offset_bounds-rules-from-2 c = let a = c.args in omega (arith, rule-there a.rules.now c.requires.0 a.i c.requires.1.0 c.requires.1.1.0, rule-few a.rules.now c.requires.0 a.i c.requires.1.0 c.requires.1.1.0)
 
+pub slice_bounds-names_cut-end : goal.slice_bounds-names_cut-end
+slice_bounds-names_cut-end c = let a = c.args in omega (arith, rule-there a.rules.now c.requires.0 a.i c.requires.1.0 c.requires.1.1.0, rule-few a.rules.now c.requires.0 a.i c.requires.1.0 c.requires.1.1.0)
+
 pub names_cut-requires : goal.names_cut-requires
 names_cut-requires c = (omega (arith, c.names_cut-arg-1), c.requires.1.1.1.0)
 

@@ -38,6 +38,9 @@ overflow_add-to c = let a = c.args in let p = c.requires in omega (arith, table-
 pub offset_bounds-rules-from-2 : goal.offset_bounds-rules-from-2
 offset_bounds-rules-from-2 c = let a = c.args in let p = c.requires in omega (arith, table-few 512 330 a.rules.now p.counts, p.row, rule-there a.rules.now p.counts a.i p.row p.formed, rule-few a.rules.now p.counts a.i p.row p.formed)
 
+pub slice_bounds-mark_lanes-end : goal.slice_bounds-mark_lanes-end
+slice_bounds-mark_lanes-end c = let a = c.args in let p = c.requires in omega (arith, table-few 512 330 a.rules.now p.counts, p.row, rule-there a.rules.now p.counts a.i p.row p.formed, rule-few a.rules.now p.counts a.i p.row p.formed)
+
 pub mark_lanes-requires : goal.mark_lanes-requires
 mark_lanes-requires c = let a = c.args in let p = c.requires in let n = get_or a.rules.now (1 + a.i * 330 + 5 + 1 - 1) 0 in (p.drawable, (p.ascend, (p.stationed, omega (arith, ap length (ids-lent a.rules.now p.counts a.i p.row p.formed n refl), ids_few a.rules.now p.counts a.i p.row p.formed, p.marks))))
 

@@ -20,6 +20,12 @@ overflow_add-last c = let a = c.args in omega (arith, rules-few a.join a.coordin
 pub slice_bounds-mark_rule-count : goal.slice_bounds-mark_rule-count
 slice_bounds-mark_rule-count c = omega arith
 
+pub slice_bounds-mark_rule-start : goal.slice_bounds-mark_rule-start
+slice_bounds-mark_rule-start c = omega arith
+
+pub slice_bounds-mark_rule-end : goal.slice_bounds-mark_rule-end
+slice_bounds-mark_rule-end c = let a = c.args in omega (arith, marks-room a.join a.coordinates.now a.lanes.now a.boundaries.now a.point a.cut.now a.stations.now a.rules.now a.stop_lines.now a.crosswalks.now a.anchored.now a.past.now c.requires c.loop-i.i c.loop-i-test.true, c.loop-i.invariant.long)
+
 pub mark_rule-requires : goal.mark_rule-requires
 mark_rule-requires c = let a = c.args in rule-may a.join a.coordinates.now a.lanes.now a.boundaries.now a.point a.cut.now a.stations.now a.rules.now a.stop_lines.now a.crosswalks.now a.anchored.now a.past.now c.requires c.loop-i.i c.loop-i-test.true c.loop-i.past c.loop-i.invariant.long
 
@@ -33,7 +39,7 @@ pub loop-i-smaller : goal.loop-i-smaller
 loop-i-smaller c = omega (arith, c.loop-i-test.true)
 
 pub loop-i-preserved : goal.loop-i-preserved
-loop-i-preserved c = let a = c.args in done_more a.join a.coordinates.now a.lanes.now a.boundaries.now a.point a.cut.now a.stations.now a.rules.now a.stop_lines.now a.crosswalks.now a.anchored.now a.past.now c.requires c.loop-i.i c.loop-i-test.true c.loop-i.anchored c.loop-i.past c.loop-i.invariant c.mark_rule.result c.mark_rule.new.past.0 c.mark_rule.ensures
+loop-i-preserved c = let a = c.args in done_more a.join a.coordinates.now a.lanes.now a.boundaries.now a.point a.cut.now a.stations.now a.rules.now a.stop_lines.now a.crosswalks.now a.anchored.now a.past.now c.requires c.loop-i.i c.loop-i-test.true c.loop-i.anchored c.loop-i.past c.loop-i.invariant c.mark_rule.result c.mark_rule.new.past c.mark_rule.ensures
 
 pub shape_of-anchored : goal.shape_of-anchored
 shape_of-anchored c = c.loop-i.invariant.tested.same

@@ -21,13 +21,13 @@ pub returns-in_default : goal.returns-in_default
 returns-in_default c = (stationed-gone c.args.coordinates.now c.args.boundaries.now c.args.lanes.now c.args.j c.centerline-found.result c.centerline-found.ensures.0 c.in_default.is c.args.piece c.args.own c.args.cut, c.centerline-found.ensures.1)
 
 pub overflow_mul-end : goal.overflow_mul-end
-overflow_mul-end c = omega (arith, line_small c.args.coordinates.now c.args.boundaries.now c.args.lanes.now c.args.j c.requires.0 c.requires.1.0 c.args.line.now c.centerline-found.new.out.0 c.requires.1.1 c.centerline-found.ensures.1 c.centerline-found.result c.centerline-found.ensures.0 c.in-Some.n c.in-Some.is)
+overflow_mul-end c = omega (arith, line_small c.args.coordinates.now c.args.boundaries.now c.args.lanes.now c.args.j c.requires.0 c.requires.1.0 c.args.line.now c.centerline-found.new.out c.requires.1.1 c.centerline-found.ensures.1 c.centerline-found.result c.centerline-found.ensures.0 c.in-Some.n c.in-Some.is)
 
 pub slice_bounds-station_on-end : goal.slice_bounds-station_on-end
-slice_bounds-station_on-end c = line-within c.args.coordinates.now c.args.boundaries.now c.args.lanes.now c.args.j c.requires.0 c.requires.1.0 c.args.line.now c.centerline-found.new.out.0 c.requires.1.1 c.centerline-found.ensures.1 c.centerline-found.result c.centerline-found.ensures.0 c.in-Some.n c.in-Some.is
+slice_bounds-station_on-end c = line-within c.args.coordinates.now c.args.boundaries.now c.args.lanes.now c.args.j c.requires.0 c.requires.1.0 c.args.line.now c.centerline-found.new.out c.requires.1.1 c.centerline-found.ensures.1 c.centerline-found.result c.centerline-found.ensures.0 c.in-Some.n c.in-Some.is
 
 pub slice_bounds-station_on-end-2 : goal.slice_bounds-station_on-end-2
-slice_bounds-station_on-end-2 c = line-lent c.args.coordinates.now c.args.boundaries.now c.args.lanes.now c.args.j c.requires.0 c.requires.1.0 c.args.line.now c.centerline-found.new.out.0 c.requires.1.1 c.centerline-found.ensures.1 c.centerline-found.result c.centerline-found.ensures.0 c.in-Some.n c.in-Some.is
+slice_bounds-station_on-end-2 c = line-lent c.args.coordinates.now c.args.boundaries.now c.args.lanes.now c.args.j c.requires.0 c.requires.1.0 c.args.line.now c.centerline-found.new.out c.requires.1.1 c.centerline-found.ensures.1 c.centerline-found.result c.centerline-found.ensures.0 c.in-Some.n c.in-Some.is
 
 pub returns : goal.returns
-returns c = (stationed-there c.args.coordinates.now c.args.boundaries.now c.args.lanes.now c.args.j c.requires.0 c.requires.1.0 c.args.line.now c.centerline-found.new.out.0 c.requires.1.1 c.centerline-found.ensures.1 c.centerline-found.result c.centerline-found.ensures.0 c.in-Some.n c.in-Some.is c.args.piece c.args.own c.args.cut c.station_on.result c.station_on.ensures, c.centerline-found.ensures.1)
+returns c = (stationed-there c.args.coordinates.now c.args.boundaries.now c.args.lanes.now c.args.j c.requires.0 c.requires.1.0 c.args.line.now c.centerline-found.new.out c.requires.1.1 c.centerline-found.ensures.1 c.centerline-found.result c.centerline-found.ensures.0 c.in-Some.n c.in-Some.is c.args.piece c.args.own c.args.cut c.station_on.result c.station_on.ensures, c.centerline-found.ensures.1)

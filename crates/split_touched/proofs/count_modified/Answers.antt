@@ -25,7 +25,7 @@ bounds-roads-0 c = omega (arith, table-some 256 68 c.args.roads.now c.requires.e
 
 -- src/lib.rt:91:11
 pub count_marks-requires-3 : goal.count_marks-requires-3
-count_marks-requires-3 c = omega (arith, c.requires.every_row.roads_listed.marks_there, c.touch.auto.1.1.1.1.1.1.1.1.1.1.1.1.0, length-replicate {A = Bool} 256 false)
+count_marks-requires-3 c = omega (arith, c.requires.every_row.roads_listed.marks_there, c.touch.auto.road_marks, length-replicate {A = Bool} 256 false)
 
 -- src/lib.rt:89:5
 pub overflow_add-result-2 : goal.overflow_add-result-2
@@ -37,7 +37,7 @@ bounds-junctions-0 c = omega (arith, table-some 256 69 c.args.junctions.now c.re
 
 -- src/lib.rt:92:11
 pub count_marks-requires-4 : goal.count_marks-requires-4
-count_marks-requires-4 c = omega (arith, c.requires.every_row.junctions_listed.marks_there, c.touch.auto.1.1.1.1.1.1.1.1.1.1.1.1.1.0, length-replicate {A = Bool} 256 false)
+count_marks-requires-4 c = omega (arith, c.requires.every_row.junctions_listed.marks_there, c.touch.auto.junction_marks, length-replicate {A = Bool} 256 false)
 
 -- src/lib.rt:89:5
 pub overflow_add-result-3 : goal.overflow_add-result-3
@@ -49,7 +49,7 @@ bounds-rules-0 c = omega (arith, table-some 512 330 c.args.rules.now c.requires.
 
 -- src/lib.rt:93:11
 pub count_marks-requires-5 : goal.count_marks-requires-5
-count_marks-requires-5 c = omega (arith, c.requires.every_row.rules_listed.marks_there, c.touch.auto.1.1.1.1.1.1.1.1.1.1.1.1.1.1.0, length-replicate {A = Bool} 512 false)
+count_marks-requires-5 c = omega (arith, c.requires.every_row.rules_listed.marks_there, c.touch.auto.rule_marks, length-replicate {A = Bool} 512 false)
 
 -- src/lib.rt:89:5
 pub overflow_add-result-4 : goal.overflow_add-result-4
@@ -57,4 +57,4 @@ overflow_add-result-4 c = omega (arith, table-few 1024 52 c.args.lanes.now c.req
 
 -- src/lib.rt:52:1
 pub returns : goal.returns
-returns c = counted-told (told c.args.cut.now c.args.marks.now c.args.pieces.now c.args.anchored.now c.args.past.now) (rows_of c.args.lanes.now c.args.boundaries.now c.args.roads.now c.args.junctions.now c.args.rules.now) (marks_of c.touch.new.lane_marks c.touch.new.alone c.touch.new.road_marks c.touch.new.junction_marks c.touch.new.rule_marks.0) c.touch.ensures c.count_marks.result c.count_marks-2.result c.count_marks-3.result c.count_marks-4.result c.count_marks-5.result c.count_marks.ensures.0 c.count_marks-2.ensures.0 c.count_marks-3.ensures.0 c.count_marks-4.ensures.0 c.count_marks-5.ensures.0
+returns c = counted-told (told c.args.cut.now c.args.marks.now c.args.pieces.now c.args.anchored.now c.args.past.now) (rows_of c.args.lanes.now c.args.boundaries.now c.args.roads.now c.args.junctions.now c.args.rules.now) (marks_of c.touch.new.lane_marks c.touch.new.alone c.touch.new.road_marks c.touch.new.junction_marks c.touch.new.rule_marks) c.touch.ensures c.count_marks.result c.count_marks-2.result c.count_marks-3.result c.count_marks-4.result c.count_marks-5.result c.count_marks.ensures.0 c.count_marks-2.ensures.0 c.count_marks-3.ensures.0 c.count_marks-4.ensures.0 c.count_marks-5.ensures.0

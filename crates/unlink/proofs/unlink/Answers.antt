@@ -33,19 +33,19 @@ pub bounds-lanes-j : goal.bounds-lanes-j
 bounds-lanes-j c = omega (arith, lane_room c.args.lanes.now c.requires.0 c.args.j c.requires.1.1.0)
 
 pub slice_bounds-ids-end : goal.slice_bounds-ids-end
-slice_bounds-ids-end c = omega (arith, c.pair_unless-n.auto.1.1.1.0, pair-few (not c.args.linked) (get_or c.args.lanes.now (1 + c.args.i * 52) 0) (get_or c.args.lanes.now (1 + c.args.j * 52) 0) c.pair_unless-n.result c.pair_unless-n.ensures.1)
+slice_bounds-ids-end c = omega (arith, c.pair_unless-n.auto.ids, pair-few (not c.args.linked) (get_or c.args.lanes.now (1 + c.args.i * 52) 0) (get_or c.args.lanes.now (1 + c.args.j * 52) 0) c.pair_unless-n.result c.pair_unless-n.ensures.1)
 
 pub slice_bounds-report-end : goal.slice_bounds-report-end
-slice_bounds-report-end c = unlink_counted c.args.lanes.now c.args.i c.args.j c.args.linked c.args.modified.now c.args.warnings.now c.no_op_where-note.result c.pair_unless-n.result c.pair_unless-n.new.ids.0 c.no_op_where-note.ensures c.pair_unless-n.ensures c.fits2.result c.fits2.ensures
+slice_bounds-report-end c = unlink_counted c.args.lanes.now c.args.i c.args.j c.args.linked c.args.modified.now c.args.warnings.now c.no_op_where-note.result c.pair_unless-n.result c.pair_unless-n.new.ids c.no_op_where-note.ensures c.pair_unless-n.ensures c.fits.result c.fits.ensures
 
 pub report-told-requires : goal.report-told-requires
-report-told-requires c = unlink_fits c.args.lanes.now c.args.i c.args.j c.args.linked c.args.modified.now c.args.warnings.now c.no_op_where-note.result c.pair_unless-n.result c.pair_unless-n.new.ids.0 c.no_op_where-note.ensures c.pair_unless-n.ensures c.fits2.result c.fits2.ensures c.if-fits.true
+report-told-requires c = unlink_fits c.args.lanes.now c.args.i c.args.j c.args.linked c.args.modified.now c.args.warnings.now c.no_op_where-note.result c.pair_unless-n.result c.pair_unless-n.new.ids c.no_op_where-note.ensures c.pair_unless-n.ensures c.fits.result c.fits.ensures c.if-fits.true
 
 pub remove_link-requires : goal.remove_link-requires
 remove_link-requires c = (c.requires.0, (c.requires.1.0, c.requires.1.1.0))
 
 pub returns-then-fits : goal.returns-then-fits
-returns-then-fits c = unlink_done c.args.lanes.now c.args.i c.args.j c.args.linked c.args.modified.now c.args.warnings.now c.no_op_where-note.result c.pair_unless-n.result c.pair_unless-n.new.ids.0 c.no_op_where-note.ensures c.pair_unless-n.ensures c.fits2.result c.fits2.ensures c.if-fits.true c.remove_link.new.lanes c.report-told.new.modified c.report-told.new.warnings.0 c.report-told.result c.remove_link.ensures c.report-told.ensures
+returns-then-fits c = unlink_done c.args.lanes.now c.args.i c.args.j c.args.linked c.args.modified.now c.args.warnings.now c.no_op_where-note.result c.pair_unless-n.result c.pair_unless-n.new.ids c.no_op_where-note.ensures c.pair_unless-n.ensures c.fits.result c.fits.ensures c.if-fits.true c.remove_link.new.lanes c.report-told.new.modified c.report-told.new.warnings c.report-told.result c.remove_link.ensures c.report-told.ensures
 
 pub returns : goal.returns
-returns c = unlink_full c.args.lanes.now c.args.i c.args.j c.args.linked c.args.modified.now c.args.warnings.now c.no_op_where-note.result c.pair_unless-n.result c.pair_unless-n.new.ids.0 c.no_op_where-note.ensures c.pair_unless-n.ensures c.fits2.result c.fits2.ensures c.if-fits.false
+returns c = unlink_full c.args.lanes.now c.args.i c.args.j c.args.linked c.args.modified.now c.args.warnings.now c.no_op_where-note.result c.pair_unless-n.result c.pair_unless-n.new.ids c.no_op_where-note.ensures c.pair_unless-n.ensures c.fits.result c.fits.ensures c.if-fits.false

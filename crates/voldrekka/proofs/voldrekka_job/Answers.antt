@@ -4,33 +4,25 @@ use Rattle.step.specs.Step.{Lent, lent_of}
 use Rattle.job_words.specs.JobWords.{job_of}
 use Rattle.voldrekka.proofs.Jobs.{all-jobs}
 use Rattle.voldrekka.proofs.voldrekka_job.Goals as goal
-use Rattle.voldrekka.proofs.voldrekka_job.Lts as lts
-use Rattle.voldrekka.proofs.voldrekka_job.Reads as reads
-use Rattle.voldrekka.proofs.voldrekka_job.Tie as tie
-
-abbrev AtStart : Type 0
-AtStart = lts.Start tie.the-claims reads.Pre reads.Post
-
-abbrev AtAfterApplyEnd : Type 0
-AtAfterApplyEnd = lts.After-apply tie.the-claims reads.Pre reads.Post
+use Rattle.voldrekka.proofs.voldrekka_job.Goals.{Start, After-apply-end}
 
 -- what is lent
-abbrev lentOn : AtStart → Lent
+abbrev lentOn : Start → Lent
 lentOn s =
     lent_of s.args.counter.now s.args.lanes.now s.args.boundaries.now s.args.roads.now s.args.junctions.now s.args.rules.now s.args.stop_lines.now s.args.crosswalks.now s.args.coordinates.now s.args.created.now s.args.modified.now s.args.deleted.now s.args.warnings.now
 
-abbrev areaOf : AtStart → Tables
+abbrev areaOf : Start → Tables
 areaOf s =
-    tables_of s.args.old-lanes.now s.args.old-boundaries.now s.args.old-roads.now s.args.old-junctions.now s.args.old-rules.now s.args.old-stop-lines.now s.args.old-crosswalks.now s.args.old-coordinates.now
+    tables_of s.args.old_lanes.now s.args.old_boundaries.now s.args.old_roads.now s.args.old_junctions.now s.args.old_rules.now s.args.old_stop_lines.now s.args.old_crosswalks.now s.args.old_coordinates.now
 
 -- what the job leaves of it
-abbrev left_by : AtAfterApplyEnd → Lent
+abbrev left_by : After-apply-end → Lent
 left_by a =
-    lent_of a.apply.result.counter a.apply.new.lanes a.apply.new.boundaries a.apply.new.roads a.apply.new.junctions a.apply.new.rules a.apply.new.stop_lines a.apply.new.crosswalks a.apply.new.coordinates a.apply.new.created a.apply.new.modified a.apply.new.deleted a.apply.new.warnings
+    lent_of a.apply-end.result.counter a.apply-end.new.lanes a.apply-end.new.boundaries a.apply-end.new.roads a.apply-end.new.junctions a.apply-end.new.rules a.apply-end.new.stop_lines a.apply-end.new.crosswalks a.apply-end.new.coordinates a.apply-end.new.created a.apply-end.new.modified a.apply-end.new.deleted a.apply-end.new.warnings
 
-abbrev areaLeft : AtAfterApplyEnd → Tables
+abbrev areaLeft : After-apply-end → Tables
 areaLeft a =
-    tables_of a.apply.new.old_lanes a.apply.new.old_boundaries a.apply.new.old_roads a.apply.new.old_junctions a.apply.new.old_rules a.apply.new.old_stop_lines a.apply.new.old_crosswalks a.apply.new.old_coordinates
+    tables_of a.apply-end.new.old_lanes a.apply-end.new.old_boundaries a.apply-end.new.old_roads a.apply-end.new.old_junctions a.apply-end.new.old_rules a.apply-end.new.old_stop_lines a.apply-end.new.old_crosswalks a.apply-end.new.old_coordinates
 
 -- src/lib.rt:208:1
 pub shape_of-lanes : goal.shape_of-lanes
@@ -114,4 +106,4 @@ shape_of-warnings c = c.apply-end.auto.warnings
 
 -- src/lib.rt:208:1
 pub returns : goal.returns
-returns c = all-jobs (job_of c.args.commands.now) c.job_of-made.result c.preset-tolerance.result (lentOn c.before.before.before.before.before.before.before.before.before.before.before.before.before.before.before.before.before.before.before.before.before.before.before.before.before.before.before.before.before.before.before.before.before.before.before.before.before.before.before.before.before.before.before.before.before.before.before.before.before.before.before.before.before.before.before.before.before.before.before.before.before.before.before.before.before.before.before.before.before.before.before.before.before.before.before.before.before.before.before.before.before.before.before.before.before.before.before) (left_by c.before.before.before.before.before.before.before.before.before.before.before.before.before.before.before.before.before.before.before.before.before.before.before.before.before.before.before.before.before.before.before.before.before.before.before.before.before.before.before.before.before.before) (areaOf c.before.before.before.before.before.before.before.before.before.before.before.before.before.before.before.before.before.before.before.before.before.before.before.before.before.before.before.before.before.before.before.before.before.before.before.before.before.before.before.before.before.before.before.before.before.before.before.before.before.before.before.before.before.before.before.before.before.before.before.before.before.before.before.before.before.before.before.before.before.before.before.before.before.before.before.before.before.before.before.before.before.before.before.before.before.before.before) (areaLeft c.before.before.before.before.before.before.before.before.before.before.before.before.before.before.before.before.before.before.before.before.before.before.before.before.before.before.before.before.before.before.before.before.before.before.before.before.before.before.before.before.before.before) c.apply-end.result.answer c.tell.result c.job_of-made.ensures c.preset-tolerance.ensures c.apply-end.ensures c.tell.ensures
+returns c = all-jobs (job_of c.args.commands.now) c.job_of-made.result c.preset-tolerance.result (lentOn (goal.at.returns c).Start) (left_by (goal.at.returns c).After-apply-end) (areaOf (goal.at.returns c).Start) (areaLeft (goal.at.returns c).After-apply-end) c.apply-end.result.answer c.tell.result c.job_of-made.ensures c.preset-tolerance.ensures c.apply-end.ensures c.tell.ensures

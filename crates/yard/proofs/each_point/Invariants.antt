@@ -3,7 +3,7 @@ use Rattle.std.proofs.Common.{◌-◌, ◌≤◌, rules}
 use Rattle.yard.proofs.each_point.Given as goal
 
 abbrev pub invariant-loop-i : goal.invariant-loop-i
-invariant-loop-i l = (l.i ≤ l.size) × ((l.start ≤ 65536) × (l.size ≤ 65536))
+invariant-loop-i g l = (l.i ≤ l.size) × ((l.start ≤ 65536) × (l.size ≤ 65536))
 
 abbrev pub decreases-loop-i : goal.decreases-loop-i
-decreases-loop-i l = l.size - l.i
+decreases-loop-i g l = l.size - l.i

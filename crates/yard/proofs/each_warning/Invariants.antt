@@ -3,7 +3,7 @@ use Rattle.std.proofs.Common.{◌-◌, ◌*◌, ◌≤◌, length, rules}
 use Rattle.yard.proofs.each_warning.Given as goal
 
 abbrev pub invariant-loop-i : goal.invariant-loop-i
-invariant-loop-i l = (l.i ≤ l.rows) × (l.rows * 10 ≤ length l.list)
+invariant-loop-i g l = (l.i ≤ l.rows) × (l.rows * 10 ≤ length l.list)
 
 abbrev pub decreases-loop-i : goal.decreases-loop-i
-decreases-loop-i l = l.rows - l.i
+decreases-loop-i g l = l.rows - l.i

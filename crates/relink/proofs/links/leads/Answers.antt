@@ -33,3 +33,6 @@ offset_bounds-lanes-from c = omega (arith, lane_room c.args.lanes.now c.requires
 
 pub returns : goal.returns
 returns c = c.contains.ensures ∙ ap (has c.args.id) (ids_at_lem c.args.lanes.now c.args.i 35 (links-within c.args.lanes.now c.requires.0 c.args.i c.requires.1 35 (inr refl)))
+
+pub slice_bounds-contains-end : goal.slice_bounds-contains-end
+slice_bounds-contains-end c = omega (arith, lane_room c.args.lanes.now c.requires.0 c.args.i c.requires.1, links-within c.args.lanes.now c.requires.0 c.args.i c.requires.1 35 (inr refl))

@@ -32,19 +32,19 @@ pub bounds-lanes-j : goal.bounds-lanes-j
 bounds-lanes-j c = omega (arith, lane_room c.args.lanes.now c.requires.0 c.args.j c.requires.1.1.0)
 
 pub slice_bounds-ids-end : goal.slice_bounds-ids-end
-slice_bounds-ids-end c = omega (arith, c.pair_unless-n.auto.1.1.1.0, pair-few c.args.linked (get_or c.args.lanes.now (1 + c.args.i * 52) 0) (get_or c.args.lanes.now (1 + c.args.j * 52) 0) c.pair_unless-n.result c.pair_unless-n.ensures.1)
+slice_bounds-ids-end c = omega (arith, c.pair_unless-n.auto.ids, pair-few c.args.linked (get_or c.args.lanes.now (1 + c.args.i * 52) 0) (get_or c.args.lanes.now (1 + c.args.j * 52) 0) c.pair_unless-n.result c.pair_unless-n.ensures.1)
 
 pub slice_bounds-report-end : goal.slice_bounds-report-end
-slice_bounds-report-end c = link-counted c.args.lanes.now c.args.i c.args.j c.args.linked c.args.gap c.args.modified.now c.args.warnings.now c.pair_where-first.result c.no_op_where-second.result c.pair_unless-n.result c.pair_unless-n.new.ids.0 c.pair_where-first.ensures c.no_op_where-second.ensures c.pair_unless-n.ensures c.link_room-room.result c.fits2.result c.both.result c.link_room-room.ensures c.fits2.ensures c.both.ensures
+slice_bounds-report-end c = link-counted c.args.lanes.now c.args.i c.args.j c.args.linked c.args.gap c.args.modified.now c.args.warnings.now c.pair_where-first.result c.no_op_where-second.result c.pair_unless-n.result c.pair_unless-n.new.ids c.pair_where-first.ensures c.no_op_where-second.ensures c.pair_unless-n.ensures c.link_room-room.result c.fits.result c.both.result c.link_room-room.ensures c.fits.ensures c.both.ensures
 
 pub report-counts-requires : goal.report-counts-requires
-report-counts-requires c = link_fits c.args.lanes.now c.args.i c.args.j c.args.linked c.args.gap c.args.modified.now c.args.warnings.now c.pair_where-first.result c.no_op_where-second.result c.pair_unless-n.result c.pair_unless-n.new.ids.0 c.pair_where-first.ensures c.no_op_where-second.ensures c.pair_unless-n.ensures c.link_room-room.result c.fits2.result c.both.result c.link_room-room.ensures c.fits2.ensures c.both.ensures c.if-both.true
+report-counts-requires c = link_fits c.args.lanes.now c.args.i c.args.j c.args.linked c.args.gap c.args.modified.now c.args.warnings.now c.pair_where-first.result c.no_op_where-second.result c.pair_unless-n.result c.pair_unless-n.new.ids c.pair_where-first.ensures c.no_op_where-second.ensures c.pair_unless-n.ensures c.link_room-room.result c.fits.result c.both.result c.link_room-room.ensures c.fits.ensures c.both.ensures c.if-both.true
 
 pub link_unless-requires : goal.link_unless-requires
-link_unless-requires c = (c.requires, link-room c.args.lanes.now c.args.i c.args.j c.args.linked c.args.gap c.args.modified.now c.args.warnings.now c.pair_where-first.result c.no_op_where-second.result c.pair_unless-n.result c.pair_unless-n.new.ids.0 c.pair_where-first.ensures c.no_op_where-second.ensures c.pair_unless-n.ensures c.link_room-room.result c.fits2.result c.both.result c.link_room-room.ensures c.fits2.ensures c.both.ensures c.if-both.true)
+link_unless-requires c = (c.requires, link-room c.args.lanes.now c.args.i c.args.j c.args.linked c.args.gap c.args.modified.now c.args.warnings.now c.pair_where-first.result c.no_op_where-second.result c.pair_unless-n.result c.pair_unless-n.new.ids c.pair_where-first.ensures c.no_op_where-second.ensures c.pair_unless-n.ensures c.link_room-room.result c.fits.result c.both.result c.link_room-room.ensures c.fits.ensures c.both.ensures c.if-both.true)
 
 pub returns-then-both : goal.returns-then-both
-returns-then-both c = link-done c.args.lanes.now c.args.i c.args.j c.args.linked c.args.gap c.args.modified.now c.args.warnings.now c.pair_where-first.result c.no_op_where-second.result c.pair_unless-n.result c.pair_unless-n.new.ids.0 c.pair_where-first.ensures c.no_op_where-second.ensures c.pair_unless-n.ensures c.link_room-room.result c.fits2.result c.both.result c.link_room-room.ensures c.fits2.ensures c.both.ensures c.if-both.true c.link_unless.new.lanes c.report-counts.new.modified c.report-counts.new.warnings.0 c.report-counts.result c.link_unless.ensures c.report-counts.ensures
+returns-then-both c = link-done c.args.lanes.now c.args.i c.args.j c.args.linked c.args.gap c.args.modified.now c.args.warnings.now c.pair_where-first.result c.no_op_where-second.result c.pair_unless-n.result c.pair_unless-n.new.ids c.pair_where-first.ensures c.no_op_where-second.ensures c.pair_unless-n.ensures c.link_room-room.result c.fits.result c.both.result c.link_room-room.ensures c.fits.ensures c.both.ensures c.if-both.true c.link_unless.new.lanes c.report-counts.new.modified c.report-counts.new.warnings c.report-counts.result c.link_unless.ensures c.report-counts.ensures
 
 pub returns : goal.returns
-returns c = link-full c.args.lanes.now c.args.i c.args.j c.args.linked c.args.gap c.args.modified.now c.args.warnings.now c.pair_where-first.result c.no_op_where-second.result c.pair_unless-n.result c.pair_unless-n.new.ids.0 c.pair_where-first.ensures c.no_op_where-second.ensures c.pair_unless-n.ensures c.link_room-room.result c.fits2.result c.both.result c.link_room-room.ensures c.fits2.ensures c.both.ensures c.if-both.false
+returns c = link-full c.args.lanes.now c.args.i c.args.j c.args.linked c.args.gap c.args.modified.now c.args.warnings.now c.pair_where-first.result c.no_op_where-second.result c.pair_unless-n.result c.pair_unless-n.new.ids c.pair_where-first.ensures c.no_op_where-second.ensures c.pair_unless-n.ensures c.link_room-room.result c.fits.result c.both.result c.link_room-room.ensures c.fits.ensures c.both.ensures c.if-both.false

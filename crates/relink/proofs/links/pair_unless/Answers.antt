@@ -25,7 +25,7 @@ first c =
 may : (c : AtAfterNamedN) → (c.named-n.result < length c.named-n.new.ids) × (ascending (take c.named-n.result c.named-n.new.ids) ≡ true)
 may c =
     let s = c in
-    pair-first s.args.a c.named-n.result c.named-n.new.ids s.args.ids.now (first c).0 (first c).1 (omega (arith, s.requires, c.named-n.auto.0))
+    pair-first s.args.a c.named-n.result c.named-n.new.ids s.args.ids.now (first c).0 (first c).1 (omega (arith, s.requires, c.named-n.auto.ids))
 
 pub named-n-requires : goal.named-n-requires
 named-n-requires c = (omega (arith, c.requires), nothing-up)
