@@ -87,7 +87,7 @@ module _ (m : Map) (p : Point2) where
   all_there (n ∷ ls) k h l i =
       let (a, e1, h1) = bound (crosses n.left.boundary p (boundary m n.left.boundary)) (λ a. crosses n.right.boundary p (boundary m n.right.boundary) >>= (λ b. all_cross m p ls)) k h in
       let (b, e2, h2) = bound (crosses n.right.boundary p (boundary m n.right.boundary)) (λ b. all_cross m p ls) k h1 in
-      go n l i (λ side. elim side [ Left ↦ crossed-there n.left.boundary a e1 | Right ↦ crossed-there n.right.boundary b e2 ]) (all_there ls k h2)
+      go n l i (λ side. elim side as (λ k. (x : Boundary) × (boundary m (boundary_on k n).boundary ≡ some x)) [ Left ↦ crossed-there n.left.boundary a e1 | Right ↦ crossed-there n.right.boundary b e2 ]) (all_there ls k h2)
     where
       go : (n l : Lane) → In l (n ∷ ls) → There m n → ((l : Lane) → In l ls → There m l) → There m l
       go n l here t r = t

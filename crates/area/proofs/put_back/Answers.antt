@@ -40,4 +40,4 @@ copy-requires c = let f = (fits-of _ _ c.requires).coordinates-fit in (omega (ar
 -- src/lib.rt:93:1
 pub returns : goal.returns
 unfolding put_back
-returns c = rw (c.copy.ensures, c.fill-7.ensures, c.fill-6.ensures, c.fill-5.ensures, c.fill-4.ensures, c.fill-3.ensures, c.fill-2.ensures, c.fill.ensures, over-front-of c.args.coordinates.now c.args.old-coordinates.now (fits-of _ _ c.requires).coordinates-fit)
+returns c = rw (c.copy.ensures, c.fill-7.ensures, c.fill-6.ensures, c.fill-5.ensures, c.fill-4.ensures, c.fill-3.ensures, c.fill-2.ensures, c.fill.ensures, over-front-of c.args.coordinates.now c.args.old_coordinates.now (fits-of _ _ c.requires).coordinates-fit)

@@ -109,7 +109,7 @@ slice_bounds-list_marked-count c = omega (arith, c.requires.1.1.0)
 
 pub list_marked-lanes_end-requires : goal.list_marked-lanes_end-requires
 list_marked-lanes_end-requires c =
-    let s = c in
+    let s = c.before.before.before.before.before.before.before.before.before.before.before.before.before.before.before.before.before.before.before in
     let w = may-list s.args.out.now s.requires.1.1.1 (written_none s.args.out.now) max_lanes lane_words (held s).lanes (other s).lanes (omega arith) (omega arith) (omega arith) (lanes_are_sorted (held s) s.requires.0) (lanes_are_sorted (other s) s.requires.1.0) in
     (w.0, (w.1.0, (w.1.1.0, (marks-may s.args.marks.now lane_marks max_lanes lane_words (held s).lanes s.requires.1.1.0 (omega arith) (lanes_are_sorted (held s) s.requires.0), w.1.1.1))))
 
@@ -118,7 +118,7 @@ slice_bounds-list_marked-count-2 c = omega (arith, c.requires.1.1.0)
 
 pub list_marked-boundaries_end-requires : goal.list_marked-boundaries_end-requires
 list_marked-boundaries_end-requires c =
-    let s = c in
+    let s = c.before.before.before.before.before.before.before.before.before.before.before.before.before.before.before.before.before.before.before.before.before.before.before.before in
     let w = may-list s.args.out.now s.requires.1.1.1 (lanes-written c.before.before.before.before.before) max_boundaries boundary_words (held s).boundaries (other s).boundaries (omega arith) (omega arith) (omega arith) (boundaries_are_sorted (held s) s.requires.0) (boundaries_are_sorted (other s) s.requires.1.0) in
     (w.0, (w.1.0, (w.1.1.0, (marks-may s.args.marks.now boundary_marks max_boundaries boundary_words (held s).boundaries s.requires.1.1.0 (omega arith) (boundaries_are_sorted (held s) s.requires.0), w.1.1.1))))
 
@@ -127,7 +127,7 @@ slice_bounds-list_marked-count-3 c = omega (arith, c.requires.1.1.0)
 
 pub list_marked-roads_end-requires : goal.list_marked-roads_end-requires
 list_marked-roads_end-requires c =
-    let s = c in
+    let s = c.before.before.before.before.before.before.before.before.before.before.before.before.before.before.before.before.before.before.before.before.before.before.before.before.before.before.before.before.before in
     let w = may-list s.args.out.now s.requires.1.1.1 (boundaries-written c.before.before.before.before.before) max_roads road_words (held s).roads (other s).roads (omega arith) (omega arith) (omega arith) (roads-sorted (held s) s.requires.0) (roads-sorted (other s) s.requires.1.0) in
     (w.0, (w.1.0, (w.1.1.0, (marks-may s.args.marks.now road_marks max_roads road_words (held s).roads s.requires.1.1.0 (omega arith) (roads-sorted (held s) s.requires.0), w.1.1.1))))
 
@@ -136,7 +136,7 @@ slice_bounds-list_marked-count-4 c = omega (arith, c.requires.1.1.0)
 
 pub list_marked-junctions_end-requires : goal.list_marked-junctions_end-requires
 list_marked-junctions_end-requires c =
-    let s = c in
+    let s = c.before.before.before.before.before.before.before.before.before.before.before.before.before.before.before.before.before.before.before.before.before.before.before.before.before.before.before.before.before.before.before.before.before.before in
     let w = may-list s.args.out.now s.requires.1.1.1 (roads-written c.before.before.before.before.before) max_junctions junction_words (held s).junctions (other s).junctions (omega arith) (omega arith) (omega arith) (junctions-sorted (held s) s.requires.0) (junctions-sorted (other s) s.requires.1.0) in
     (w.0, (w.1.0, (w.1.1.0, (marks-may s.args.marks.now junction_marks max_junctions junction_words (held s).junctions s.requires.1.1.0 (omega arith) (junctions-sorted (held s) s.requires.0), w.1.1.1))))
 
@@ -145,7 +145,7 @@ slice_bounds-list_marked-count-5 c = omega (arith, c.requires.1.1.0)
 
 pub list_marked-stop_lines_end-requires : goal.list_marked-stop_lines_end-requires
 list_marked-stop_lines_end-requires c =
-    let s = c in
+    let s = c.before.before.before.before.before.before.before.before.before.before.before.before.before.before.before.before.before.before.before.before.before.before.before.before.before.before.before.before.before.before.before.before.before.before.before.before.before.before.before in
     let w = may-list s.args.out.now s.requires.1.1.1 (junctions-written c.before.before.before.before.before) max_stop_lines stop_line_words (held s).stop_lines (other s).stop_lines (omega arith) (omega arith) (omega arith) (stop-lines-sorted (held s) s.requires.0) (stop-lines-sorted (other s) s.requires.1.0) in
     (w.0, (w.1.0, (w.1.1.0, (marks-may s.args.marks.now stop_line_marks max_stop_lines stop_line_words (held s).stop_lines s.requires.1.1.0 (omega arith) (stop-lines-sorted (held s) s.requires.0), w.1.1.1))))
 
@@ -154,7 +154,7 @@ slice_bounds-list_marked-count-6 c = omega (arith, c.requires.1.1.0)
 
 pub list_marked-crosswalks_end-requires : goal.list_marked-crosswalks_end-requires
 list_marked-crosswalks_end-requires c =
-    let s = c in
+    let s = c.before.before.before.before.before.before.before.before.before.before.before.before.before.before.before.before.before.before.before.before.before.before.before.before.before.before.before.before.before.before.before.before.before.before.before.before.before.before.before.before.before.before.before.before in
     let w = may-list s.args.out.now s.requires.1.1.1 (stop-lines-written c.before.before.before.before.before) max_crosswalks crosswalk_words (held s).crosswalks (other s).crosswalks (omega arith) (omega arith) (omega arith) (crosswalks_are_sorted (held s) s.requires.0) (crosswalks_are_sorted (other s) s.requires.1.0) in
     (w.0, (w.1.0, (w.1.1.0, (marks-may s.args.marks.now crosswalk_marks max_crosswalks crosswalk_words (held s).crosswalks s.requires.1.1.0 (omega arith) (crosswalks_are_sorted (held s) s.requires.0), w.1.1.1))))
 
@@ -163,16 +163,16 @@ slice_bounds-list_marked-count-7 c = omega (arith, c.requires.1.1.0)
 
 pub list_marked-requires : goal.list_marked-requires
 list_marked-requires c =
-    let s = c in
+    let s = c.before.before.before.before.before.before.before.before.before.before.before.before.before.before.before.before.before.before.before.before.before.before.before.before.before.before.before.before.before.before.before.before.before.before.before.before.before.before.before.before.before.before.before.before.before.before.before.before.before in
     let w = may-list s.args.out.now s.requires.1.1.1 (crosswalks-written c.before.before.before.before.before) max_rules rule_words (held s).rules (other s).rules (omega arith) (omega arith) (omega arith) (rules-sorted (held s) s.requires.0) (rules-sorted (other s) s.requires.1.0) in
     (w.0, (w.1.0, (w.1.1.0, (marks-may s.args.marks.now rule_marks max_rules rule_words (held s).rules s.requires.1.1.0 (omega arith) (rules-sorted (held s) s.requires.0), w.1.1.1))))
 
 pub shape_of-out : goal.shape_of-out
 shape_of-out c =
-    let s = c in
+    let s = c.before.before.before.before.before.before.before.before.before.before.before.before.before.before.before.before.before.before.before.before.before.before.before.before.before.before.before.before.before.before.before.before.before.before.before.before.before.before.before.before.before.before.before.before.before.before.before.before.before.before.before.before in
     written-length s.args.out.now s.requires.1.1.1 (rules-written c.before.before.before) (omega arith)
 
 pub returns : goal.returns
 returns c =
-    let s = c in
+    let s = c.before.before.before.before.before.before.before.before.before.before.before.before.before.before.before.before.before.before.before.before.before.before.before.before.before.before.before.before.before.before.before.before.before.before.before.before.before.before.before.before.before.before.before.before.before.before.before.before.before.before.before.before in
     written_is s.args.out.now s.requires.1.1.1 (rules-written c.before.before.before) (marked_both (held s) (other s) s.args.marks.now) (both-seven (held s) (other s) s.args.marks.now)

@@ -103,45 +103,45 @@ rules-written c =
 -- ---- the needs
 pub list_absent-lanes_end-requires : goal.list_absent-lanes_end-requires
 list_absent-lanes_end-requires c =
-    let s = c in
+    let s = c.before.before.before.before.before.before.before.before.before.before.before.before.before.before.before.before.before in
     may-list s.args.out.now s.requires.1.1 (written_none s.args.out.now) max_lanes lane_words (held s).lanes (other s).lanes (omega arith) (omega arith) (omega arith) (lanes_are_sorted (held s) s.requires.0) (lanes_are_sorted (other s) s.requires.1.0)
 
 pub list_absent-boundaries_end-requires : goal.list_absent-boundaries_end-requires
 list_absent-boundaries_end-requires c =
-    let s = c in
+    let s = c.before.before.before.before.before.before.before.before.before.before.before.before.before.before.before.before.before.before.before.before.before in
     may-list s.args.out.now s.requires.1.1 (lanes-written c.before.before.before.before) max_boundaries boundary_words (held s).boundaries (other s).boundaries (omega arith) (omega arith) (omega arith) (boundaries_are_sorted (held s) s.requires.0) (boundaries_are_sorted (other s) s.requires.1.0)
 
 pub list_absent-roads_end-requires : goal.list_absent-roads_end-requires
 list_absent-roads_end-requires c =
-    let s = c in
+    let s = c.before.before.before.before.before.before.before.before.before.before.before.before.before.before.before.before.before.before.before.before.before.before.before.before.before in
     may-list s.args.out.now s.requires.1.1 (boundaries-written c.before.before.before.before) max_roads road_words (held s).roads (other s).roads (omega arith) (omega arith) (omega arith) (roads-sorted (held s) s.requires.0) (roads-sorted (other s) s.requires.1.0)
 
 pub list_absent-junctions_end-requires : goal.list_absent-junctions_end-requires
 list_absent-junctions_end-requires c =
-    let s = c in
+    let s = c.before.before.before.before.before.before.before.before.before.before.before.before.before.before.before.before.before.before.before.before.before.before.before.before.before.before.before.before.before in
     may-list s.args.out.now s.requires.1.1 (roads-written c.before.before.before.before) max_junctions junction_words (held s).junctions (other s).junctions (omega arith) (omega arith) (omega arith) (junctions-sorted (held s) s.requires.0) (junctions-sorted (other s) s.requires.1.0)
 
 pub list_absent-stop_lines_end-requires : goal.list_absent-stop_lines_end-requires
 list_absent-stop_lines_end-requires c =
-    let s = c in
+    let s = c.before.before.before.before.before.before.before.before.before.before.before.before.before.before.before.before.before.before.before.before.before.before.before.before.before.before.before.before.before.before.before.before.before in
     may-list s.args.out.now s.requires.1.1 (junctions-written c.before.before.before.before) max_stop_lines stop_line_words (held s).stop_lines (other s).stop_lines (omega arith) (omega arith) (omega arith) (stop-lines-sorted (held s) s.requires.0) (stop-lines-sorted (other s) s.requires.1.0)
 
 pub list_absent-crosswalks_end-requires : goal.list_absent-crosswalks_end-requires
 list_absent-crosswalks_end-requires c =
-    let s = c in
+    let s = c.before.before.before.before.before.before.before.before.before.before.before.before.before.before.before.before.before.before.before.before.before.before.before.before.before.before.before.before.before.before.before.before.before.before.before.before.before in
     may-list s.args.out.now s.requires.1.1 (stop-lines-written c.before.before.before.before) max_crosswalks crosswalk_words (held s).crosswalks (other s).crosswalks (omega arith) (omega arith) (omega arith) (crosswalks_are_sorted (held s) s.requires.0) (crosswalks_are_sorted (other s) s.requires.1.0)
 
 pub list_absent-requires : goal.list_absent-requires
 list_absent-requires c =
-    let s = c in
+    let s = c.before.before.before.before.before.before.before.before.before.before.before.before.before.before.before.before.before.before.before.before.before.before.before.before.before.before.before.before.before.before.before.before.before.before.before.before.before.before.before.before.before in
     may-list s.args.out.now s.requires.1.1 (crosswalks-written c.before.before.before.before) max_rules rule_words (held s).rules (other s).rules (omega arith) (omega arith) (omega arith) (rules-sorted (held s) s.requires.0) (rules-sorted (other s) s.requires.1.0)
 
 pub shape_of-out : goal.shape_of-out
 shape_of-out c =
-    let s = c in
+    let s = c.before.before.before.before.before.before.before.before.before.before.before.before.before.before.before.before.before.before.before.before.before.before.before.before.before.before.before.before.before.before.before.before.before.before.before.before.before.before.before.before.before.before.before.before in
     written-length s.args.out.now s.requires.1.1 (rules-written c.before.before.before) (omega arith)
 
 pub returns : goal.returns
 returns c =
-    let s = c in
+    let s = c.before.before.before.before.before.before.before.before.before.before.before.before.before.before.before.before.before.before.before.before.before.before.before.before.before.before.before.before.before.before.before.before.before.before.before.before.before.before.before.before.before.before.before.before in
     written_is s.args.out.now s.requires.1.1 (rules-written c.before.before.before) (only_in (held s) (other s)) (only-seven (held s) (other s))

@@ -14,34 +14,29 @@ use Rattle.job_run.specs.Runs.{WarningRoom}
 use Rattle.job_told.proofs.Sorted.{sound-sorted}
 use Rattle.job_told.proofs.Ends.{kept-told, made-lengths, made-within, put-back-same, ran-told, same-fits}
 use Rattle.job_told.proofs.tell_warnings.Goals as goal
-use Rattle.job_told.proofs.tell_warnings.Lts as lts
-use Rattle.job_told.proofs.tell_warnings.Reads as reads
-use Rattle.job_told.proofs.tell_warnings.Tie as tie
-
-abbrev AtStart : Type 0
-AtStart = lts.Start tie.the-claims reads.Pre reads.Post
+use Rattle.job_told.proofs.tell_warnings.Goals.{Start}
 
 -- what is lent, and the old slices
-abbrev mapOf : AtStart → Tables
+abbrev mapOf : Start → Tables
 mapOf s =
     tables_of s.args.lanes.now s.args.boundaries.now s.args.roads.now s.args.junctions.now s.args.rules.now s.args.stop_lines.now
     s.args.crosswalks.now s.args.coordinates.now
 
-abbrev old_of : AtStart → Tables
+abbrev old_of : Start → Tables
 old_of s =
     tables_of s.args.old_lanes.now s.args.old_boundaries.now s.args.old_roads.now s.args.old_junctions.now s.args.old_rules.now
     s.args.old_stop_lines.now s.args.old_crosswalks.now s.args.old_coordinates.now
 
-abbrev bareOf : AtStart → Tables
+abbrev bareOf : Start → Tables
 bareOf s =
     tables_of s.args.old_lanes.now s.args.old_boundaries.now s.args.old_roads.now s.args.old_junctions.now s.args.old_rules.now
     s.args.old_stop_lines.now s.args.old_crosswalks.now []
 
-abbrev runOn : AtStart → Tables → Run Held
+abbrev runOn : Start → Tables → Run Held
 runOn s z = table_edits s.args.tolerance 1 (commands s.args.job) (record { counter = s.args.counter; tables = z })
 
 -- the tables that the edits left are as long as the old ones
-long : (s : AtStart) → lengths_of (mapOf s) ≡ lengths_of (old_of s)
+long : (s : Start) → lengths_of (mapOf s) ≡ lengths_of (old_of s)
 long s = made-lengths s.args.tolerance s.args.job s.args.counter (old_of s) s.requires.0 (mapOf s) s.args.n s.requires.1.1.0
 
 pub overflow_mul-n : goal.overflow_mul-n
@@ -57,15 +52,15 @@ pub shape_of-warnings-then-n-le-KEPT : goal.shape_of-warnings-then-n-le-KEPT
 shape_of-warnings-then-n-le-KEPT c = c.copy.auto.to
 
 pub returns-then-n-le-KEPT : goal.returns-then-n-le-KEPT
-returns-then-n-le-KEPT c = kept-told (mapOf c.before.before.before.before.before.before.before.before.before.before.before.before.before.before.before.before.before.before.before.before.before.before.before.before.before.before.before.before.before) c.args.n (runOn c.before.before.before.before.before.before.before.before.before.before.before.before.before.before.before.before.before.before.before.before.before.before.before.before.before.before.before.before.before (old_of c.before.before.before.before.before.before.before.before.before.before.before.before.before.before.before.before.before.before.before.before.before.before.before.before.before.before.before.before.before)) c.args.kept.now c.args.warnings.now c.copy.new.to c.requires.1.1.0 c.requires.1.1.1.0 c.if-n-le-KEPT.true c.requires.1.1.1.1.0 c.copy.ensures
+returns-then-n-le-KEPT c = kept-told (mapOf (goal.at.returns-then-n-le-KEPT c).Start) c.args.n (runOn (goal.at.returns-then-n-le-KEPT c).Start (old_of (goal.at.returns-then-n-le-KEPT c).Start)) c.args.kept.now c.args.warnings.now c.copy.new.to c.requires.1.1.0 c.requires.1.1.1.0 c.if-n-le-KEPT.true c.requires.1.1.1.1.0 c.copy.ensures
 
 pub put_back-requires : goal.put_back-requires
-put_back-requires c = same-fits (mapOf c.before.before.before.before.before.before.before.before.before.before.before.before.before.before.before.before.before.before.before.before.before.before.before.before.before.before.before.before.before.before.before.before) (old_of c.before.before.before.before.before.before.before.before.before.before.before.before.before.before.before.before.before.before.before.before.before.before.before.before.before.before.before.before.before.before.before.before) (long c.before.before.before.before.before.before.before.before.before.before.before.before.before.before.before.before.before.before.before.before.before.before.before.before.before.before.before.before.before.before.before.before)
+put_back-requires c = same-fits (mapOf (goal.at.put_back-requires c).Start) (old_of (goal.at.put_back-requires c).Start) (long (goal.at.put_back-requires c).Start)
 
 pub make_edits-requires : goal.make_edits-requires
 make_edits-requires c =
-    let e = (c.put_back.ensures ∙ put-back-same (mapOf c.before.before.before.before.before.before.before.before.before.before.before.before.before.before.before.before.before.before.before.before.before.before.before.before.before.before.before.before.before.before.before.before.before.before.before.before.before.before.before.before.before.before.before.before.before.before.before.before.before.before.before.before.before.before.before.before.before.before.before.before.before.before) (old_of c.before.before.before.before.before.before.before.before.before.before.before.before.before.before.before.before.before.before.before.before.before.before.before.before.before.before.before.before.before.before.before.before.before.before.before.before.before.before.before.before.before.before.before.before.before.before.before.before.before.before.before.before.before.before.before.before.before.before.before.before.before.before) (long c.before.before.before.before.before.before.before.before.before.before.before.before.before.before.before.before.before.before.before.before.before.before.before.before.before.before.before.before.before.before.before.before.before.before.before.before.before.before.before.before.before.before.before.before.before.before.before.before.before.before.before.before.before.before.before.before.before.before.before.before.before.before)) in
-    (ap (sound_tables c.args.counter) e ∙ c.requires.0, (c.requires.1.0, (sound-sorted c.args.counter (old_of c.before.before.before.before.before.before.before.before.before.before.before.before.before.before.before.before.before.before.before.before.before.before.before.before.before.before.before.before.before.before.before.before.before.before.before.before.before.before.before.before.before.before.before.before.before.before.before.before.before.before.before.before.before.before.before.before.before.before.before.before.before.before) c.requires.0, (c.requires.1.1.1.1.1.1.0, (subst (λ (z : Tables). WarningRoom (runOn c.before.before.before.before.before.before.before.before.before.before.before.before.before.before.before.before.before.before.before.before.before.before.before.before.before.before.before.before.before.before.before.before.before.before.before.before.before.before.before.before.before.before.before.before.before.before.before.before.before.before.before.before.before.before.before.before.before.before.before.before.before.before z) c.args.n (length c.args.warnings.now)) (sym e) (inr (made-within (mapOf c.before.before.before.before.before.before.before.before.before.before.before.before.before.before.before.before.before.before.before.before.before.before.before.before.before.before.before.before.before.before.before.before.before.before.before.before.before.before.before.before.before.before.before.before.before.before.before.before.before.before.before.before.before.before.before.before.before.before.before.before.before.before) c.args.n (runOn c.before.before.before.before.before.before.before.before.before.before.before.before.before.before.before.before.before.before.before.before.before.before.before.before.before.before.before.before.before.before.before.before.before.before.before.before.before.before.before.before.before.before.before.before.before.before.before.before.before.before.before.before.before.before.before.before.before.before.before.before.before.before (old_of c.before.before.before.before.before.before.before.before.before.before.before.before.before.before.before.before.before.before.before.before.before.before.before.before.before.before.before.before.before.before.before.before.before.before.before.before.before.before.before.before.before.before.before.before.before.before.before.before.before.before.before.before.before.before.before.before.before.before.before.before.before.before)) c.requires.1.1.0, c.requires.1.1.1.1.0)), c.requires.1.1.1.1.1.1.1)))))
+    let e = (c.put_back.ensures ∙ put-back-same (mapOf (goal.at.make_edits-requires c).Start) (old_of (goal.at.make_edits-requires c).Start) (long (goal.at.make_edits-requires c).Start)) in
+    (ap (sound_tables c.args.counter) e ∙ c.requires.0, (c.requires.1.0, (sound-sorted c.args.counter (old_of (goal.at.make_edits-requires c).Start) c.requires.0, (c.requires.1.1.1.1.1.1.0, (subst (λ (z : Tables). WarningRoom (runOn (goal.at.make_edits-requires c).Start z) c.args.n (length c.args.warnings.now)) (sym e) (inr (made-within (mapOf (goal.at.make_edits-requires c).Start) c.args.n (runOn (goal.at.make_edits-requires c).Start (old_of (goal.at.make_edits-requires c).Start)) c.requires.1.1.0, c.requires.1.1.1.1.0)), c.requires.1.1.1.1.1.1.1)))))
 
 pub shape_of-lanes : goal.shape_of-lanes
 shape_of-lanes c = c.make_edits.auto.lanes ∙ c.put_back.auto.lanes
@@ -107,4 +102,4 @@ pub shape_of-warnings : goal.shape_of-warnings
 shape_of-warnings c = c.make_edits.auto.warnings
 
 pub returns : goal.returns
-returns c = ran-told (mapOf c.before.before.before.before.before.before.before.before.before.before.before.before.before.before.before.before.before.before.before.before.before.before.before.before.before.before.before.before.before.before.before.before.before.before.before.before.before.before.before.before.before.before.before.before.before.before.before.before.before.before.before.before.before.before.before.before.before.before.before.before.before.before.before.before.before.before.before.before.before.before.before.before.before.before.before.before.before.before.before.before.before.before.before.before.before.before.before.before.before) c.args.n (bareOf c.before.before.before.before.before.before.before.before.before.before.before.before.before.before.before.before.before.before.before.before.before.before.before.before.before.before.before.before.before.before.before.before.before.before.before.before.before.before.before.before.before.before.before.before.before.before.before.before.before.before.before.before.before.before.before.before.before.before.before.before.before.before.before.before.before.before.before.before.before.before.before.before.before.before.before.before.before.before.before.before.before.before.before.before.before.before.before.before.before) (tables_of c.put_back.new.lanes c.put_back.new.boundaries c.put_back.new.roads c.put_back.new.junctions c.put_back.new.rules c.put_back.new.stop_lines c.put_back.new.crosswalks c.put_back.new.coordinates) (tables_of c.make_edits.new.lanes c.make_edits.new.boundaries c.make_edits.new.roads c.make_edits.new.junctions c.make_edits.new.rules c.make_edits.new.stop_lines c.make_edits.new.crosswalks c.make_edits.new.coordinates) c.args.marks.now c.make_edits.new.marks c.args.warnings.now c.make_edits.new.warnings c.make_edits.result (runOn c.before.before.before.before.before.before.before.before.before.before.before.before.before.before.before.before.before.before.before.before.before.before.before.before.before.before.before.before.before.before.before.before.before.before.before.before.before.before.before.before.before.before.before.before.before.before.before.before.before.before.before.before.before.before.before.before.before.before.before.before.before.before.before.before.before.before.before.before.before.before.before.before.before.before.before.before.before.before.before.before.before.before.before.before.before.before.before.before.before) (old_of c.before.before.before.before.before.before.before.before.before.before.before.before.before.before.before.before.before.before.before.before.before.before.before.before.before.before.before.before.before.before.before.before.before.before.before.before.before.before.before.before.before.before.before.before.before.before.before.before.before.before.before.before.before.before.before.before.before.before.before.before.before.before.before.before.before.before.before.before.before.before.before.before.before.before.before.before.before.before.before.before.before.before.before.before.before.before.before.before.before) (tables_of c.put_back.new.lanes c.put_back.new.boundaries c.put_back.new.roads c.put_back.new.junctions c.put_back.new.rules c.put_back.new.stop_lines c.put_back.new.crosswalks c.put_back.new.coordinates) (c.put_back.ensures ∙ put-back-same (mapOf c.before.before.before.before.before.before.before.before.before.before.before.before.before.before.before.before.before.before.before.before.before.before.before.before.before.before.before.before.before.before.before.before.before.before.before.before.before.before.before.before.before.before.before.before.before.before.before.before.before.before.before.before.before.before.before.before.before.before.before.before.before.before.before.before.before.before.before.before.before.before.before.before.before.before.before.before.before.before.before.before.before.before.before.before.before.before.before.before.before) (old_of c.before.before.before.before.before.before.before.before.before.before.before.before.before.before.before.before.before.before.before.before.before.before.before.before.before.before.before.before.before.before.before.before.before.before.before.before.before.before.before.before.before.before.before.before.before.before.before.before.before.before.before.before.before.before.before.before.before.before.before.before.before.before.before.before.before.before.before.before.before.before.before.before.before.before.before.before.before.before.before.before.before.before.before.before.before.before.before.before.before) (long c.before.before.before.before.before.before.before.before.before.before.before.before.before.before.before.before.before.before.before.before.before.before.before.before.before.before.before.before.before.before.before.before.before.before.before.before.before.before.before.before.before.before.before.before.before.before.before.before.before.before.before.before.before.before.before.before.before.before.before.before.before.before.before.before.before.before.before.before.before.before.before.before.before.before.before.before.before.before.before.before.before.before.before.before.before.before.before.before.before)) c.requires.1.1.0 c.make_edits.ensures
+returns c = ran-told (mapOf (goal.at.returns c).Start) c.args.n (bareOf (goal.at.returns c).Start) (tables_of c.put_back.new.lanes c.put_back.new.boundaries c.put_back.new.roads c.put_back.new.junctions c.put_back.new.rules c.put_back.new.stop_lines c.put_back.new.crosswalks c.put_back.new.coordinates) (tables_of c.make_edits.new.lanes c.make_edits.new.boundaries c.make_edits.new.roads c.make_edits.new.junctions c.make_edits.new.rules c.make_edits.new.stop_lines c.make_edits.new.crosswalks c.make_edits.new.coordinates) c.args.marks.now c.make_edits.new.marks c.args.warnings.now c.make_edits.new.warnings c.make_edits.result (runOn (goal.at.returns c).Start) (old_of (goal.at.returns c).Start) (tables_of c.put_back.new.lanes c.put_back.new.boundaries c.put_back.new.roads c.put_back.new.junctions c.put_back.new.rules c.put_back.new.stop_lines c.put_back.new.crosswalks c.put_back.new.coordinates) (c.put_back.ensures ∙ put-back-same (mapOf (goal.at.returns c).Start) (old_of (goal.at.returns c).Start) (long (goal.at.returns c).Start)) c.requires.1.1.0 c.make_edits.ensures

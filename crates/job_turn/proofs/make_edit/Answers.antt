@@ -12,56 +12,51 @@ use Rattle.step.specs.Step.{Lent, lent_of}
 use Rattle.job_turn.proofs.Ends.{Fits, room_fits, may-mark, made_as}
 use Rattle.step.proofs.Counter.{counter-word}
 use Rattle.job_turn.proofs.make_edit.Goals as goal
-use Rattle.job_turn.proofs.make_edit.Lts as lts
-use Rattle.job_turn.proofs.make_edit.Reads as reads
-use Rattle.job_turn.proofs.make_edit.Tie as tie
-
-abbrev AtStart : Type 0
-AtStart = lts.Start tie.the-claims reads.Pre reads.Post
+use Rattle.job_turn.proofs.make_edit.Goals.{Start}
 
 -- what is lent
-abbrev lent : AtStart → Lent
+abbrev lent : Start → Lent
 lent s =
     lent_of s.args.counter s.args.lanes.now s.args.boundaries.now s.args.roads.now s.args.junctions.now s.args.rules.now s.args.stop_lines.now
     s.args.crosswalks.now s.args.coordinates.now s.args.created.now s.args.modified.now s.args.deleted.now
     (mid_of (s.args.at * 10) (length s.args.warnings.now - s.args.at * 10) s.args.warnings.now)
 
 -- the tables by whose rows is marked
-abbrev old : AtStart → Tables
+abbrev old : Start → Tables
 old s =
     tables_of s.args.old_lanes.now s.args.old_boundaries.now s.args.old_roads.now s.args.old_junctions.now s.args.old_rules.now s.args.old_stop_lines.now
     s.args.old_crosswalks.now []
 
-fits : (s : AtStart) → Fits s.args.tolerance s.args.command (lent s)
+fits : (s : Start) → Fits s.args.tolerance s.args.command (lent s)
 fits s =
     room_fits s.args.tolerance s.args.command (lent s) s.requires.0 s.requires.1.1.1.1.0 s.requires.1.1.1.1.1.0 s.requires.1.1.1.1.1.1 s.args.at
     s.args.warnings.now refl s.requires.1.1.1.0
 
 -- the part begins within the warnings
-begins : (s : AtStart) → s.args.at * 10 ≤ length s.args.warnings.now
+begins : (s : Start) → s.args.at * 10 ≤ length s.args.warnings.now
 begins s = omega (arith, s.requires.1.1.1.0)
 
 pub overflow_mul-first : goal.overflow_mul-first
-overflow_mul-first c = omega (arith, begins c.before.before.before.before.before.before.before.before.before.before.before.before.before.before.before.before.before.before.before.before.before, c.well_formed)
+overflow_mul-first c = omega (arith, begins (goal.at.overflow_mul-first c).Start, c.well_formed)
 
 pub offset_bounds-warnings-first : goal.offset_bounds-warnings-first
-offset_bounds-warnings-first c = omega (arith, begins c.before.before.before.before.before.before.before.before.before.before.before.before.before.before.before.before.before.before.before.before.before.before.before.before.before.before.before.before.before.before.before.before, c.well_formed)
+offset_bounds-warnings-first c = omega (arith, begins (goal.at.offset_bounds-warnings-first c).Start, c.well_formed)
 
 pub slice_bounds-dispatch-count : goal.slice_bounds-dispatch-count
-slice_bounds-dispatch-count c = omega (arith, begins c.before.before.before.before.before.before.before.before.before.before.before.before.before.before.before.before.before.before.before.before.before.before.before.before.before.before.before.before.before.before.before.before)
+slice_bounds-dispatch-count c = omega (arith, begins (goal.at.slice_bounds-dispatch-count c).Start)
 
 pub dispatch-answer-requires : goal.dispatch-answer-requires
 dispatch-answer-requires c = c.requires.0
 
 pub mark_all-requires : goal.mark_all-requires
 mark_all-requires c =
-    let s = c in
+    let s = (goal.at.mark_all-requires c).Start in
     let d = c.dispatch-answer in
-    (s.requires.1.0, (s.requires.1.1.0, may-mark s.args.tolerance s.args.command (lent s) _ d.result d.ensures s.requires.0 (fits c.before.before.before.before.before.before.before.before.before.before.before.before.before.before.before.before.before.before.before.before.before.before.before.before.before.before.before.before.before.before.before.before.before.before.before.before.before.before.before.before.before.before.before.before.before.before.before.before.before.before.before.before.before.before.before.before.before.before.before.before) c.counts-n.result c.counts-n.ensures d.auto.modified))
+    (s.requires.1.0, (s.requires.1.1.0, may-mark s.args.tolerance s.args.command (lent s) _ d.result d.ensures s.requires.0 (fits (goal.at.mark_all-requires c).Start) c.counts-n.result c.counts-n.ensures d.auto.modified))
 
 pub turn_of-requires : goal.turn_of-requires
 turn_of-requires c =
-    let s = c in
+    let s = (goal.at.turn_of-requires c).Start in
     let d = c.dispatch-answer in
     counter-word s.args.tolerance s.args.command (lent s) _ d.result d.ensures (omega (arith, s.well_formed))
 
@@ -100,7 +95,7 @@ shape_of-deleted c = c.dispatch-answer.auto.deleted
 
 pub shape_of-warnings : goal.shape_of-warnings
 shape_of-warnings c =
-    let s = c in
+    let s = (goal.at.shape_of-warnings c).Start in
     let d = c.dispatch-answer in
     same_len_mid (s.args.at * 10) (length s.args.warnings.now - s.args.at * 10) s.args.warnings.now d.new.warnings d.auto.warnings
 
@@ -109,8 +104,8 @@ shape_of-marks c = c.mark_all.auto.marks
 
 pub returns : goal.returns
 returns c =
-    let s = c in
+    let s = (goal.at.returns c).Start in
     let d = c.dispatch-answer in
     let m = c.mark_all in
     let n = c.counts-n in
-    made_as s.args.tolerance s.args.command (lent s) _ d.result d.ensures s.requires.0 (fits c.before.before.before.before.before.before.before.before.before.before.before.before.before.before.before.before.before.before.before.before.before.before.before.before.before.before.before.before.before.before.before.before.before.before.before.before.before.before.before.before.before.before.before.before.before.before.before.before.before.before.before.before.before.before.before.before.before.before.before.before.before.before.before.before) (old s) s.args.marks.now m.new.marks s.args.at s.args.warnings.now _ n.result c.turn_of.result n.ensures m.ensures (begins c.before.before.before.before.before.before.before.before.before.before.before.before.before.before.before.before.before.before.before.before.before.before.before.before.before.before.before.before.before.before.before.before.before.before.before.before.before.before.before.before.before.before.before.before.before.before.before.before.before.before.before.before.before.before.before.before.before.before.before.before.before.before.before.before) refl refl c.turn_of.ensures
+    made_as s.args.tolerance s.args.command (lent s) _ d.result d.ensures s.requires.0 (fits (goal.at.returns c).Start) (old s) s.args.marks.now m.new.marks s.args.at s.args.warnings.now _ n.result c.turn_of.result n.ensures m.ensures (begins (goal.at.returns c).Start) refl refl c.turn_of.ensures

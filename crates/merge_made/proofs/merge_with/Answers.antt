@@ -124,7 +124,7 @@ write_lists-requires c = let s = c in lists-ask s.args.join s.args.i s.args.j s.
 
 -- src/lib.rt:210:5
 pub write-requires : goal.write-requires
-write-requires c = let s = c in write-asks s.args.join s.args.plan c.next_id-next.result (next_id s.args.counter) s.args.gone.now s.args.i s.args.j (tables_of s.args.lanes.now s.args.boundaries.now s.args.roads.now s.args.junctions.now s.args.rules.now s.args.stop_lines.now s.args.crosswalks.now s.args.coordinates.now) c.next_id-next.ensures (s.requires.writable (sym c.fits.ensures ∙ on c.fits.result c.if-not-fits.false))
+write-requires c = let s = c in write-asks s.args.join s.args.plan c.next_id-next.result (next_id s.args.counter) s.args.gone.now s.args.i s.args.j (tables_of s.args.lanes.now s.args.boundaries.now s.args.roads.now s.args.junctions.now s.args.rules.now s.args.stop_lines.now s.args.crosswalks.now s.args.coordinates.now) c.next_id-next.ensures (s.requires.writable (sym c.fits.ensures ∙ c.if-not-fits.false))
 
 -- src/lib.rt:138:1
 pub shape_of-lanes : goal.shape_of-lanes

@@ -15,16 +15,19 @@ use Rattle.reslot_edits.proofs.set_slot.Tie as tie
 abbrev AtStart : Type 0
 AtStart = lts.Start tie.the-claims reads.Pre reads.Post
 
+abbrev AtAfterFits : Type 0
+AtAfterFits = lts.After-fits tie.the-claims reads.Pre reads.Post
+
 room : (c : AtStart) → 1 + c.args.i * 52 + 52 ≤ length c.args.lanes.now
 room c = lane_room c.args.lanes.now c.requires.0 c.args.i c.requires.1.0
 
 room-beside : (c : AtStart) → 1 + c.args.j * 52 + 52 ≤ length c.args.lanes.now
 room-beside c = lane_room c.args.lanes.now c.requires.0 c.args.j c.requires.1.1.0
 
-abbrev start : tie.After-fits2 → AtStart
-start c = c.before.before.before.before.before.before.before.before.before.before.before.before.before.before.before.before.before.before.before.before.before
+abbrev start : AtAfterFits → AtStart
+start c = c.before.before.before.before.before.before.before.before.before.before.before.before.before.before.before.before
 
-ends : (c : tie.After-fits2) →
+ends : (c : AtAfterFits) →
     SetEnds (start c).args.lanes.now (start c).args.i (start c).args.side (start c).args.j (start c).args.direction (start c).args.modified.now (start c).args.warnings.now c.holds-set.result c.no_op_where-first.result c.pair_where-second.result c.touched-n.result c.touched-n.new.ids c.fits.result
 ends c =
     let a = (start c).args in

@@ -4,31 +4,31 @@ use mathlib.Core.Path.{refl}
 use Rattle.split_arrays.proofs.+relay_large.Goals as goal
 
 pub relay_large-requires : goal.relay_large-requires
-relay_large-requires t c = absurd (omega (arith, c.if-reach-gt-MOST_POINTS.true, c.requires.1.near))
+relay_large-requires t c = absurd (omega (arith, c.if-reach-gt-MOST_POINTS.true, c.requires.near))
 
 pub overflow_sub-result : goal.overflow_sub-result
-overflow_sub-result t c = absurd (omega (arith, c.if-reach-gt-MOST_POINTS.true, c.requires.1.near))
+overflow_sub-result t c = absurd (omega (arith, c.if-reach-gt-MOST_POINTS.true, c.requires.near))
 
 pub shape_of-lanes-then-reach-gt-MOST_POINTS : goal.shape_of-lanes-then-reach-gt-MOST_POINTS
-shape_of-lanes-then-reach-gt-MOST_POINTS t c = absurd (omega (arith, c.if-reach-gt-MOST_POINTS.true, c.requires.1.near))
+shape_of-lanes-then-reach-gt-MOST_POINTS t c = absurd (omega (arith, c.if-reach-gt-MOST_POINTS.true, c.requires.near))
 
 pub shape_of-boundaries-then-reach-gt-MOST_POINTS : goal.shape_of-boundaries-then-reach-gt-MOST_POINTS
-shape_of-boundaries-then-reach-gt-MOST_POINTS t c = absurd (omega (arith, c.if-reach-gt-MOST_POINTS.true, c.requires.1.near))
+shape_of-boundaries-then-reach-gt-MOST_POINTS t c = absurd (omega (arith, c.if-reach-gt-MOST_POINTS.true, c.requires.near))
 
 pub shape_of-stop_lines-then-reach-gt-MOST_POINTS : goal.shape_of-stop_lines-then-reach-gt-MOST_POINTS
-shape_of-stop_lines-then-reach-gt-MOST_POINTS t c = absurd (omega (arith, c.if-reach-gt-MOST_POINTS.true, c.requires.1.near))
+shape_of-stop_lines-then-reach-gt-MOST_POINTS t c = absurd (omega (arith, c.if-reach-gt-MOST_POINTS.true, c.requires.near))
 
 pub shape_of-crosswalks-then-reach-gt-MOST_POINTS : goal.shape_of-crosswalks-then-reach-gt-MOST_POINTS
-shape_of-crosswalks-then-reach-gt-MOST_POINTS t c = absurd (omega (arith, c.if-reach-gt-MOST_POINTS.true, c.requires.1.near))
+shape_of-crosswalks-then-reach-gt-MOST_POINTS t c = absurd (omega (arith, c.if-reach-gt-MOST_POINTS.true, c.requires.near))
 
 pub shape_of-coordinates-then-reach-gt-MOST_POINTS : goal.shape_of-coordinates-then-reach-gt-MOST_POINTS
-shape_of-coordinates-then-reach-gt-MOST_POINTS t c = absurd (omega (arith, c.if-reach-gt-MOST_POINTS.true, c.requires.1.near))
+shape_of-coordinates-then-reach-gt-MOST_POINTS t c = absurd (omega (arith, c.if-reach-gt-MOST_POINTS.true, c.requires.near))
 
 pub returns-then-reach-gt-MOST_POINTS : goal.returns-then-reach-gt-MOST_POINTS
-returns-then-reach-gt-MOST_POINTS t c = absurd (omega (arith, c.if-reach-gt-MOST_POINTS.true, c.requires.1.near))
+returns-then-reach-gt-MOST_POINTS t c = absurd (omega (arith, c.if-reach-gt-MOST_POINTS.true, c.requires.near))
 
 pub relay_in-requires : goal.relay_in-requires
-relay_in-requires t c = (c.requires.1, record { room = omega (arith, c.requires.1.points); few = omega arith })
+relay_in-requires t c = (c.requires, record { room = omega (arith, c.requires.points); few = omega arith })
 
 pub shape_of-lanes : goal.shape_of-lanes
 shape_of-lanes t c = c.relay_in.auto.lanes

@@ -72,8 +72,8 @@ loop-j-preserved c =
     (λ s.
     let d : c.loop-j.count < length c.args.cut.now = omega arith in
     let e : c.loop-j.count < length c.args.stations.now = omega arith in
-    let w = turn_one (row_station c.args.piece c.args.coordinates.now c.args.boundaries.now c.args.own c.args.place) c.args.seen.now c.args.lanes.now c.args.cut.now c.args.stations.now c.loop-j.cut c.loop-j.stations c.loop-j.count c.loop-j.j c.loop-j.invariant.1.1.1.1 c.loop-j-test.true c.requires.1.0 s.if-seen-j.true d e s.in-At.given.0.0 (at_told (row_station c.args.piece c.args.coordinates.now c.args.boundaries.now c.args.own c.args.place (row_at 52 c.args.lanes.now c.loop-j.j)) s.in-At.given.0.0 (sym s.in-At.is ∙ s.lane_station-planned.ensures)) in
-    (omega arith, (omega arith, (ap length s.count-is ∙ simp length-set c.loop-j.invariant.1.1.0, (ap length s.count-is ∙ simp length-set c.loop-j.invariant.1.1.1.0, rw (s.count-is, s.count-is, s.count-is) w)))))
+    let w = turn_one (row_station c.args.piece c.args.coordinates.now c.args.boundaries.now c.args.own c.args.place) c.args.seen.now c.args.lanes.now c.args.cut.now c.args.stations.now c.loop-j.cut c.loop-j.stations c.loop-j.count c.loop-j.j c.loop-j.invariant.1.1.1.1 c.loop-j-test.true c.requires.1.0 s.if-seen-j.true d e s.in-At.station (at_told (row_station c.args.piece c.args.coordinates.now c.args.boundaries.now c.args.own c.args.place (row_at 52 c.args.lanes.now c.loop-j.j)) s.in-At.station (sym s.in-At.is ∙ s.lane_station-planned.ensures)) in
+    (omega arith, (omega arith, (ap length s.cut-is ∙ simp length-set c.loop-j.invariant.1.1.0, (ap length s.stations-is ∙ simp length-set c.loop-j.invariant.1.1.1.0, rw (s.cut-is, s.stations-is, s.count-is) w)))))
     (λ s.
     let w = turn-none (row_station c.args.piece c.args.coordinates.now c.args.boundaries.now c.args.own c.args.place) c.args.seen.now c.args.lanes.now c.args.cut.now c.args.stations.now c.loop-j.cut c.loop-j.stations c.loop-j.count c.loop-j.j c.loop-j.invariant.1.1.1.1 c.loop-j-test.true c.requires.1.0 s.if-seen-j.false in
     (omega arith, (omega arith, (ap length s.cut-is ∙ c.loop-j.invariant.1.1.0, (ap length s.stations-is ∙ c.loop-j.invariant.1.1.1.0, rw (s.cut-is, s.stations-is, s.count-is) w)))))
