@@ -28,10 +28,10 @@ pub lane-found-requires : goal.lane-found-requires
 lane-found-requires c = lanes_are_sorted c.args.counter (held c.before.before.before.before.before.before.before.before.before.before.before.before.before) c.requires
 
 pub returns-in_default : goal.returns-in_default
-returns-in_default c = let s = c.before.before.before.before.before.before.before.before.before.before.before.before.before.before.before.before.before in absent s.args.tolerance (lent c.before.before.before.before.before.before.before.before.before.before.before.before.before.before.before) s.requires s.args.lane (missing s.args.lanes.now s.args.lane c.lane-found.result c.lane-found.ensures c.in_default.is)
+returns-in_default c = let s = c in absent s.args.tolerance (lent c.before.before.before.before.before.before.before.before.before.before.before.before.before.before.before) s.requires s.args.lane (missing s.args.lanes.now s.args.lane c.lane-found.result c.lane-found.ensures c.in_default.is)
 
 pub remove-requires : goal.remove-requires
-remove-requires c = let s = c.before.before.before.before.before.before.before.before.before.before.before.before.before.before.before.before.before.before.before.before.before.before.before.before.before.before in may-remove s.args.counter (held c.before.before.before.before.before.before.before.before.before.before.before.before.before.before.before.before.before.before.before.before.before.before.before) s.requires s.args.lane c.in-At.i (found s.args.lanes.now s.args.lane c.in-At.i c.lane-found.result c.lane-found.ensures c.in-At.is)
+remove-requires c = let s = c in may-remove s.args.counter (held c.before.before.before.before.before.before.before.before.before.before.before.before.before.before.before.before.before.before.before.before.before.before.before) s.requires s.args.lane c.in-At.i (found s.args.lanes.now s.args.lane c.in-At.i c.lane-found.result c.lane-found.ensures c.in-At.is)
 
 pub returns : goal.returns
-returns c = let s = c.before.before.before.before.before.before.before.before.before.before.before.before.before.before.before.before.before.before.before.before.before.before.before.before.before.before.before.before.before.before.before.before.before.before.before.before.before.before.before.before.before.before.before in ends s.args.tolerance (lent c.before.before.before.before.before.before.before.before.before.before.before.before.before.before.before.before.before.before.before.before.before.before.before.before.before.before.before.before.before.before.before.before.before.before.before.before.before.before.before.before) s.requires s.args.lane (omega (arith, s.well_formed.0.1)) c.in-At.i (found s.args.lanes.now s.args.lane c.in-At.i c.lane-found.result c.lane-found.ensures c.in-At.is) _ c.remove.ensures
+returns c = let s = c in ends s.args.tolerance (lent c.before.before.before.before.before.before.before.before.before.before.before.before.before.before.before.before.before.before.before.before.before.before.before.before.before.before.before.before.before.before.before.before.before.before.before.before.before.before.before.before) s.requires s.args.lane (omega (arith, s.well_formed.0.1)) c.in-At.i (found s.args.lanes.now s.args.lane c.in-At.i c.lane-found.result c.lane-found.ensures c.in-At.is) _ c.remove.ensures

@@ -110,7 +110,7 @@ abbrev decidedOf : In-Made → AtAfterDecidedEnd
 decidedOf a = a.before.before.before.before.before.before.before.before
 
 abbrev counts_of : In-Made → Counts
-counts_of a = a.answer-1.given.0.0
+counts_of a = a.in-Made.n
 
 abbrev ReadyAt : In-Made → AtAfterDecidedEnd → AtAfterMakeEditsRan → AtStart → Type 0
 ReadyAt a d m s =
@@ -123,7 +123,7 @@ ready a =
     let s = start_of m in
     decided-ready (lentOn s (old_of s)) (left_by m) s.args.marks.now s.args.kept.now (marks_by m) (keptBy m) m.make_edits-ran.result
     m.make_edits-ran.new.created m.make_edits-ran.new.modified m.make_edits-ran.new.deleted d.decided-end.result d.decided-end.new.all_created d.decided-end.new.all_modified d.decided-end.new.all_deleted
-    (old-sorted s) s.requires.1.1.1.0 s.requires.1.1.1.1.0 (counts_of a) a.answer-1.given.1 (runOn s (old_of s)) (ran m) d.decided-end.ensures
+    (old-sorted s) s.requires.1.1.1.0 s.requires.1.1.1.1.0 (counts_of a) a.in-Made.is (runOn s (old_of s)) (ran m) d.decided-end.ensures
 
 pub make_edits-ran-requires : goal.make_edits-ran-requires
 make_edits-ran-requires c = (c.requires.0, (c.requires.1.0, (old-sorted c.before.before.before.before.before.before.before.before.before.before.before.before.before.before.before.before.before.before.before.before.before.before.before.before.before.before.before.before.before.before.before.before.before.before.before.before.before.before.before, (marks-long c.before.before.before.before.before.before.before.before.before.before.before.before.before.before.before.before.before.before.before.before.before.before.before.before.before.before.before.before.before.before.before.before.before.before.before.before.before.before.before, (inl (let e = kept-long c.before.before.before.before.before.before.before.before.before.before.before.before.before.before.before.before.before.before.before.before.before.before.before.before.before.before.before.before.before.before.before.before.before.before.before.before.before.before.before in omega (arith, e)), c.requires.1.1.1.1.1)))))

@@ -10,7 +10,7 @@ use Rattle.job_net.proofs.Listing.{Listing, listing_begins, absent_none, absent_
 use Rattle.job_net.proofs.list_absent.Given as goal
 
 abbrev pub invariant-loop-i : goal.invariant-loop-i
-invariant-loop-i l = Listing (table_ids l.s l.table) (table_ids l.s l.other) (λ l.n. absent_in (table_ids l.s l.other) (take l.n (table_ids l.s l.table))) l.kind l.at l.initial.out l.out l.i l.j l.k
+invariant-loop-i l = Listing (table_ids l.s l.table) (table_ids l.s l.other) (λ n. absent_in (table_ids l.s l.other) (take n (table_ids l.s l.table))) l.kind l.at l.initial.out l.out l.i l.j l.k
 
 abbrev pub decreases-loop-i : goal.decreases-loop-i
 decreases-loop-i l = l.n - l.i

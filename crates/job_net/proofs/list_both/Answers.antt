@@ -53,7 +53,7 @@ lanes_start c = c.before.before.before.before.before.before.before.before.before
 lanes-written : (c : AtAfterListMarkedLanesEnd) → Written (lanes_start c).args.out.now (both_lanes (held (lanes_start c)) (other (lanes_start c)) (lanes_start c).args.marks.now) 1024 c.list_marked-lanes_end.new.out c.list_marked-lanes_end.result
 lanes-written c =
     let s = lanes_start c in
-    written-more s.args.out.now s.pre.1.1.1 (written_none s.args.out.now) LaneKind (marked_in (table_ids lane_words (other s).lanes) (drop lane_marks s.args.marks.now) (table_ids lane_words (held s).lanes)) max_lanes (marked-few max_lanes lane_words (held s).lanes (other s).lanes (drop lane_marks s.args.marks.now) (lanes_are_sorted (held s) s.pre.0)) (omega arith) c.list_marked-lanes_end.result c.list_marked-lanes_end.new.out (marks-lent s.args.marks.now lane_marks (table_ids lane_words (other s).lanes) (table_ids lane_words (held s).lanes) 0 (kind_number LaneKind) c.list_marked-lanes_end.result s.args.out.now c.list_marked-lanes_end.new.out c.list_marked-lanes_end.ensures)
+    written-more s.args.out.now s.requires.1.1.1 (written_none s.args.out.now) LaneKind (marked_in (table_ids lane_words (other s).lanes) (drop lane_marks s.args.marks.now) (table_ids lane_words (held s).lanes)) max_lanes (marked-few max_lanes lane_words (held s).lanes (other s).lanes (drop lane_marks s.args.marks.now) (lanes_are_sorted (held s) s.requires.0)) (omega arith) c.list_marked-lanes_end.result c.list_marked-lanes_end.new.out (marks-lent s.args.marks.now lane_marks (table_ids lane_words (other s).lanes) (table_ids lane_words (held s).lanes) 0 (kind_number LaneKind) c.list_marked-lanes_end.result s.args.out.now c.list_marked-lanes_end.new.out c.list_marked-lanes_end.ensures)
 
 abbrev boundaries-start : AtAfterListMarkedBoundariesEnd → AtStart
 boundaries-start c = lanes_start c.before.before.before.before.before
@@ -61,7 +61,7 @@ boundaries-start c = lanes_start c.before.before.before.before.before
 boundaries-written : (c : AtAfterListMarkedBoundariesEnd) → Written (boundaries-start c).args.out.now (both_boundaries (held (boundaries-start c)) (other (boundaries-start c)) (boundaries-start c).args.marks.now) 5120 c.list_marked-boundaries_end.new.out c.list_marked-boundaries_end.result
 boundaries-written c =
     let s = boundaries-start c in
-    written-more s.args.out.now s.pre.1.1.1 (lanes-written c.before.before.before.before.before) BoundaryKind (marked_in (table_ids boundary_words (other s).boundaries) (drop boundary_marks s.args.marks.now) (table_ids boundary_words (held s).boundaries)) max_boundaries (marked-few max_boundaries boundary_words (held s).boundaries (other s).boundaries (drop boundary_marks s.args.marks.now) (boundaries_are_sorted (held s) s.pre.0)) (omega arith) c.list_marked-boundaries_end.result c.list_marked-boundaries_end.new.out (marks-lent s.args.marks.now boundary_marks (table_ids boundary_words (other s).boundaries) (table_ids boundary_words (held s).boundaries) c.list_marked-lanes_end.result (kind_number BoundaryKind) c.list_marked-boundaries_end.result c.list_marked-lanes_end.new.out c.list_marked-boundaries_end.new.out c.list_marked-boundaries_end.ensures)
+    written-more s.args.out.now s.requires.1.1.1 (lanes-written c.before.before.before.before.before) BoundaryKind (marked_in (table_ids boundary_words (other s).boundaries) (drop boundary_marks s.args.marks.now) (table_ids boundary_words (held s).boundaries)) max_boundaries (marked-few max_boundaries boundary_words (held s).boundaries (other s).boundaries (drop boundary_marks s.args.marks.now) (boundaries_are_sorted (held s) s.requires.0)) (omega arith) c.list_marked-boundaries_end.result c.list_marked-boundaries_end.new.out (marks-lent s.args.marks.now boundary_marks (table_ids boundary_words (other s).boundaries) (table_ids boundary_words (held s).boundaries) c.list_marked-lanes_end.result (kind_number BoundaryKind) c.list_marked-boundaries_end.result c.list_marked-lanes_end.new.out c.list_marked-boundaries_end.new.out c.list_marked-boundaries_end.ensures)
 
 abbrev roads-start : AtAfterListMarkedRoadsEnd → AtStart
 roads-start c = boundaries-start c.before.before.before.before.before
@@ -69,7 +69,7 @@ roads-start c = boundaries-start c.before.before.before.before.before
 roads-written : (c : AtAfterListMarkedRoadsEnd) → Written (roads-start c).args.out.now (both_roads (held (roads-start c)) (other (roads-start c)) (roads-start c).args.marks.now) 5376 c.list_marked-roads_end.new.out c.list_marked-roads_end.result
 roads-written c =
     let s = roads-start c in
-    written-more s.args.out.now s.pre.1.1.1 (boundaries-written c.before.before.before.before.before) RoadKind (marked_in (table_ids road_words (other s).roads) (drop road_marks s.args.marks.now) (table_ids road_words (held s).roads)) max_roads (marked-few max_roads road_words (held s).roads (other s).roads (drop road_marks s.args.marks.now) (roads-sorted (held s) s.pre.0)) (omega arith) c.list_marked-roads_end.result c.list_marked-roads_end.new.out (marks-lent s.args.marks.now road_marks (table_ids road_words (other s).roads) (table_ids road_words (held s).roads) c.list_marked-boundaries_end.result (kind_number RoadKind) c.list_marked-roads_end.result c.list_marked-boundaries_end.new.out c.list_marked-roads_end.new.out c.list_marked-roads_end.ensures)
+    written-more s.args.out.now s.requires.1.1.1 (boundaries-written c.before.before.before.before.before) RoadKind (marked_in (table_ids road_words (other s).roads) (drop road_marks s.args.marks.now) (table_ids road_words (held s).roads)) max_roads (marked-few max_roads road_words (held s).roads (other s).roads (drop road_marks s.args.marks.now) (roads-sorted (held s) s.requires.0)) (omega arith) c.list_marked-roads_end.result c.list_marked-roads_end.new.out (marks-lent s.args.marks.now road_marks (table_ids road_words (other s).roads) (table_ids road_words (held s).roads) c.list_marked-boundaries_end.result (kind_number RoadKind) c.list_marked-roads_end.result c.list_marked-boundaries_end.new.out c.list_marked-roads_end.new.out c.list_marked-roads_end.ensures)
 
 abbrev junctions-start : AtAfterListMarkedJunctionsEnd → AtStart
 junctions-start c = roads-start c.before.before.before.before.before
@@ -77,7 +77,7 @@ junctions-start c = roads-start c.before.before.before.before.before
 junctions-written : (c : AtAfterListMarkedJunctionsEnd) → Written (junctions-start c).args.out.now (both_junctions (held (junctions-start c)) (other (junctions-start c)) (junctions-start c).args.marks.now) 5632 c.list_marked-junctions_end.new.out c.list_marked-junctions_end.result
 junctions-written c =
     let s = junctions-start c in
-    written-more s.args.out.now s.pre.1.1.1 (roads-written c.before.before.before.before.before) JunctionKind (marked_in (table_ids junction_words (other s).junctions) (drop junction_marks s.args.marks.now) (table_ids junction_words (held s).junctions)) max_junctions (marked-few max_junctions junction_words (held s).junctions (other s).junctions (drop junction_marks s.args.marks.now) (junctions-sorted (held s) s.pre.0)) (omega arith) c.list_marked-junctions_end.result c.list_marked-junctions_end.new.out (marks-lent s.args.marks.now junction_marks (table_ids junction_words (other s).junctions) (table_ids junction_words (held s).junctions) c.list_marked-roads_end.result (kind_number JunctionKind) c.list_marked-junctions_end.result c.list_marked-roads_end.new.out c.list_marked-junctions_end.new.out c.list_marked-junctions_end.ensures)
+    written-more s.args.out.now s.requires.1.1.1 (roads-written c.before.before.before.before.before) JunctionKind (marked_in (table_ids junction_words (other s).junctions) (drop junction_marks s.args.marks.now) (table_ids junction_words (held s).junctions)) max_junctions (marked-few max_junctions junction_words (held s).junctions (other s).junctions (drop junction_marks s.args.marks.now) (junctions-sorted (held s) s.requires.0)) (omega arith) c.list_marked-junctions_end.result c.list_marked-junctions_end.new.out (marks-lent s.args.marks.now junction_marks (table_ids junction_words (other s).junctions) (table_ids junction_words (held s).junctions) c.list_marked-roads_end.result (kind_number JunctionKind) c.list_marked-junctions_end.result c.list_marked-roads_end.new.out c.list_marked-junctions_end.new.out c.list_marked-junctions_end.ensures)
 
 abbrev stop-lines-start : AtAfterListMarkedStopLinesEnd → AtStart
 stop-lines-start c = junctions-start c.before.before.before.before.before
@@ -85,7 +85,7 @@ stop-lines-start c = junctions-start c.before.before.before.before.before
 stop-lines-written : (c : AtAfterListMarkedStopLinesEnd) → Written (stop-lines-start c).args.out.now (both_stop_lines (held (stop-lines-start c)) (other (stop-lines-start c)) (stop-lines-start c).args.marks.now) 6144 c.list_marked-stop_lines_end.new.out c.list_marked-stop_lines_end.result
 stop-lines-written c =
     let s = stop-lines-start c in
-    written-more s.args.out.now s.pre.1.1.1 (junctions-written c.before.before.before.before.before) StopLineKind (marked_in (table_ids stop_line_words (other s).stop_lines) (drop stop_line_marks s.args.marks.now) (table_ids stop_line_words (held s).stop_lines)) max_stop_lines (marked-few max_stop_lines stop_line_words (held s).stop_lines (other s).stop_lines (drop stop_line_marks s.args.marks.now) (stop-lines-sorted (held s) s.pre.0)) (omega arith) c.list_marked-stop_lines_end.result c.list_marked-stop_lines_end.new.out (marks-lent s.args.marks.now stop_line_marks (table_ids stop_line_words (other s).stop_lines) (table_ids stop_line_words (held s).stop_lines) c.list_marked-junctions_end.result (kind_number StopLineKind) c.list_marked-stop_lines_end.result c.list_marked-junctions_end.new.out c.list_marked-stop_lines_end.new.out c.list_marked-stop_lines_end.ensures)
+    written-more s.args.out.now s.requires.1.1.1 (junctions-written c.before.before.before.before.before) StopLineKind (marked_in (table_ids stop_line_words (other s).stop_lines) (drop stop_line_marks s.args.marks.now) (table_ids stop_line_words (held s).stop_lines)) max_stop_lines (marked-few max_stop_lines stop_line_words (held s).stop_lines (other s).stop_lines (drop stop_line_marks s.args.marks.now) (stop-lines-sorted (held s) s.requires.0)) (omega arith) c.list_marked-stop_lines_end.result c.list_marked-stop_lines_end.new.out (marks-lent s.args.marks.now stop_line_marks (table_ids stop_line_words (other s).stop_lines) (table_ids stop_line_words (held s).stop_lines) c.list_marked-junctions_end.result (kind_number StopLineKind) c.list_marked-stop_lines_end.result c.list_marked-junctions_end.new.out c.list_marked-stop_lines_end.new.out c.list_marked-stop_lines_end.ensures)
 
 abbrev crosswalks-start : AtAfterListMarkedCrosswalksEnd → AtStart
 crosswalks-start c = stop-lines-start c.before.before.before.before.before
@@ -93,7 +93,7 @@ crosswalks-start c = stop-lines-start c.before.before.before.before.before
 crosswalks-written : (c : AtAfterListMarkedCrosswalksEnd) → Written (crosswalks-start c).args.out.now (both_crosswalks (held (crosswalks-start c)) (other (crosswalks-start c)) (crosswalks-start c).args.marks.now) 6272 c.list_marked-crosswalks_end.new.out c.list_marked-crosswalks_end.result
 crosswalks-written c =
     let s = crosswalks-start c in
-    written-more s.args.out.now s.pre.1.1.1 (stop-lines-written c.before.before.before.before.before) CrosswalkKind (marked_in (table_ids crosswalk_words (other s).crosswalks) (drop crosswalk_marks s.args.marks.now) (table_ids crosswalk_words (held s).crosswalks)) max_crosswalks (marked-few max_crosswalks crosswalk_words (held s).crosswalks (other s).crosswalks (drop crosswalk_marks s.args.marks.now) (crosswalks_are_sorted (held s) s.pre.0)) (omega arith) c.list_marked-crosswalks_end.result c.list_marked-crosswalks_end.new.out (marks-lent s.args.marks.now crosswalk_marks (table_ids crosswalk_words (other s).crosswalks) (table_ids crosswalk_words (held s).crosswalks) c.list_marked-stop_lines_end.result (kind_number CrosswalkKind) c.list_marked-crosswalks_end.result c.list_marked-stop_lines_end.new.out c.list_marked-crosswalks_end.new.out c.list_marked-crosswalks_end.ensures)
+    written-more s.args.out.now s.requires.1.1.1 (stop-lines-written c.before.before.before.before.before) CrosswalkKind (marked_in (table_ids crosswalk_words (other s).crosswalks) (drop crosswalk_marks s.args.marks.now) (table_ids crosswalk_words (held s).crosswalks)) max_crosswalks (marked-few max_crosswalks crosswalk_words (held s).crosswalks (other s).crosswalks (drop crosswalk_marks s.args.marks.now) (crosswalks_are_sorted (held s) s.requires.0)) (omega arith) c.list_marked-crosswalks_end.result c.list_marked-crosswalks_end.new.out (marks-lent s.args.marks.now crosswalk_marks (table_ids crosswalk_words (other s).crosswalks) (table_ids crosswalk_words (held s).crosswalks) c.list_marked-stop_lines_end.result (kind_number CrosswalkKind) c.list_marked-crosswalks_end.result c.list_marked-stop_lines_end.new.out c.list_marked-crosswalks_end.new.out c.list_marked-crosswalks_end.ensures)
 
 abbrev rules-start : AtAfterListMarked → AtStart
 rules-start c = crosswalks-start c.before.before.before.before.before
@@ -101,7 +101,7 @@ rules-start c = crosswalks-start c.before.before.before.before.before
 rules-written : (c : AtAfterListMarked) → Written (rules-start c).args.out.now (both_rules (held (rules-start c)) (other (rules-start c)) (rules-start c).args.marks.now) 6784 c.list_marked.new.out c.list_marked.result
 rules-written c =
     let s = rules-start c in
-    written-more s.args.out.now s.pre.1.1.1 (crosswalks-written c.before.before.before.before.before) RuleKind (marked_in (table_ids rule_words (other s).rules) (drop rule_marks s.args.marks.now) (table_ids rule_words (held s).rules)) max_rules (marked-few max_rules rule_words (held s).rules (other s).rules (drop rule_marks s.args.marks.now) (rules-sorted (held s) s.pre.0)) (omega arith) c.list_marked.result c.list_marked.new.out (marks-lent s.args.marks.now rule_marks (table_ids rule_words (other s).rules) (table_ids rule_words (held s).rules) c.list_marked-crosswalks_end.result (kind_number RuleKind) c.list_marked.result c.list_marked-crosswalks_end.new.out c.list_marked.new.out c.list_marked.ensures)
+    written-more s.args.out.now s.requires.1.1.1 (crosswalks-written c.before.before.before.before.before) RuleKind (marked_in (table_ids rule_words (other s).rules) (drop rule_marks s.args.marks.now) (table_ids rule_words (held s).rules)) max_rules (marked-few max_rules rule_words (held s).rules (other s).rules (drop rule_marks s.args.marks.now) (rules-sorted (held s) s.requires.0)) (omega arith) c.list_marked.result c.list_marked.new.out (marks-lent s.args.marks.now rule_marks (table_ids rule_words (other s).rules) (table_ids rule_words (held s).rules) c.list_marked-crosswalks_end.result (kind_number RuleKind) c.list_marked.result c.list_marked-crosswalks_end.new.out c.list_marked.new.out c.list_marked.ensures)
 
 -- ---- the needs
 pub slice_bounds-list_marked-count : goal.slice_bounds-list_marked-count
@@ -176,3 +176,45 @@ pub returns : goal.returns
 returns c =
     let s = c.before.before.before.before.before.before.before.before.before.before.before.before.before.before.before.before.before.before.before.before.before.before.before.before.before.before.before.before.before.before.before.before.before.before.before.before.before.before.before.before.before.before.before.before.before.before.before.before.before.before.before.before in
     written_is s.args.out.now s.requires.1.1.1 (rules-written c.before.before.before) (marked_both (held s) (other s) s.args.marks.now) (both-seven (held s) (other s) s.args.marks.now)
+
+pub slice_bounds-list_marked-start : goal.slice_bounds-list_marked-start
+slice_bounds-list_marked-start c = omega (arith, c.requires.1.1.0)
+
+pub slice_bounds-list_marked-end : goal.slice_bounds-list_marked-end
+slice_bounds-list_marked-end c = omega (arith, c.requires.1.1.0)
+
+pub slice_bounds-list_marked-start-2 : goal.slice_bounds-list_marked-start-2
+slice_bounds-list_marked-start-2 c = omega (arith, c.requires.1.1.0)
+
+pub slice_bounds-list_marked-end-2 : goal.slice_bounds-list_marked-end-2
+slice_bounds-list_marked-end-2 c = omega (arith, c.requires.1.1.0)
+
+pub slice_bounds-list_marked-start-3 : goal.slice_bounds-list_marked-start-3
+slice_bounds-list_marked-start-3 c = omega (arith, c.requires.1.1.0)
+
+pub slice_bounds-list_marked-end-3 : goal.slice_bounds-list_marked-end-3
+slice_bounds-list_marked-end-3 c = omega (arith, c.requires.1.1.0)
+
+pub slice_bounds-list_marked-start-4 : goal.slice_bounds-list_marked-start-4
+slice_bounds-list_marked-start-4 c = omega (arith, c.requires.1.1.0)
+
+pub slice_bounds-list_marked-end-4 : goal.slice_bounds-list_marked-end-4
+slice_bounds-list_marked-end-4 c = omega (arith, c.requires.1.1.0)
+
+pub slice_bounds-list_marked-start-5 : goal.slice_bounds-list_marked-start-5
+slice_bounds-list_marked-start-5 c = omega (arith, c.requires.1.1.0)
+
+pub slice_bounds-list_marked-end-5 : goal.slice_bounds-list_marked-end-5
+slice_bounds-list_marked-end-5 c = omega (arith, c.requires.1.1.0)
+
+pub slice_bounds-list_marked-start-6 : goal.slice_bounds-list_marked-start-6
+slice_bounds-list_marked-start-6 c = omega (arith, c.requires.1.1.0)
+
+pub slice_bounds-list_marked-end-6 : goal.slice_bounds-list_marked-end-6
+slice_bounds-list_marked-end-6 c = omega (arith, c.requires.1.1.0)
+
+pub slice_bounds-list_marked-start-7 : goal.slice_bounds-list_marked-start-7
+slice_bounds-list_marked-start-7 c = omega (arith, c.requires.1.1.0)
+
+pub slice_bounds-list_marked-end-7 : goal.slice_bounds-list_marked-end-7
+slice_bounds-list_marked-end-7 c = omega (arith, c.requires.1.1.0)

@@ -56,6 +56,12 @@ slice_bounds-skip-count c =
     let p = c.requires in
     omega (arith, table-some a.s p.0 a.other.now p.1.1.0)
 
+pub slice_bounds-skip-start : goal.slice_bounds-skip-start
+slice_bounds-skip-start c =
+    let a = c.args in
+    let p = c.requires in
+    omega (arith, table-some a.s p.0 a.other.now p.1.1.0)
+
 pub skip-j-requires : goal.skip-j-requires
 skip-j-requires c =
     let a = c.args in
@@ -65,6 +71,12 @@ skip-j-requires c =
 
 pub slice_bounds-stands_at-count : goal.slice_bounds-stands_at-count
 slice_bounds-stands_at-count c =
+    let a = c.args in
+    let p = c.requires in
+    omega (arith, table-some a.s p.0 a.other.now p.1.1.0)
+
+pub slice_bounds-stands_at-start : goal.slice_bounds-stands_at-start
+slice_bounds-stands_at-start c =
     let a = c.args in
     let p = c.requires in
     omega (arith, table-some a.s p.0 a.other.now p.1.1.0)

@@ -10,7 +10,7 @@ use Rattle.job_net.proofs.list_marked.Given as goal
 
 abbrev pub invariant-loop-i : goal.invariant-loop-i
 invariant-loop-i l =
-    Listing (table_ids l.s l.table) (table_ids l.s l.other) (λ l.n. marked_in (table_ids l.s l.other) l.marks (take l.n (table_ids l.s l.table))) l.kind l.at l.initial.out l.out l.i l.j l.k
+    Listing (table_ids l.s l.table) (table_ids l.s l.other) (λ n. marked_in (table_ids l.s l.other) l.marks (take n (table_ids l.s l.table))) l.kind l.at l.initial.out l.out l.i l.j l.k
 
 abbrev pub decreases-loop-i : goal.decreases-loop-i
 decreases-loop-i l = l.n - l.i

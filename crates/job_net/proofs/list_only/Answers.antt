@@ -50,7 +50,7 @@ lanes_start c = c.before.before.before.before.before.before.before.before.before
 lanes-written : (c : AtAfterListAbsentLanesEnd) → Written (lanes_start c).args.out.now (only_lanes (held (lanes_start c)) (other (lanes_start c))) 1024 c.list_absent-lanes_end.new.out c.list_absent-lanes_end.result
 lanes-written c =
     let s = lanes_start c in
-    written-more s.args.out.now s.pre.1.1 (written_none s.args.out.now) LaneKind (absent_in (table_ids lane_words (other s).lanes) (table_ids lane_words (held s).lanes)) max_lanes (absent-few max_lanes lane_words (held s).lanes (other s).lanes (lanes_are_sorted (held s) s.pre.0)) (omega arith) c.list_absent-lanes_end.result c.list_absent-lanes_end.new.out c.list_absent-lanes_end.ensures
+    written-more s.args.out.now s.requires.1.1 (written_none s.args.out.now) LaneKind (absent_in (table_ids lane_words (other s).lanes) (table_ids lane_words (held s).lanes)) max_lanes (absent-few max_lanes lane_words (held s).lanes (other s).lanes (lanes_are_sorted (held s) s.requires.0)) (omega arith) c.list_absent-lanes_end.result c.list_absent-lanes_end.new.out c.list_absent-lanes_end.ensures
 
 abbrev boundaries-start : AtAfterListAbsentBoundariesEnd → AtStart
 boundaries-start c = lanes_start c.before.before.before.before
@@ -58,7 +58,7 @@ boundaries-start c = lanes_start c.before.before.before.before
 boundaries-written : (c : AtAfterListAbsentBoundariesEnd) → Written (boundaries-start c).args.out.now (only_boundaries (held (boundaries-start c)) (other (boundaries-start c))) 5120 c.list_absent-boundaries_end.new.out c.list_absent-boundaries_end.result
 boundaries-written c =
     let s = boundaries-start c in
-    written-more s.args.out.now s.pre.1.1 (lanes-written c.before.before.before.before) BoundaryKind (absent_in (table_ids boundary_words (other s).boundaries) (table_ids boundary_words (held s).boundaries)) max_boundaries (absent-few max_boundaries boundary_words (held s).boundaries (other s).boundaries (boundaries_are_sorted (held s) s.pre.0)) (omega arith) c.list_absent-boundaries_end.result c.list_absent-boundaries_end.new.out c.list_absent-boundaries_end.ensures
+    written-more s.args.out.now s.requires.1.1 (lanes-written c.before.before.before.before) BoundaryKind (absent_in (table_ids boundary_words (other s).boundaries) (table_ids boundary_words (held s).boundaries)) max_boundaries (absent-few max_boundaries boundary_words (held s).boundaries (other s).boundaries (boundaries_are_sorted (held s) s.requires.0)) (omega arith) c.list_absent-boundaries_end.result c.list_absent-boundaries_end.new.out c.list_absent-boundaries_end.ensures
 
 abbrev roads-start : AtAfterListAbsentRoadsEnd → AtStart
 roads-start c = boundaries-start c.before.before.before.before
@@ -66,7 +66,7 @@ roads-start c = boundaries-start c.before.before.before.before
 roads-written : (c : AtAfterListAbsentRoadsEnd) → Written (roads-start c).args.out.now (only_roads (held (roads-start c)) (other (roads-start c))) 5376 c.list_absent-roads_end.new.out c.list_absent-roads_end.result
 roads-written c =
     let s = roads-start c in
-    written-more s.args.out.now s.pre.1.1 (boundaries-written c.before.before.before.before) RoadKind (absent_in (table_ids road_words (other s).roads) (table_ids road_words (held s).roads)) max_roads (absent-few max_roads road_words (held s).roads (other s).roads (roads-sorted (held s) s.pre.0)) (omega arith) c.list_absent-roads_end.result c.list_absent-roads_end.new.out c.list_absent-roads_end.ensures
+    written-more s.args.out.now s.requires.1.1 (boundaries-written c.before.before.before.before) RoadKind (absent_in (table_ids road_words (other s).roads) (table_ids road_words (held s).roads)) max_roads (absent-few max_roads road_words (held s).roads (other s).roads (roads-sorted (held s) s.requires.0)) (omega arith) c.list_absent-roads_end.result c.list_absent-roads_end.new.out c.list_absent-roads_end.ensures
 
 abbrev junctions-start : AtAfterListAbsentJunctionsEnd → AtStart
 junctions-start c = roads-start c.before.before.before.before
@@ -74,7 +74,7 @@ junctions-start c = roads-start c.before.before.before.before
 junctions-written : (c : AtAfterListAbsentJunctionsEnd) → Written (junctions-start c).args.out.now (only_junctions (held (junctions-start c)) (other (junctions-start c))) 5632 c.list_absent-junctions_end.new.out c.list_absent-junctions_end.result
 junctions-written c =
     let s = junctions-start c in
-    written-more s.args.out.now s.pre.1.1 (roads-written c.before.before.before.before) JunctionKind (absent_in (table_ids junction_words (other s).junctions) (table_ids junction_words (held s).junctions)) max_junctions (absent-few max_junctions junction_words (held s).junctions (other s).junctions (junctions-sorted (held s) s.pre.0)) (omega arith) c.list_absent-junctions_end.result c.list_absent-junctions_end.new.out c.list_absent-junctions_end.ensures
+    written-more s.args.out.now s.requires.1.1 (roads-written c.before.before.before.before) JunctionKind (absent_in (table_ids junction_words (other s).junctions) (table_ids junction_words (held s).junctions)) max_junctions (absent-few max_junctions junction_words (held s).junctions (other s).junctions (junctions-sorted (held s) s.requires.0)) (omega arith) c.list_absent-junctions_end.result c.list_absent-junctions_end.new.out c.list_absent-junctions_end.ensures
 
 abbrev stop-lines-start : AtAfterListAbsentStopLinesEnd → AtStart
 stop-lines-start c = junctions-start c.before.before.before.before
@@ -82,7 +82,7 @@ stop-lines-start c = junctions-start c.before.before.before.before
 stop-lines-written : (c : AtAfterListAbsentStopLinesEnd) → Written (stop-lines-start c).args.out.now (only_stop_lines (held (stop-lines-start c)) (other (stop-lines-start c))) 6144 c.list_absent-stop_lines_end.new.out c.list_absent-stop_lines_end.result
 stop-lines-written c =
     let s = stop-lines-start c in
-    written-more s.args.out.now s.pre.1.1 (junctions-written c.before.before.before.before) StopLineKind (absent_in (table_ids stop_line_words (other s).stop_lines) (table_ids stop_line_words (held s).stop_lines)) max_stop_lines (absent-few max_stop_lines stop_line_words (held s).stop_lines (other s).stop_lines (stop-lines-sorted (held s) s.pre.0)) (omega arith) c.list_absent-stop_lines_end.result c.list_absent-stop_lines_end.new.out c.list_absent-stop_lines_end.ensures
+    written-more s.args.out.now s.requires.1.1 (junctions-written c.before.before.before.before) StopLineKind (absent_in (table_ids stop_line_words (other s).stop_lines) (table_ids stop_line_words (held s).stop_lines)) max_stop_lines (absent-few max_stop_lines stop_line_words (held s).stop_lines (other s).stop_lines (stop-lines-sorted (held s) s.requires.0)) (omega arith) c.list_absent-stop_lines_end.result c.list_absent-stop_lines_end.new.out c.list_absent-stop_lines_end.ensures
 
 abbrev crosswalks-start : AtAfterListAbsentCrosswalksEnd → AtStart
 crosswalks-start c = stop-lines-start c.before.before.before.before
@@ -90,7 +90,7 @@ crosswalks-start c = stop-lines-start c.before.before.before.before
 crosswalks-written : (c : AtAfterListAbsentCrosswalksEnd) → Written (crosswalks-start c).args.out.now (only_crosswalks (held (crosswalks-start c)) (other (crosswalks-start c))) 6272 c.list_absent-crosswalks_end.new.out c.list_absent-crosswalks_end.result
 crosswalks-written c =
     let s = crosswalks-start c in
-    written-more s.args.out.now s.pre.1.1 (stop-lines-written c.before.before.before.before) CrosswalkKind (absent_in (table_ids crosswalk_words (other s).crosswalks) (table_ids crosswalk_words (held s).crosswalks)) max_crosswalks (absent-few max_crosswalks crosswalk_words (held s).crosswalks (other s).crosswalks (crosswalks_are_sorted (held s) s.pre.0)) (omega arith) c.list_absent-crosswalks_end.result c.list_absent-crosswalks_end.new.out c.list_absent-crosswalks_end.ensures
+    written-more s.args.out.now s.requires.1.1 (stop-lines-written c.before.before.before.before) CrosswalkKind (absent_in (table_ids crosswalk_words (other s).crosswalks) (table_ids crosswalk_words (held s).crosswalks)) max_crosswalks (absent-few max_crosswalks crosswalk_words (held s).crosswalks (other s).crosswalks (crosswalks_are_sorted (held s) s.requires.0)) (omega arith) c.list_absent-crosswalks_end.result c.list_absent-crosswalks_end.new.out c.list_absent-crosswalks_end.ensures
 
 abbrev rules-start : AtAfterListAbsent → AtStart
 rules-start c = crosswalks-start c.before.before.before.before
@@ -98,7 +98,7 @@ rules-start c = crosswalks-start c.before.before.before.before
 rules-written : (c : AtAfterListAbsent) → Written (rules-start c).args.out.now (only_rules (held (rules-start c)) (other (rules-start c))) 6784 c.list_absent.new.out c.list_absent.result
 rules-written c =
     let s = rules-start c in
-    written-more s.args.out.now s.pre.1.1 (crosswalks-written c.before.before.before.before) RuleKind (absent_in (table_ids rule_words (other s).rules) (table_ids rule_words (held s).rules)) max_rules (absent-few max_rules rule_words (held s).rules (other s).rules (rules-sorted (held s) s.pre.0)) (omega arith) c.list_absent.result c.list_absent.new.out c.list_absent.ensures
+    written-more s.args.out.now s.requires.1.1 (crosswalks-written c.before.before.before.before) RuleKind (absent_in (table_ids rule_words (other s).rules) (table_ids rule_words (held s).rules)) max_rules (absent-few max_rules rule_words (held s).rules (other s).rules (rules-sorted (held s) s.requires.0)) (omega arith) c.list_absent.result c.list_absent.new.out c.list_absent.ensures
 
 -- ---- the needs
 pub list_absent-lanes_end-requires : goal.list_absent-lanes_end-requires

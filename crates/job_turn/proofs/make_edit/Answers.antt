@@ -109,3 +109,6 @@ returns c =
     let m = c.mark_all in
     let n = c.counts-n in
     made_as s.args.tolerance s.args.command (lent s) _ d.result d.ensures s.requires.0 (fits (goal.at.returns c).Start) (old s) s.args.marks.now m.new.marks s.args.at s.args.warnings.now _ n.result c.turn_of.result n.ensures m.ensures (begins (goal.at.returns c).Start) refl refl c.turn_of.ensures
+
+pub slice_bounds-dispatch-start : goal.slice_bounds-dispatch-start
+slice_bounds-dispatch-start c = omega (arith, begins (goal.at.slice_bounds-dispatch-start c).Start)

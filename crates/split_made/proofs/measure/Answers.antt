@@ -11,11 +11,11 @@ measure-behind-requires c = c.requires.0
 
 -- src/lib.rt:44:1
 pub shape_of-lines : goal.shape_of-lines
-shape_of-lines c = c.measure-behind.auto.centers
+shape_of-lines c = c.measure-behind.auto.out
 
 -- src/lib.rt:44:1
 pub shape_of-centers : goal.shape_of-centers
-shape_of-centers c = c.measure.auto.centers
+shape_of-centers c = c.measure.auto.out
 
 -- src/lib.rt:44:1
 pub returns : goal.returns
