@@ -17,10 +17,13 @@ pub first_half-requires : goal.first_half-requires
 first_half-requires c = let a = c.args in (c.requires.0, (found_within _ a.cut.now c.in-At.rank (one_found _ a.cut.now c.find_row-found.result c.find_row-found.ensures ∙ c.in-At.is), (c.requires.1.words, c.requires.1.formed)))
 
 pub come_from-requires : goal.come_from-requires
-come_from-requires c = let a = c.args in (c.requires.0.cuts, elim c.match-found.branch [
+come_from-requires c = let a = c.args in (
+  c.requires.0.cuts,
+  elim c.match-found.branch [
     | in-At w ↦ half-asks a.pieces.now a.m a.cut.now a.next a.centers.now a.row.now c.requires.1 w.in-At.rank c.match-found.row (w.row-is ∙ w.first_half.ensures)
     | in-Nothing w ↦ rw w.row-is (came-asks a.pieces.now a.m a.cut.now a.next a.centers.now a.row.now c.requires.1)
-  ])
+  ],
+)
 
 pub shape_of-row : goal.shape_of-row
 shape_of-row c =
@@ -33,6 +36,6 @@ shape_of-row c =
 
 pub returns : goal.returns
 returns c = let a = c.args in elim c.match-found.branch [
-    | in-At w ↦ cut-first a.pieces.now a.m a.cut.now a.next a.centers.now a.row.now c.requires.1 c.find_row-found.result c.find_row-found.ensures w.in-At.rank w.in-At.is c.match-found.row (w.row-is ∙ w.first_half.ensures) c.come_from.new.row c.come_from.ensures
-    | in-Nothing w ↦ cut-other a.pieces.now a.m a.cut.now a.next a.centers.now a.row.now c.requires.1 c.find_row-found.result c.find_row-found.ensures w.in-Nothing.is c.match-found.row w.row-is c.come_from.new.row c.come_from.ensures
-  ]
+  | in-At w ↦ cut-first a.pieces.now a.m a.cut.now a.next a.centers.now a.row.now c.requires.1 c.find_row-found.result c.find_row-found.ensures w.in-At.rank w.in-At.is c.match-found.row (w.row-is ∙ w.first_half.ensures) c.come_from.new.row c.come_from.ensures
+  | in-Nothing w ↦ cut-other a.pieces.now a.m a.cut.now a.next a.centers.now a.row.now c.requires.1 c.find_row-found.result c.find_row-found.ensures w.in-Nothing.is c.match-found.row w.row-is c.come_from.new.row c.come_from.ensures
+]

@@ -35,4 +35,3 @@ put_list-requires-2 c = let a = c.args in after-asks a.pieces.now a.m a.cut.now 
 
 pub returns : goal.returns
 returns c = let a = c.args in second-written a.pieces.now a.m a.cut.now a.next a.centers.now a.rank a.old.now a.row.now c.requires.1.1.0 c.requires.1.1.1.0 c.requires.1.1.1.1 c.half_ref-left.result c.half_ref-left.ensures c.half_ref-right.result c.half_ref-right.ensures c.second_head.new.row c.second_head.ensures c.put_center.new.row c.put_center.ensures c.second_slot.new.row c.second_slot.ensures c.second_slot-2.new.row c.second_slot-2.ensures c.put_list.new.row c.put_list.ensures _ (successors-part a.old.now) c.put_list-2.new.row c.put_list-2.ensures
-

@@ -9,23 +9,15 @@ use Rattle.polyline.specs.Polyline.{points, first_piece, second_piece}
 use Rattle.voldrekka.specs.Split.{pieces_fit}
 use Rattle.voldrekka.proofs.voldrekka_split_at.Goals as goal
 
-is_false : (b : Bool) → not b ≡ true → b ≡ false
-is_false true h = sym h
-is_false false h = refl
-
-is_true : (b : Bool) → not b ≡ false → b ≡ true
-is_true true h = refl
-is_true false h = sym h
-
 pub returns-then-not-fits : goal.returns-then-not-fits
-returns-then-not-fits c = rw (sym c.fits.ensures ∙ is_false _ c.if-not-fits.true) (refl, (refl, refl))
+returns-then-not-fits c = rw (sym c.fits.ensures ∙ c.if-not-fits.true) (refl, (refl, refl))
 
 pub split_at-pieces-requires : goal.split_at-pieces-requires
 unfolding pieces_fit
 split_at-pieces-requires c =
     let ps = points c.args.line.now in
     let s = c.args.station in
-    leb-true ((length (first_piece ps s) + length (second_piece ps s)) * 3) (length c.args.out.now) (sym c.fits.ensures ∙ is_true _ c.if-not-fits.false)
+    leb-true ((length (first_piece ps s) + length (second_piece ps s)) * 3) (length c.args.out.now) (sym c.fits.ensures ∙ c.if-not-fits.false)
 
 pub returns : goal.returns
-returns c = rw (sym c.fits.ensures ∙ is_true _ c.if-not-fits.false) c.split_at-pieces.ensures
+returns c = rw (sym c.fits.ensures ∙ c.if-not-fits.false) c.split_at-pieces.ensures
