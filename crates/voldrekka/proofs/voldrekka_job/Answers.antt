@@ -1,3 +1,4 @@
+-- `voldrekka::voldrekka_job` meets its contract: the job is read, made with the tolerances of document 01, and told. Assumes nothing.
 use borrow.Author.Rules.{rules}
 use Rattle.tables.specs.View.{Tables, tables_of}
 use Rattle.step.specs.Step.{Lent, lent_of}
