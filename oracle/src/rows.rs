@@ -27,20 +27,20 @@ const LONGEST: usize = 60;
 
 const SHAPES: &str = "\
 -- What the rows are written with.
-use mathlib.Core.Path.{_≡_}
+use mathlib.Core.Path.{◌≡◌}
 use mathlib.Core.Bool.{Bool}
 use mathlib.Core.List.{List}
 use mathlib.Core.Option.{Option}
 use Prim.Native.Nat.{ℕ}
-use lib.Ieee.{Float, binary64, ofBits}
-use Rattle·entities.specs.Types.{preset}
-use Rattle·entities.specs.Records.{Line, Lane, Boundary, Road, Junction, Rule, StopLine, Crosswalk, Map, Issue, ChangeSet}
-use Rattle·rules.specs.Names.{Point3, BoundaryRef, Neighbor, NeighborDirection, EntityKind, EntityRef, Severity, IssueCode, Refusal}
-use Rattle·rules.specs.Sound.{Room, Lists}
-use Rattle·rules.specs.Ops.{Command, State, Answer, refused, accepted, step}
+use lib.Ieee.{Float, binary64, of_bits}
+use Rattle.entities.specs.Types.{preset}
+use Rattle.entities.specs.Records.{Line, Lane, Boundary, Road, Junction, Rule, StopLine, Crosswalk, Issue, ChangeSet}
+use Rattle.rules.specs.Names.{Point3, BoundaryRef, Neighbor, NeighborDirection, EntityKind, EntityRef, Severity, IssueCode, Refusal}
+use Rattle.rules.specs.Sound.{Room, Lists}
+use Rattle.rules.specs.Ops.{Command, State, refused, accepted, step_map}
 
 abbrev pub f : ℕ → Float
-f bits = ofBits binary64 bits
+f bits = of_bits binary64 bits
 
 abbrev pub p : ℕ → ℕ → ℕ → Point3
 p x y z = record { x = f x; y = f y; z = f z }
@@ -52,7 +52,7 @@ abbrev pub slot : NeighborDirection → ℕ → Neighbor
 slot d l = record { lane = l; direction = d }
 
 abbrev pub lane : ℕ → ℕ → BoundaryRef → BoundaryRef → Option Line → Option ℕ → Bool → ℕ → ℕ → Option Neighbor → Option Neighbor → List ℕ → List ℕ → Lane
-lane i k l r c s w t a ln rn ps ss = record { id = i; kind = k; left = l; right = r; centerline = c; speed-limit = s; one-way = w; turn-direction = t; attributes = a; left-neighbor = ln; right-neighbor = rn; predecessors = ps; successors = ss }
+lane i k l r c s w t a ln rn ps ss = record { id = i; kind = k; left = l; right = r; centerline = c; speed_limit = s; one_way = w; turn_direction = t; attributes = a; left_neighbor = ln; right_neighbor = rn; predecessors = ps; successors = ss }
 
 abbrev pub boundary : ℕ → ℕ → Line → ℕ → Boundary
 boundary i k c a = record { id = i; kind = k; geometry = c; attributes = a }
@@ -64,16 +64,16 @@ abbrev pub junction : ℕ → ℕ → ℕ → ℕ → List ℕ → Junction
 junction i n o a ls = record { id = i; name = n; outline = o; attributes = a; lanes = ls }
 
 abbrev pub rule : ℕ → ℕ → ℕ → ℕ → Option ℕ → List ℕ → List ℕ → List ℕ → List ℕ → List ℕ → Rule
-rule i k d a c ls cc ss ps ys = record { id = i; kind = k; content = d; attributes = a; crosswalk = c; lanes = ls; controlled-crosswalks = cc; stop-lines = ss; priority = ps; yielding = ys }
+rule i k d a c ls cc ss ps ys = record { id = i; kind = k; content = d; attributes = a; crosswalk = c; lanes = ls; controlled_crosswalks = cc; stop_lines = ss; priority = ps; yielding = ys }
 
-abbrev pub stop-line : ℕ → Line → ℕ → StopLine
-stop-line i c a = record { id = i; geometry = c; attributes = a }
+abbrev pub stop_line : ℕ → Line → ℕ → StopLine
+stop_line i c a = record { id = i; geometry = c; attributes = a }
 
 abbrev pub crosswalk : ℕ → Line → Line → ℕ → ℕ → Crosswalk
-crosswalk i l r o a = record { id = i; left-edge = l; right-edge = r; outline = o; attributes = a }
+crosswalk i l r o a = record { id = i; left_edge = l; right_edge = r; outline = o; attributes = a }
 
 abbrev pub state : List Lane → List Boundary → List Road → List Junction → List Rule → List StopLine → List Crosswalk → ℕ → State
-state ls bs rs js us ss cs n = record { map = record { lanes = ls; boundaries = bs; roads = rs; junctions = js; rules = us; stop-lines = ss; crosswalks = cs }; counter = n }
+state ls bs rs js us ss cs n = record { map = record { lanes = ls; boundaries = bs; roads = rs; junctions = js; rules = us; stop_lines = ss; crosswalks = cs }; counter = n }
 
 abbrev pub room : ℕ → ℕ → ℕ → Room
 room l b n = record { lanes = l; boundaries = b; points = n }
@@ -91,21 +91,22 @@ abbrev pub changes : List EntityRef → List EntityRef → List EntityRef → Li
 changes c m d w = record { created = c; modified = m; deleted = d; warnings = w }
 
 abbrev pub Refuses : State → Room → Lists → Command → Refusal → Type 0
-Refuses s r l c n = step preset r (record { command = c; lists = l }) s ≡ record { state = s; answer = refused n }
+Refuses s r l c n = step_map preset r (record { command = c; lists = l }) s ≡ record { state = s; answer = refused n }
 
 abbrev pub Accepts : State → Room → Lists → Command → State → ChangeSet → Option ℕ → Type 0
-Accepts s r l c t cs second = step preset r (record { command = c; lists = l }) s ≡ record { state = t; answer = accepted cs second }
+Accepts s r l c t cs second = step_map preset r (record { command = c; lists = l }) s ≡ record { state = t; answer = accepted cs second }
 ";
 
 const HEAD: &str = "\
 use mathlib.Core.Path.{refl}
 use mathlib.Core.Bool.{true, false}
-use mathlib.Core.List.{[], _∷_}
+use mathlib.Core.List.{[], ◌∷◌}
 use mathlib.Core.Option.{none, some}
-use Rattle·rules.specs.Names.{Fraction, Station, Left, Right, Same, Opposite, LaneKind, BoundaryKind, RoadKind, JunctionKind, StopLineKind, SignalKind, CrosswalkKind, RuleKind, Info, Warning, Error, NoOp, GeometricGap, BoundaryUnshared, NeighborDropped, OrphanRule, AttributeConflict, LaneAbsent, FractionOutside, PositionOutside, OwnPartner, NotMergeable, BoundaryAbsent, NoUsableLine, NotCrossing, Unsound, NoRoom, NoIds}
-use Rattle·rules.specs.Ops.{State, SplitLane, MergeLanes, ConnectLanes, DisconnectLanes, SetNeighbor, RemoveLane}
-use Rattle·rules.proofs.Opened.{opened}
-use Rattle·rows·proofs.proofs.Shapes.{f, p, bound, slot, lane, boundary, road, junction, rule, stop-line, crosswalk, state, room, lists, e, issue, changes, Refuses, Accepts}
+use Rattle.entities.specs.declared.OptionNeighbor.TheVariants.{None as NoNeighbor, Some as ANeighbor}
+use Rattle.rules.specs.Names.{Fraction, Station, Left, Right, Same, Opposite, LaneKind, BoundaryKind, RoadKind, JunctionKind, StopLineKind, SignalKind, CrosswalkKind, RuleKind, Info, Warning, Error, NoOp, GeometricGap, BoundaryUnshared, NeighborDropped, OrphanRule, AttributeConflict, LaneAbsent, FractionOutside, PositionOutside, OwnPartner, NotMergeable, BoundaryAbsent, NoUsableLine, NotCrossing, Unsound, NoRoom, NoIds}
+use Rattle.rules.specs.Ops.{State, SplitLane, MergeLanes, ConnectLanes, DisconnectLanes, SetNeighbor, RemoveLane}
+use Rattle.rules.proofs.Opened.{opened}
+use Rattle.rows.proofs.Shapes.{f, p, bound, slot, lane, boundary, road, junction, rule, stop_line, crosswalk, state, room, lists, e, issue, changes, Refuses, Accepts}
 ";
 
 // ---- literals ----------------------------------------------------------------------------------
@@ -149,11 +150,18 @@ fn truth(x: bool) -> &'static str {
     if x { "true" } else { "false" }
 }
 
+fn neighbor(direction: NeighborDirection, lane: u64) -> String {
+    match direction {
+        NeighborDirection::Same => format!("(slot Same {lane})"),
+        NeighborDirection::Opposite => format!("(slot Opposite {lane})"),
+    }
+}
+
 fn slot(mark: u64, lane: u64) -> String {
     option(match mark {
         0 => None,
-        1 => Some(format!("(slot Same {lane})")),
-        _ => Some(format!("(slot Opposite {lane})")),
+        1 => Some(neighbor(NeighborDirection::Same, lane)),
+        _ => Some(neighbor(NeighborDirection::Opposite, lane)),
     })
 }
 
@@ -226,7 +234,7 @@ pub fn state(t: &Tables, counter: u64) -> String {
         )
     });
     out += &rows(t, STOP_LINES, |r| {
-        format!("stop-line {} {} {}", r[0], line(t, r[1], r[2]), r[3])
+        format!("stop_line {} {} {}", r[0], line(t, r[1], r[2]), r[3])
     });
     out += &rows(t, CROSSWALKS, |r| {
         let (a, b) = (line(t, r[1], r[2]), line(t, r[3], r[4]));
@@ -312,11 +320,10 @@ pub fn command(call: &Call) -> String {
         Call::SetNeighbor {
             lane,
             side: s,
-            neighbor,
+            neighbor: to,
         } => {
-            let n = neighbor.map_or("none".into(), |n| match n.direction {
-                NeighborDirection::Same => slot(1, n.lane.0),
-                NeighborDirection::Opposite => slot(2, n.lane.0),
+            let n = to.map_or("NoNeighbor".into(), |n| {
+                format!("(ANeighbor {})", neighbor(n.direction, n.lane.0))
             });
             format!("(SetNeighbor {lane} {} {n})", side(s))
         }
@@ -434,7 +441,7 @@ impl File {
 
     /// The row of a call, `map` and `call` being its place. `at` counts the states.
     fn row(&mut self, map: usize, call: usize, at: usize, t: &Turn) {
-        let before = format!("s-{map}-{at}");
+        let before = format!("s_{map}_{at}");
         self.state(&before, t.before);
         let words = &t.before.tables.words;
         let lent = format!(
@@ -454,13 +461,13 @@ impl File {
                 format!("Refuses {before} {lent} {command} {why}")
             }
             changed => {
-                let after = format!("s-{map}-{}", at + 1);
+                let after = format!("s_{map}_{}", at + 1);
                 self.state(&after, t.after);
                 let what = changes(changed);
                 format!("Accepts {before} {lent} {command} {after} {what}")
             }
         };
-        let name = format!("row-{map}-{call}");
+        let name = format!("row_{map}_{call}");
         write!(
             self.text,
             "\n{name} : {claim}\nunfolding opened\n{name} = refl\n"
