@@ -5,7 +5,7 @@
 ghost use Rattle.std.specs.Prelude.{◌<◌, ◌^◌, ◌≤◌, ◌≡◌, length};
 ghost use Rattle.std.specs.Float.{binary64};
 ghost use Rattle.std.specs.Float.Ieee.{nan_bits};
-ghost use Rattle.std.specs.Io.{ReadsAtMost};
+ghost use Rattle.io.specs.Counts.{IsPrefixLen};
 
 use geometry::{Heading, Point2, Point3};
 use polyline::{Located, NearestPoint, OptionNearest, OptionPoint3};
@@ -645,27 +645,33 @@ fn group(s: &[u8], counts: &mut [u64]) -> usize {
     lines(s, &mut one, &mut other, &mut out, counts)
 }
 
-// The bytes of the file from `at` on, as many as fit.
-fn read(file: &mut File, at: u32, bytes: &mut [u8]) -> io::Result<usize>
-    ensures { ReadsAtMost result bytes.new }
+// The bytes of the file from `at` on, as many as fit. A read that fails counts as the file's end, and a seek that fails is not told apart from one
+// that is made.
+fn read(file: &mut File, at: u32, bytes: &mut [u8]) -> usize
+    ensures { IsPrefixLen result bytes.new }
 {
-    file.seek(SeekFrom::Start(at as u64))?;
-    read_full(file, bytes)
+    match file.seek(SeekFrom::Start(at as u64)) {
+        Ok(_) => read_full(file, bytes),
+        Err(_) => read_full(file, bytes),
+    }
 }
 
 // Reads until `bytes` is full or the file ends, and says how many bytes that were.
-fn read_full(file: &mut File, bytes: &mut [u8]) -> io::Result<usize>
-    ensures { ReadsAtMost result bytes.new }
+fn read_full(file: &mut File, bytes: &mut [u8]) -> usize
+    ensures { IsPrefixLen result bytes.new }
 {
     let mut done = 0;
     while done < bytes.len() {
-        let n = file.read(&mut bytes[done..])?;
+        let n = match file.read(&mut bytes[done..]) {
+            Ok(n) => n,
+            Err(_) => 0,
+        };
         if n == 0 {
             break;
         }
         done += n;
     }
-    Ok(done)
+    done
 }
 
 // The place n bytes behind `at`; no stream reaches the bounds.
@@ -680,26 +686,20 @@ fn behind(at: u32, n: usize) -> u32 {
 }
 
 // The group at place `at` of the file; the place behind it. A group has at most as many bytes as fit.
-fn next(file: &mut File, at: u32, bytes: &mut [u8], counts: &mut [u64]) -> io::Result<u32> {
-    let n = read(file, at, bytes)?;
-    Ok(behind(at, group(&bytes[..n], counts)))
+fn next(file: &mut File, at: u32, bytes: &mut [u8], counts: &mut [u64]) -> u32 {
+    let n = read(file, at, bytes);
+    behind(at, group(&bytes[..n], counts))
 }
 
 // All groups; the place behind them.
-fn groups(
-    file: &mut File,
-    from: u32,
-    n: usize,
-    bytes: &mut [u8],
-    counts: &mut [u64],
-) -> io::Result<u32> {
+fn groups(file: &mut File, from: u32, n: usize, bytes: &mut [u8], counts: &mut [u64]) -> u32 {
     let mut at = from;
     let mut i = 0;
     while i < n {
-        at = next(file, at, bytes, counts)?;
+        at = next(file, at, bytes, counts);
         i += 1;
     }
-    Ok(at)
+    at
 }
 
 fn print_function(rt: &impl Print, f: usize, agreed: u64, differ: u64) -> io::Result<()> {
@@ -747,9 +747,9 @@ fn head(s: &[u8]) -> Opening {
     }
 }
 
-fn first(file: &mut File, bytes: &mut [u8]) -> io::Result<Opening> {
-    let n = read(file, 0, bytes)?;
-    Ok(head(&bytes[..n]))
+fn first(file: &mut File, bytes: &mut [u8]) -> Opening {
+    let n = read(file, 0, bytes);
+    head(&bytes[..n])
 }
 
 fn replay(
@@ -758,13 +758,13 @@ fn replay(
     bytes: &mut [u8],
     counts: &mut [u64],
 ) -> io::Result<()> {
-    let begin = first(file, bytes)?;
-    let end = groups(file, behind(0, begin.at), begin.groups, bytes, counts)?;
+    let begin = first(file, bytes);
+    let end = groups(file, behind(0, begin.at), begin.groups, bytes, counts);
     report(rt, counts)?;
     if begin.form != FORM {
         println!(rt; "not a stream of lines")?;
     }
-    if read(file, end, bytes)? != 0 {
+    if read(file, end, bytes) != 0 {
         println!(rt; "the stream does not end behind its last call")?;
     }
     Ok(())

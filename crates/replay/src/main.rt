@@ -557,7 +557,7 @@ fn each_map(
     let mut at = from;
     let mut i = 0;
     while i < maps {
-        let n = file::window(file, at, bytes)?;
+        let n = file::window(file, at, bytes);
         at = file::behind(at, with_tables(rt, form, &bytes[..n])?);
         i += 1;
     }
@@ -565,7 +565,7 @@ fn each_map(
 }
 
 fn replay(rt: &impl Print, file: &mut File, form: u64, bytes: &mut [u8]) -> io::Result<()> {
-    let n = file::window(file, 0, bytes)?;
+    let n = file::window(file, 0, bytes);
     let stored = stream::number(&bytes[..n], 0);
     let maps = stream::number(&bytes[..n], stored.next);
     if stored.value != form {

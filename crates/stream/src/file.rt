@@ -1,10 +1,9 @@
 // A stored file, read where it is wanted.
-ghost use Rattle.std.specs.Prelude.{◌≡◌, IfOk, length};
+ghost use Rattle.std.specs.Prelude.{◌≡◌};
 ghost use Rattle.io.specs.Counts.{IsPrefixLen};
 ghost use Rattle.stream.specs.File.{advanced};
 
 use std::fs::File;
-use std::io;
 use std::io::{Read, Seek, SeekFrom};
 
 // Places of a file end here, and so do steps in it: no stored stream is longer.
@@ -12,28 +11,33 @@ const LAST: u32 = 0x1000_0000;
 
 const STEP: usize = 0x1_0000;
 
-// The bytes of the file from `at` on, as many as fit. An Err leaves `bytes` as long as it was.
-pub fn window(file: &mut File, at: u32, bytes: &mut [u8]) -> io::Result<usize>
-    ensures read { IfOk result (λ n. IsPrefixLen n bytes.new) }
-    ensures length { length bytes.new ≡ length bytes.old }
+// The bytes of the file from `at` on, as many as fit. A read that fails counts as the file's end, and a seek that fails is not told apart from one
+// that is made.
+pub fn window(file: &mut File, at: u32, bytes: &mut [u8]) -> usize
+    ensures { IsPrefixLen result bytes.new }
 {
-    file.seek(SeekFrom::Start(at as u64))?;
-    read_full(file, bytes)
+    match file.seek(SeekFrom::Start(at as u64)) {
+        Ok(_) => read_full(file, bytes),
+        Err(_) => read_full(file, bytes),
+    }
 }
 
 // Reads until `bytes` is full or the file ends, and says how many bytes that were.
-fn read_full(file: &mut File, bytes: &mut [u8]) -> io::Result<usize>
-    ensures { IfOk result (λ n. IsPrefixLen n bytes.new) }
+fn read_full(file: &mut File, bytes: &mut [u8]) -> usize
+    ensures { IsPrefixLen result bytes.new }
 {
     let mut done = 0;
     while done < bytes.len() {
-        let n = file.read(&mut bytes[done..])?;
+        let n = match file.read(&mut bytes[done..]) {
+            Ok(n) => n,
+            Err(_) => 0,
+        };
         if n == 0 {
             break;
         }
         done += n;
     }
-    Ok(done)
+    done
 }
 
 // The place n bytes behind `at`.
