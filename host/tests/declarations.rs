@@ -239,12 +239,12 @@ fn definitions(text: &str) -> Numbers {
     numbers
 }
 
-/// The numbers that a function of `Types.antt` gives to cases: `codeNumber NoOp = 1`, `refusalNumber (LaneAbsent l) = 1`.
+/// The numbers that a function of `Types.antt` gives to cases: `code_number NoOp = 1`, `refusal_number (LaneAbsent l) = 1`.
 fn cases(text: &str, function: &str, prefix: &str) -> Numbers {
     let lines = text.lines().filter_map(|l| l.strip_prefix(function)?.split_once('='));
     let numbers = lines.filter_map(|(case, number)| {
         let case = case.trim().trim_matches(['(', ')']).split(' ').next()?;
-        let case = case.strip_suffix("Kind").filter(|_| function == "kindNumber").unwrap_or(case);
+        let case = case.strip_suffix("Kind").filter(|_| function == "kind_number").unwrap_or(case);
         Some((format!("{prefix}{}", upper(case)), number.trim().parse().ok()?))
     });
     numbers.collect()
@@ -350,14 +350,14 @@ impl Texts {
             all.extend(missing(numbers, &layout));
         }
         let answers = file("crates/jobs/specs/Answers.antt");
-        let jobs = [definitions(&file("crates/jobs/specs/Job.antt")), cases(&answers, "jobNumber", "")];
+        let jobs = [definitions(&file("crates/jobs/specs/Job.antt")), cases(&answers, "job_number", "")];
         for numbers in &jobs {
             assert!(!numbers.is_empty(), "the definitions of jobs are read");
             all.extend(missing(numbers, &header));
             all.extend(missing(numbers, &layout));
         }
         for (function, prefix) in
-            [("kindNumber", "ENTITY_"), ("severityNumber", "SEVERITY_"), ("codeNumber", "CODE_"), ("refusalNumber", "")]
+            [("kind_number", "ENTITY_"), ("severity_number", "SEVERITY_"), ("code_number", "CODE_"), ("refusal_number", "")]
         {
             let numbers = cases(&types, function, prefix);
             assert!(numbers.len() > 2, "{function} is read");
@@ -385,7 +385,7 @@ fn all_say_the_same() {
 fn everything_is_read() {
     let texts = Texts::now();
     let exports = rattle_functions(&texts.exports);
-    assert_eq!(exports.len(), texts.exports.matches("#[no_mangle]").count());
+    assert_eq!(exports.len(), texts.exports.matches("#[unsafe(no_mangle)]").count());
     assert_eq!(exports["voldrekka_sqrt"], [("x".into(), "f64".into()), ("->".into(), "f64".to_string())]);
     assert!(exports["voldrekka_apply"].len() > 25);
     assert!(exports["voldrekka_job"].len() > 40);
