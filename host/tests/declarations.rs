@@ -239,11 +239,14 @@ fn definitions(text: &str) -> Numbers {
     numbers
 }
 
-/// The numbers that a function of `Types.antt` gives to cases: `code_number NoOp = 1`, `refusal_number (LaneAbsent l) = 1`.
+/// The numbers that a function of `Types.antt` gives to cases: `code_number NoOp = 1`, `refusal_number (LaneAbsent l) = 1`; of a result, `job_number
+/// (Err NoRoom) = 10`, the refusal, and `Made` for what is made.
 fn cases(text: &str, function: &str, prefix: &str) -> Numbers {
     let lines = text.lines().filter_map(|l| l.strip_prefix(function)?.split_once('='));
     let numbers = lines.filter_map(|(case, number)| {
-        let case = case.trim().trim_matches(['(', ')']).split(' ').next()?;
+        let case = case.trim();
+        let case = if case.starts_with("(Ok ") { "Made" } else { case.strip_prefix("(Err ").unwrap_or(case) };
+        let case = case.trim_matches(['(', ')']).split(' ').next()?;
         let case = case.strip_suffix("Kind").filter(|_| function == "kind_number").unwrap_or(case);
         Some((format!("{prefix}{}", upper(case)), number.trim().parse().ok()?))
     });

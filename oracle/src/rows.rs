@@ -30,7 +30,7 @@ const SHAPES: &str = "\
 use mathlib.Core.Path.{◌≡◌}
 use mathlib.Core.Bool.{Bool}
 use mathlib.Core.List.{List}
-use mathlib.Core.Option.{Option}
+use Rattle.std.specs.Prelude.{Option}
 use Prim.Native.Nat.{ℕ}
 use lib.Ieee.{Float, binary64, of_bits}
 use Rattle.entities.specs.Types.{preset}
@@ -101,8 +101,7 @@ const HEAD: &str = "\
 use mathlib.Core.Path.{refl}
 use mathlib.Core.Bool.{true, false}
 use mathlib.Core.List.{[], ◌∷◌}
-use mathlib.Core.Option.{none, some}
-use Rattle.entities.specs.declared.OptionNeighbor.TheVariants.{None as NoNeighbor, Some as ANeighbor}
+use Rattle.std.specs.Prelude.{None, Some}
 use Rattle.rules.specs.Names.{Fraction, Station, Left, Right, Same, Opposite, LaneKind, BoundaryKind, RoadKind, JunctionKind, StopLineKind, SignalKind, CrosswalkKind, RuleKind, Info, Warning, Error, NoOp, GeometricGap, BoundaryUnshared, NeighborDropped, OrphanRule, AttributeConflict, LaneAbsent, FractionOutside, PositionOutside, OwnPartner, NotMergeable, BoundaryAbsent, NoUsableLine, NotCrossing, Unsound, NoRoom, NoIds}
 use Rattle.rules.specs.Ops.{State, SplitLane, MergeLanes, ConnectLanes, DisconnectLanes, SetNeighbor, RemoveLane}
 use Rattle.rules.proofs.Opened.{opened}
@@ -143,7 +142,7 @@ fn line(t: &Tables, start: u64, length: u64) -> String {
 }
 
 fn option(x: Option<String>) -> String {
-    x.map_or("none".into(), |x| format!("(some {x})"))
+    x.map_or("None".into(), |x| format!("(Some {x})"))
 }
 
 fn truth(x: bool) -> &'static str {
@@ -322,9 +321,7 @@ pub fn command(call: &Call) -> String {
             side: s,
             neighbor: to,
         } => {
-            let n = to.map_or("NoNeighbor".into(), |n| {
-                format!("(ANeighbor {})", neighbor(n.direction, n.lane.0))
-            });
+            let n = option(to.map(|n| neighbor(n.direction, n.lane.0)));
             format!("(SetNeighbor {lane} {} {n})", side(s))
         }
         Call::RemoveLane { lane } => format!("(RemoveLane {lane})"),

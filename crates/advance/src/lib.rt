@@ -19,7 +19,7 @@ pub fn advance(counter: Counter, answer: Answer) -> Advanced
     requires { counter_behind counter.next answer < 2 ^ 64 }
     ensures { (result.counter.next ≡ counter_behind counter.next answer) × (result.answer ≡ answer) }
 {
-    let next = answer.counter(counter.next);
+    let next = report::counter_behind(counter.next, answer);
     Advanced {
         counter: Counter { next },
         answer,

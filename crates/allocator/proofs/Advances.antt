@@ -1,7 +1,7 @@
 -- The end of a call whose counter is advanced behind it. Assumes nothing.
+use Rattle.report.specs.Report.{Answer}
 use mathlib.Core.Path.{◌≡◌, ◌∙◌}
 use Prim.Native.Nat.{ℕ}
-use Rattle.report.specs.declared.Answer.{Answer}
 use Rattle.step.specs.Step.{Lent, Ended, ended}
 use Rattle.step.proofs.Counter.{with_counter}
 

@@ -8,9 +8,8 @@ ghost use Rattle.tables.specs.View.{word, rule_of};
 ghost use Rattle.tables.specs.Formed.{counted};
 ghost use Rattle.lookup.specs.Lookup as K;
 
-use lists::{Found, both};
-use lookup::OptionPoint2;
-use polyline::OptionPoint3;
+use geometry::Point2;
+use lists::both;
 use tables::{
     CROSSWALK, CROSSWALK_LEFT_START, CROSSWALK_RIGHT_START, CROSSWALK_RULE, OTHER, RULE,
     RULE_CROSSWALK, RULE_KIND, RULE_STOP_LINES, STOP_LINE, STOP_LINE_START,
@@ -19,48 +18,35 @@ use tables::{
 const RULE_FIRST_STOP: usize = 136;
 
 // The point half way along a line.
-fn mid(line: &[f64]) -> OptionPoint2
-    ensures { result ≡ K.point_given (mid (points line.now)) }
+fn mid(line: &[f64]) -> Option<Point2>
+    ensures { result ≡ mid (points line.now) }
 {
-    let found = polyline::point_at_fraction(line, 0.5);
-    let OptionPoint3::Some(p) = found else {
-        return OptionPoint2::None;
-    };
-    OptionPoint2::Some(p.xy())
+    let p = polyline::point_at_fraction(line, 0.5)?;
+    Some(p.xy())
 }
 
 // Half way between two points, if both are there.
-fn half_way(p: OptionPoint2, q: OptionPoint2) -> OptionPoint2
-    ensures { result ≡ K.point_given (half_way (K.option_of p) (K.option_of q)) }
+fn half_way(p: Option<Point2>, q: Option<Point2>) -> Option<Point2>
+    ensures { result ≡ half_way p q }
 {
-    let OptionPoint2::Some(a) = p else {
-        return OptionPoint2::None;
-    };
-    let OptionPoint2::Some(b) = q else {
-        return OptionPoint2::None;
-    };
-    OptionPoint2::Some(a.lerp(b, 0.5))
+    let a = p?;
+    let b = q?;
+    Some(a.lerp(b, 0.5))
 }
 
-fn stop_anchor(stops: &[u64], id: u64, coordinates: &[f64]) -> OptionPoint2
+fn stop_anchor(stops: &[u64], id: u64, coordinates: &[f64]) -> Option<Point2>
     requires { (K.sorted_table 512 4 stops.now ≡ true) × (K.all_stored 4 1 coordinates.now stops.now ≡ true) }
-    ensures { result ≡ K.point_given (stop_anchor (stop_line (K.crossed coordinates.now stops.now []) id)) }
+    ensures { result ≡ stop_anchor (stop_line (K.crossed coordinates.now stops.now []) id) }
 {
-    let found = lookup::stop_line(stops, id);
-    let Found::At(j) = found else {
-        return OptionPoint2::None;
-    };
+    let j = lookup::stop_line(stops, id)?;
     mid(lookup::line_of(stops, 1 + j * STOP_LINE + STOP_LINE_START, coordinates))
 }
 
-fn crosswalk_anchor(crosswalks: &[u64], id: u64, coordinates: &[f64]) -> OptionPoint2
+fn crosswalk_anchor(crosswalks: &[u64], id: u64, coordinates: &[f64]) -> Option<Point2>
     requires { (K.sorted_table 128 7 crosswalks.now ≡ true) × ((K.all_stored 7 1 coordinates.now crosswalks.now ≡ true) × (K.all_stored 7 3 coordinates.now crosswalks.now ≡ true)) }
-    ensures { result ≡ K.point_given (cross_anchor (crosswalk (K.crossed coordinates.now [] crosswalks.now) id)) }
+    ensures { result ≡ cross_anchor (crosswalk (K.crossed coordinates.now [] crosswalks.now) id) }
 {
-    let found = lookup::crosswalk(crosswalks, id);
-    let Found::At(j) = found else {
-        return OptionPoint2::None;
-    };
+    let j = lookup::crosswalk(crosswalks, id)?;
     let at = 1 + j * CROSSWALK;
     let left = mid(lookup::line_of(crosswalks, at + CROSSWALK_LEFT_START, coordinates));
     let right = mid(lookup::line_of(crosswalks, at + CROSSWALK_RIGHT_START, coordinates));
@@ -74,9 +60,9 @@ pub fn rule_anchor(
     stops: &[u64],
     crosswalks: &[u64],
     coordinates: &[f64],
-) -> OptionPoint2
+) -> Option<Point2>
     requires { (counted 512 330 rules.now ≡ true) × ((i < word 0 rules.now) × (K.Crossable stops.now crosswalks.now coordinates.now)) }
-    ensures { result ≡ K.point_given (rule_anchor (K.crossed coordinates.now stops.now crosswalks.now) (rule_of (K.row_at 330 rules.now i))) }
+    ensures { result ≡ rule_anchor (K.crossed coordinates.now stops.now crosswalks.now) (rule_of (K.row_at 330 rules.now i)) }
 {
     let at = 1 + i * RULE;
     let kind = rules[at + RULE_KIND];
@@ -86,5 +72,5 @@ pub fn rule_anchor(
     if kind == CROSSWALK_RULE {
         return crosswalk_anchor(crosswalks, rules[at + RULE_CROSSWALK], coordinates);
     }
-    OptionPoint2::None
+    None
 }

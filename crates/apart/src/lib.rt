@@ -9,12 +9,10 @@ fn unmarked(marks: &[bool], start: usize, size: usize) -> bool
     requires { start + size ≤ length marks.now }
     ensures { result ≡ G.unmarked marks.now (record { start = start; size = size }) }
 {
-    let mut i = 0;
-    while i < size {
+    for i in 0..size {
         if marks[start + i] {
             return false;
         }
-        i += 1;
     }
     true
 }
@@ -24,10 +22,8 @@ fn mark_line(marks: &mut [bool], start: usize, size: usize)
     requires { start + size ≤ length marks.old }
     ensures { marks.new ≡ G.marked marks.old (record { start = start; size = size }) }
 {
-    let mut i = 0;
-    while i < size {
+    for i in 0..size {
         marks[start + i] = true;
-        i += 1;
     }
 }
 

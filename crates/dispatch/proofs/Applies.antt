@@ -2,8 +2,7 @@
 use mathlib.Core.Path.{◌≡◌}
 use Rattle.rules.specs.Names.{Tolerance}
 use Rattle.rules.specs.Ops as O
-use Rattle.report.specs.Report.{counter_behind}
-use Rattle.report.specs.declared.Answer.{Answer}
+use Rattle.report.specs.Report.{counter_behind, Answer}
 use Rattle.step.specs.Step.{Lent, Ended, ended, step}
 use Rattle.step.proofs.Counter.{with_counter, counter-told}
 

@@ -5,148 +5,47 @@ ghost use Rattle.std.specs.Prelude.{◌≡◌, true};
 ghost use Rattle.tables.specs.Formed.{sound_tables};
 ghost use Rattle.report.specs.Report.{counter_behind};
 ghost use Rattle.step.specs.Step as S;
+ghost use Rattle.lent.specs.Lent.{map_tables, given, SameSlices, SameLists};
 
 use entities::{Command, Tolerance};
+use lent::{Lists, Map};
 use report::Answer;
 
 // A command on a sound map.
 pub fn dispatch(
     counter: u64,
     tolerance: Tolerance,
-    lanes: &mut [u64],
-    boundaries: &mut [u64],
-    roads: &mut [u64],
-    junctions: &mut [u64],
-    rules: &mut [u64],
-    stop_lines: &mut [u64],
-    crosswalks: &mut [u64],
-    coordinates: &mut [f64],
+    map: &mut Map,
     command: Command,
-    created: &mut [u64],
-    modified: &mut [u64],
-    deleted: &mut [u64],
-    warnings: &mut [u64],
+    lists: &mut Lists,
 ) -> Answer
-    requires { sound_tables counter (S.tables_of lanes.old boundaries.old roads.old junctions.old rules.old stop_lines.old crosswalks.old coordinates.old) ≡ true }
-    ensures { S.ended (S.lent_of (counter_behind counter result) lanes.new boundaries.new roads.new junctions.new rules.new stop_lines.new crosswalks.new coordinates.new created.new modified.new deleted.new warnings.new) result ≡ S.step tolerance command (S.lent_of counter lanes.old boundaries.old roads.old junctions.old rules.old stop_lines.old crosswalks.old coordinates.old created.old modified.old deleted.old warnings.old) }
+    requires { sound_tables counter (map_tables map.old) ≡ true }
+    ensures made { S.ended (given (counter_behind counter result) map.new lists.new) result ≡ S.step tolerance command (given counter map.old lists.old) }
+    ensures same { SameSlices map.old map.new }
+    ensures same_lists { SameLists lists.old lists.new }
 {
     match command {
         Command::SplitLane {
             lane,
             at,
             include_neighbors,
-        } => edit_split::split_lane(
-            counter,
-            tolerance,
-            lanes,
-            boundaries,
-            roads,
-            junctions,
-            rules,
-            stop_lines,
-            crosswalks,
-            coordinates,
-            lane,
-            at,
-            include_neighbors,
-            created,
-            modified,
-            deleted,
-            warnings,
-        ),
-        Command::MergeLanes { first, second } => edit_merge::merge_lanes(
-            counter,
-            tolerance,
-            lanes,
-            boundaries,
-            roads,
-            junctions,
-            rules,
-            stop_lines,
-            crosswalks,
-            coordinates,
-            first,
-            second,
-            created,
-            modified,
-            deleted,
-            warnings,
-        ),
-        Command::ConnectLanes { from, to } => edit::connect(
-            counter,
-            tolerance,
-            lanes,
-            boundaries,
-            roads,
-            junctions,
-            rules,
-            stop_lines,
-            crosswalks,
-            coordinates,
-            from,
-            to,
-            created,
-            modified,
-            deleted,
-            warnings,
-        ),
-        Command::DisconnectLanes { from, to } => edit::disconnect(
-            counter,
-            tolerance,
-            lanes,
-            boundaries,
-            roads,
-            junctions,
-            rules,
-            stop_lines,
-            crosswalks,
-            coordinates,
-            from,
-            to,
-            created,
-            modified,
-            deleted,
-            warnings,
-        ),
+        } => edit_split::split_lane(counter, tolerance, map, lane, at, include_neighbors, lists),
+        Command::MergeLanes { first, second } => {
+            edit_merge::merge_lanes(counter, tolerance, map, first, second, lists)
+        }
+        Command::ConnectLanes { from, to } => {
+            edit::connect(counter, tolerance, map, from, to, lists)
+        }
+        Command::DisconnectLanes { from, to } => {
+            edit::disconnect(counter, tolerance, map, from, to, lists)
+        }
         Command::SetNeighbor {
             lane,
             side,
             neighbor,
-        } => edit::set_neighbor(
-            counter,
-            tolerance,
-            lanes,
-            boundaries,
-            roads,
-            junctions,
-            rules,
-            stop_lines,
-            crosswalks,
-            coordinates,
-            lane,
-            side,
-            neighbor,
-            created,
-            modified,
-            deleted,
-            warnings,
-        ),
-        Command::RemoveLane { lane } => edit_lane::remove_lane(
-            counter,
-            tolerance,
-            lanes,
-            boundaries,
-            roads,
-            junctions,
-            rules,
-            stop_lines,
-            crosswalks,
-            coordinates,
-            lane,
-            created,
-            modified,
-            deleted,
-            warnings,
-        ),
+        } => edit::set_neighbor(counter, tolerance, map, lane, side, neighbor, lists),
+        Command::RemoveLane { lane } => {
+            edit_lane::remove_lane(counter, tolerance, map, lane, lists)
+        }
     }
 }

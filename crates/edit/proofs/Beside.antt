@@ -1,18 +1,15 @@
 -- set_neighbor on lent memory, by how it ends. Assumes nothing.
+use Rattle.std.specs.Prelude.{Option, None, Some, Ok}
 use mathlib.Core.Path.{◌≡◌, refl, sym, ap, ◌∙◌}
 use Prim.Native.Nat.{ℕ, ◌≤◌}
 use mathlib.Core.Bool.{Bool, true, false, not, cond, ◌&&◌, ◌||◌, true≢false}
 use mathlib.Core.List.{List, [], ◌∷◌, ◌++◌, map}
-use mathlib.Core.Option.{Option, none, some}
 use lib.Dec.{eqb}
 use lib.Ieee.{Float}
 use borrow.Author.Tests.{eq-eqb, eqb-true}
 use Rattle.lists.specs.Select.{has, place, ascending}
-use Rattle.lists.specs.declared.Found.TheVariants.{At, Nothing}
 use Rattle.lists.proofs.Booleans.{and-fst, and-snd, same_test}
 use Rattle.lists.proofs.Select.{has-place, ascending-place}
-use Rattle.entities.specs.declared.OptionNeighbor.{OptionNeighbor}
-use Rattle.entities.specs.declared.OptionNeighbor.TheVariants.{None, Some}
 use Rattle.entities.specs.Types.{lane_entity, reciprocal_side}
 use Rattle.entities.specs.Records.{Lane, Map, Issue}
 use Rattle.rules.specs.Names.{Tolerance, Side, Left, Right, Neighbor, BoundaryUnshared, LaneAbsent, OwnPartner, LaneKind}
@@ -42,15 +39,15 @@ use Rattle.edit.proofs.Connects.{found-id}
 -- ---- the lanes whose slots are set or freed
 
 slot_has : (o : Option Neighbor) (ids : List ℕ) (x : ℕ) → has x (place_slot o ids) ≡ (names o x || has x ids)
-slot_has none ids x = refl
-slot_has (some n) ids x = has-place x n.lane ids ∙ ap (λ z. z || has x ids) (turned x n.lane)
+slot_has None ids x = refl
+slot_has (Some n) ids x = has-place x n.lane ids ∙ ap (λ z. z || has x ids) (turned x n.lane)
   where
     turned : (x y : ℕ) → eqb x y ≡ eqb y x
     turned x y = same_test (eqb x y) (eqb y x) (λ e. eq-eqb y x (sym (eqb-true x y e))) (λ e. eq-eqb x y (sym (eqb-true y x e)))
 
 slot-up : (o : Option Neighbor) (ids : List ℕ) → ascending ids ≡ true → ascending (place_slot o ids) ≡ true
-slot-up none ids h = h
-slot-up (some n) ids h = ascending-place n.lane ids h
+slot-up None ids h = h
+slot-up (Some n) ids h = ascending-place n.lane ids h
 
 ids_up : (a : ℕ) (old new other : Option Neighbor) → ascending (slot_ids a old new other) ≡ true
 ids_up a old new other =
@@ -93,30 +90,30 @@ held_any c t i Right = refl
 
 -- ---- by the neighbour's lane
 
-unshared-by : (m : Map) (l : Lane) (side : Side) (n : Neighbor) (o : Lane) → lane m n.lane ≡ some o
-    → E.unshared m l side (some n)
+unshared-by : (m : Map) (l : Lane) (side : Side) (n : Neighbor) (o : Lane) → lane m n.lane ≡ Some o
+    → E.unshared m l side (Some n)
     ≡ E.when (not (eqb (boundary_on side l).boundary (boundary_on (reciprocal_side side n.direction) o).boundary)) (E.warning BoundaryUnshared (lane_entity l.id) (lane_entity n.lane ∷ []))
 unshared-by m l side n o e = rw (e, E.unshared)
 
-slot-by : (m : Map) (side : Side) (n : Neighbor) (o : Lane) → lane m n.lane ≡ some o → E.slot_in m side (some n) ≡ neighbor_on (reciprocal_side side n.direction) o
+slot-by : (m : Map) (side : Side) (n : Neighbor) (o : Lane) → lane m n.lane ≡ Some o → E.slot_in m side (Some n) ≡ neighbor_on (reciprocal_side side n.direction) o
 slot-by m side n o e = rw (e, E.slot_in)
 
 -- ---- lanes that a slot names are there
 
-module _ (m : Map) (sane : neighbors_reciprocal m ≡ true) (a : ℕ) (la : Lane) (ea : lane m a ≡ some la) where
+module _ (m : Map) (sane : neighbors_reciprocal m ≡ true) (a : ℕ) (la : Lane) (ea : lane m a ≡ Some la) where
   both-returned : (slot_returned m la.id Left la.left_neighbor && slot_returned m la.id Right la.right_neighbor) ≡ true
   unfolding lane neighbors_reciprocal
   both-returned =
       found_all (λ l. eqb l.id a) (λ l. slot_returned m l.id Left l.left_neighbor && slot_returned m l.id Right l.right_neighbor) m.lanes la ea sane
 
-  returned-there : (i : ℕ) (side : Side) (n : Neighbor) → slot_returned m i side (some n) ≡ true → has n.lane (lane_ids m) ≡ true
+  returned-there : (i : ℕ) (side : Side) (n : Neighbor) → slot_returned m i side (Some n) ≡ true → has n.lane (lane_ids m) ≡ true
   unfolding has_neighbor
   returned-there i side n h =
       has_key (λ x. x.id) n.lane m.lanes
       ∙ any-weaken (λ l. eqb l.id n.lane && holds (neighbor_on (reciprocal_side side n.direction) l) i n.direction) (λ l. eqb n.lane l.id) m.lanes (λ l e.
       eq-eqb n.lane l.id (sym (eqb-true l.id n.lane (and-fst (eqb l.id n.lane) (holds (neighbor_on (reciprocal_side side n.direction) l) i n.direction) e)))) h
 
-  slot-there : (side : Side) (n : Neighbor) → neighbor_on side la ≡ some n → has n.lane (lane_ids m) ≡ true
+  slot-there : (side : Side) (n : Neighbor) → neighbor_on side la ≡ Some n → has n.lane (lane_ids m) ≡ true
   slot-there Left n e =
       returned-there la.id Left n
       (ap (slot_returned m la.id Left) (sym e) ∙ and-fst (slot_returned m la.id Left la.left_neighbor) (slot_returned m la.id Right la.right_neighbor) both-returned)
@@ -128,8 +125,8 @@ module _ (m : Map) (sane : neighbors_reciprocal m ≡ true) (a : ℕ) (la : Lane
   slot-named side x h = go (neighbor_on side la) refl h
     where
       go : (o : Option Neighbor) → neighbor_on side la ≡ o → names o x ≡ true → has x (lane_ids m) ≡ true
-      go none e q = absurd (true≢false (sym q))
-      go (some n) e q = ap (λ z. has z (lane_ids m)) (sym (eqb-true n.lane x q)) ∙ slot-there side n e
+      go None e q = absurd (true≢false (sym q))
+      go (Some n) e q = ap (λ z. has z (lane_ids m)) (sym (eqb-true n.lane x q)) ∙ slot-there side n e
 
 -- ---- set_neighbor
 
@@ -137,17 +134,17 @@ module _ (tol : Tolerance) (l : Lent) (h : sound_tables l.counter l.tables ≡ t
   abbrev t : Tables
   t = l.tables
 
-  pub set-absent : (new : OptionNeighbor) → place_of 52 t.lanes a ≡ Nothing → refusing l (LaneAbsent a) ≡ step tol (O.SetNeighbor a side new) l
+  pub set-absent : (new : Option Neighbor) → place_of 52 t.lanes a ≡ None → refusing l (LaneAbsent a) ≡ step tol (O.SetNeighbor a side new) l
   set-absent new e = step-refused tol (O.SetNeighbor a side new) l h (LaneAbsent a) (unfold O.edit E.set_neighbor in rw (lane-missing t a e))
 
-  module _ (i : ℕ) (ea : place_of 52 t.lanes a ≡ At i) where
+  module _ (i : ℕ) (ea : place_of 52 t.lanes a ≡ Some i) where
     abbrev from : Lane
     from = lane_of t.coordinates (lane_at t.lanes i)
 
-    pub set-other-absent : (n : Neighbor) → place_of 52 t.lanes n.lane ≡ Nothing → refusing l (LaneAbsent n.lane) ≡ step tol (O.SetNeighbor a side (Some n)) l
+    pub set-other-absent : (n : Neighbor) → place_of 52 t.lanes n.lane ≡ None → refusing l (LaneAbsent n.lane) ≡ step tol (O.SetNeighbor a side (Some n)) l
     set-other-absent n e = step-refused tol (O.SetNeighbor a side (Some n)) l h (LaneAbsent n.lane) (unfold O.edit E.set_neighbor in rw (lane-there t a i ea, lane-missing t n.lane e))
 
-    pub set-itself : (n : Neighbor) (j : ℕ) → place_of 52 t.lanes n.lane ≡ At j → n.lane ≡ a → refusing l (OwnPartner a) ≡ step tol (O.SetNeighbor a side (Some n)) l
+    pub set-itself : (n : Neighbor) (j : ℕ) → place_of 52 t.lanes n.lane ≡ Some j → n.lane ≡ a → refusing l (OwnPartner a) ≡ step tol (O.SetNeighbor a side (Some n)) l
     set-itself n j e f =
         step-refused tol (O.SetNeighbor a side (Some n)) l h (OwnPartner a) (unfold O.edit E.set_neighbor in rw (lane-there t a i ea, lane-there t n.lane j e, eq-eqb n.lane a f))
 
@@ -181,7 +178,7 @@ module _ (tol : Tolerance) (l : Lent) (h : sound_tables l.counter l.tables ≡ t
           in_map true x g = absurd (true≢false (sym (unfold has in g)))
           in_map false x g = there x g
 
-      set-done : (value : OptionNeighbor) → O.edit tol (O.SetNeighbor a side value) (state_of l) ≡ E.yield (E.relinking edited (E.lanes_where chosen (view t).lanes) (E.when (E.same_slot old new) (E.no_op a) ++ is))
+      set-done : (value : Option Neighbor) → O.edit tol (O.SetNeighbor a side value) (state_of l) ≡ Ok (E.relinking edited (E.lanes_where chosen (view t).lanes) (E.when (E.same_slot old new) (E.no_op a) ++ is))
           → ((x : ℕ) → has x (slot_ids a old new other) ≡ true → has x (lane_ids (view t)) ≡ true)
           → fits_room (room_of t) edited ≡ true
           → (true ≡ true → store t edited ≡ with_lane_table (cond (E.same_slot old new) t.lanes (lanes_changed (E.reslotted (E.slot_after a side new old other)) t.lanes)) t)
@@ -214,21 +211,21 @@ module _ (tol : Tolerance) (l : Lent) (h : sound_tables l.counter l.tables ≡ t
     -- ---- a slot freed
 
     free-yields : O.edit tol (O.SetNeighbor a side None) (state_of l)
-        ≡ E.yield (E.relinking (edited none none []) (E.lanes_where (chosen none none []) (view t).lanes) (E.when (E.same_slot old none) (E.no_op a) ++ []))
+        ≡ Ok (E.relinking (edited None None []) (E.lanes_where (chosen None None []) (view t).lanes) (E.when (E.same_slot old None) (E.no_op a) ++ []))
     unfolding O.edit E.set_neighbor
     free-yields = rw (lane-there t a i ea, held_any t.coordinates t.lanes i side)
 
-    pub free-done : fits_room (room_of t) (edited none none []) ≡ true
-        → (true ≡ true → store t (edited none none []) ≡ with_lane_table (cond (E.same_slot old none) t.lanes (lanes_changed (E.reslotted (E.slot_after a side none old none)) t.lanes)) t)
+    pub free-done : fits_room (room_of t) (edited None None []) ≡ true
+        → (true ≡ true → store t (edited None None []) ≡ with_lane_table (cond (E.same_slot old None) t.lanes (lanes_changed (E.reslotted (E.slot_after a side None old None)) t.lanes)) t)
         → step tol (O.SetNeighbor a side None) l ≡ spread l (freeing t.lanes i side l.modified l.warnings)
-    free-done room st = set-done none none [] None free-yields (all_there none none nobody nobody) room st
+    free-done room st = set-done None None [] None free-yields (all_there None None nobody nobody) room st
       where
         nobody : (x : ℕ) → false ≡ true → has x (lane_ids (view t)) ≡ true
         nobody x e = absurd (true≢false (sym e))
 
     -- ---- a slot set
 
-    module _ (n : Neighbor) (j : ℕ) (en : place_of 52 t.lanes n.lane ≡ At j) (ne : eqb n.lane a ≡ false) where
+    module _ (n : Neighbor) (j : ℕ) (en : place_of 52 t.lanes n.lane ≡ Some j) (ne : eqb n.lane a ≡ false) where
       abbrev answer : Side
       answer = reciprocal_side side n.direction
 
@@ -248,25 +245,25 @@ module _ (tol : Tolerance) (l : Lent) (h : sound_tables l.counter l.tables ≡ t
       unfolding lane_of
       own-id = refl
 
-      told : E.unshared (view t) from side (some n) ≡ warned
+      told : E.unshared (view t) from side (Some n) ≡ warned
       told = unshared-by (view t) from side n to (lane-there t n.lane j en) ∙ rw (boundary-any side i, boundary-any answer j, own-id, place-id 52 t.lanes n.lane j en)
 
-      slot_in_lem : E.slot_in (view t) side (some n) ≡ other
+      slot_in_lem : E.slot_in (view t) side (Some n) ≡ other
       slot_in_lem = slot-by (view t) side n to (lane-there t n.lane j en) ∙ held_any t.coordinates t.lanes j answer
 
       set-yields : O.edit tol (O.SetNeighbor a side (Some n)) (state_of l)
-          ≡ E.yield (E.relinking (edited (some n) other warned) (E.lanes_where (chosen (some n) other warned) (view t).lanes) (E.when (E.same_slot old (some n)) (E.no_op a) ++ warned))
+          ≡ Ok (E.relinking (edited (Some n) other warned) (E.lanes_where (chosen (Some n) other warned) (view t).lanes) (E.when (E.same_slot old (Some n)) (E.no_op a) ++ warned))
       unfolding O.edit E.set_neighbor
       set-yields = rw (lane-there t a i ea, lane-there t n.lane j en, ne, slot_in_lem, told, held_any t.coordinates t.lanes i side)
 
-      pub set-slot-done : fits_room (room_of t) (edited (some n) other warned) ≡ true
-          → (true ≡ true → store t (edited (some n) other warned) ≡ with_lane_table (cond (E.same_slot old (some n)) t.lanes (lanes_changed (E.reslotted (E.slot_after a side (some n) old other)) t.lanes)) t)
+      pub set-slot-done : fits_room (room_of t) (edited (Some n) other warned) ≡ true
+          → (true ≡ true → store t (edited (Some n) other warned) ≡ with_lane_table (cond (E.same_slot old (Some n)) t.lanes (lanes_changed (E.reslotted (E.slot_after a side (Some n) old other)) t.lanes)) t)
           → step tol (O.SetNeighbor a side (Some n)) l ≡ spread l (setting t.lanes i side j n.direction l.modified l.warnings)
       set-slot-done room st =
-          set-done (some n) other warned (Some n) set-yields (all_there (some n) other new-there other-there) room st
-          ∙ ap (λ z. spread l (reslotting t.lanes i side (some (record { lane = z; direction = n.direction })) other warned l.modified l.warnings)) (sym (place-id 52 t.lanes n.lane j en))
+          set-done (Some n) other warned (Some n) set-yields (all_there (Some n) other new-there other-there) room st
+          ∙ ap (λ z. spread l (reslotting t.lanes i side (Some (record { lane = z; direction = n.direction })) other warned l.modified l.warnings)) (sym (place-id 52 t.lanes n.lane j en))
         where
-          new-there : (x : ℕ) → names (some n) x ≡ true → has x (lane_ids (view t)) ≡ true
+          new-there : (x : ℕ) → names (Some n) x ≡ true → has x (lane_ids (view t)) ≡ true
           new-there x e = ap (λ z. has z (lane_ids (view t))) (sym (eqb-true n.lane x e)) ∙ found-id (view t) n.lane to (lane-there t n.lane j en)
 
           other-there : (x : ℕ) → names other x ≡ true → has x (lane_ids (view t)) ≡ true

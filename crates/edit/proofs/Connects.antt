@@ -1,13 +1,12 @@
 -- connect and disconnect on lent memory, by how they end. Assumes nothing.
+use Rattle.std.specs.Prelude.{None, Some, Ok}
 use mathlib.Core.Path.{◌≡◌, refl, sym, ap, ◌∙◌}
 use Prim.Native.Nat.{ℕ, ◌≤◌}
 use mathlib.Core.Bool.{Bool, true, false, not, cond, ◌&&◌, ◌||◌, true≢false}
 use mathlib.Core.List.{[], ◌∷◌, ◌++◌, map}
-use mathlib.Core.Option.{some}
 use lib.Dec.{eqb}
 use borrow.Author.Tests.{eq-eqb, eqb-true}
 use Rattle.lists.specs.Select.{has, place, ascending}
-use Rattle.lists.specs.declared.Found.TheVariants.{At, Nothing}
 use Rattle.lists.proofs.Select.{has-place, ascending-place}
 use Rattle.entities.specs.Types.{lane_entity}
 use Rattle.entities.specs.Records.{Lane, Map}
@@ -49,7 +48,7 @@ pair-up : (a b : ℕ) → ascending (pair_of a b) ≡ true
 pair-up a b = ascending-place b (place a []) (ascending-place a [] (unfold ascending in refl))
 
 -- a lane that is found is among the ids
-pub found-id : (m : Map) (a : ℕ) (l : Lane) → lane m a ≡ some l → has a (lane_ids m) ≡ true
+pub found-id : (m : Map) (a : ℕ) (l : Lane) → lane m a ≡ Some l → has a (lane_ids m) ≡ true
 unfolding lane
 found-id m a l e = has_key (λ x. x.id) a m.lanes ∙ found-any (λ x. eqb x.id a) m.lanes l e (λ x. eqb a x.id) (eq-eqb a l.id (sym (lane-id m a l e)))
 
@@ -60,20 +59,20 @@ module _ (tol : Tolerance) (l : Lent) (h : sound_tables l.counter l.tables ≡ t
   t = l.tables
 
   module _ (a b : ℕ) where
-    pub connect-first-absent : place_of 52 t.lanes a ≡ Nothing → refusing l (LaneAbsent a) ≡ step tol (O.ConnectLanes a b) l
+    pub connect-first-absent : place_of 52 t.lanes a ≡ None → refusing l (LaneAbsent a) ≡ step tol (O.ConnectLanes a b) l
     connect-first-absent e = step-refused tol (O.ConnectLanes a b) l h (LaneAbsent a) (unfold O.edit E.connect in rw (lane-missing t a e))
 
-    pub disconnect-first-absent : place_of 52 t.lanes a ≡ Nothing → refusing l (LaneAbsent a) ≡ step tol (O.DisconnectLanes a b) l
+    pub disconnect-first-absent : place_of 52 t.lanes a ≡ None → refusing l (LaneAbsent a) ≡ step tol (O.DisconnectLanes a b) l
     disconnect-first-absent e = step-refused tol (O.DisconnectLanes a b) l h (LaneAbsent a) (unfold O.edit E.disconnect in rw (lane-missing t a e))
 
-    module _ (i : ℕ) (ea : place_of 52 t.lanes a ≡ At i) where
-      pub connect-second-absent : place_of 52 t.lanes b ≡ Nothing → refusing l (LaneAbsent b) ≡ step tol (O.ConnectLanes a b) l
+    module _ (i : ℕ) (ea : place_of 52 t.lanes a ≡ Some i) where
+      pub connect-second-absent : place_of 52 t.lanes b ≡ None → refusing l (LaneAbsent b) ≡ step tol (O.ConnectLanes a b) l
       connect-second-absent e = step-refused tol (O.ConnectLanes a b) l h (LaneAbsent b) (unfold O.edit E.connect in rw (lane-there t a i ea, lane-missing t b e))
 
-      pub disconnect-second-absent : place_of 52 t.lanes b ≡ Nothing → refusing l (LaneAbsent b) ≡ step tol (O.DisconnectLanes a b) l
+      pub disconnect-second-absent : place_of 52 t.lanes b ≡ None → refusing l (LaneAbsent b) ≡ step tol (O.DisconnectLanes a b) l
       disconnect-second-absent e = step-refused tol (O.DisconnectLanes a b) l h (LaneAbsent b) (unfold O.edit E.disconnect in rw (lane-there t a i ea, lane-missing t b e))
 
-      module _ (j : ℕ) (eb : place_of 52 t.lanes b ≡ At j) where
+      module _ (j : ℕ) (eb : place_of 52 t.lanes b ≡ Some j) where
         abbrev from : Lane
         from = lane_of t.coordinates (lane_at t.lanes i)
 
@@ -119,13 +118,13 @@ module _ (tol : Tolerance) (l : Lent) (h : sound_tables l.counter l.tables ≡ t
 
         connect-yields : eqb a b ≡ false
             → O.edit tol (O.ConnectLanes a b) (state_of l)
-            ≡ E.yield (E.relinking (E.with_lanes (map (E.link_in a b) (view t).lanes) (view t)) (E.lanes_where (λ x. not linked && E.either a b x) (view t).lanes)
+            ≡ Ok (E.relinking (E.with_lanes (map (E.link_in a b) (view t).lanes) (view t)) (E.lanes_where (λ x. not linked && E.either a b x) (view t).lanes)
             (E.when gap (E.warning GeometricGap (lane_entity a) (lane_entity b ∷ [])) ++ E.when linked (E.no_op a)))
         unfolding O.edit E.connect
         connect-yields ne = rw (lane-there t a i ea, lane-there t b j eb, ne, leads-by-row t l.counter h a b i ea, gapped-drawn t tol.gap from to)
 
         disconnect-yields : O.edit tol (O.DisconnectLanes a b) (state_of l)
-            ≡ E.yield (E.relinking (E.with_lanes (map (E.link_out a b) (view t).lanes) (view t)) (E.lanes_where (λ x. linked && E.either a b x) (view t).lanes)
+            ≡ Ok (E.relinking (E.with_lanes (map (E.link_out a b) (view t).lanes) (view t)) (E.lanes_where (λ x. linked && E.either a b x) (view t).lanes)
             (E.when (not linked) (E.no_op a)))
         unfolding O.edit E.disconnect
         disconnect-yields = rw (lane-there t a i ea, lane-there t b j eb, leads-by-row t l.counter h a b i ea)

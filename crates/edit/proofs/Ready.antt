@@ -1,16 +1,14 @@
 -- The edits of links and neighbours from a sound map: room and what is written back follow, so a call is what its rows make of it. Assumes nothing.
+use Rattle.std.specs.Prelude.{Option, None, Some}
 use mathlib.Core.Path.{◌≡◌, refl, sym, ap, ◌∙◌}
 use Prim.Native.Nat.{ℕ, ◌≤◌}
 use mathlib.Core.Bool.{Bool, true, false, cond, ◌&&◌, ◌||◌}
 use mathlib.Core.List.{List, [], map}
-use mathlib.Core.Option.{Option, none, some}
 use lib.Dec.{eqb, leb}
 use lib.ListN.{length}
 use lib.Ieee.{Float}
 use Rattle.lists.specs.Every.{all}
 use Rattle.lists.specs.Select.{has, place, without}
-use Rattle.lists.specs.declared.Found.TheVariants.{At}
-use Rattle.entities.specs.declared.OptionNeighbor.TheVariants.{None, Some}
 use Rattle.rules.specs.Names.{Tolerance, Side, Left, Right, Neighbor}
 use Rattle.rules.specs.Sound.{fits_room, last_counter}
 use Rattle.rules.specs.Edit as E
@@ -60,7 +58,7 @@ module _ (counter : ℕ) (t : Tables) (h : sound_tables counter t ≡ true) wher
   abbrev known : Facts counter t
   known = facts counter t h
 
-  module _ (a b i j : ℕ) (ea : place_of 52 t.lanes a ≡ At i) (eb : place_of 52 t.lanes b ≡ At j) where
+  module _ (a b i j : ℕ) (ea : place_of 52 t.lanes a ≡ Some i) (eb : place_of 52 t.lanes b ≡ Some j) where
     row-a : id_at t.lanes i ≡ a
     row-a = place-id 52 t.lanes a i ea
 
@@ -133,7 +131,7 @@ module _ (counter : ℕ) (t : Tables) (h : sound_tables counter t ≡ true) wher
         lane-same [] (lane_at t.lanes k) (row_words t.lanes k (lane_room t.lanes known.lanes k l)) (row-formed t.lanes known.lanes k l))
 
 module _ (tol : Tolerance) (l : Lent) (h : sound_tables l.counter l.tables ≡ true) (k : l.counter ≤ last_counter)
-    (a b i j : ℕ) (ea : place_of 52 l.tables.lanes a ≡ At i) (eb : place_of 52 l.tables.lanes b ≡ At j) where
+    (a b i j : ℕ) (ea : place_of 52 l.tables.lanes a ≡ Some i) (eb : place_of 52 l.tables.lanes b ≡ Some j) where
   abbrev L : List ℕ
   L = l.tables.lanes
 
@@ -148,7 +146,7 @@ module _ (tol : Tolerance) (l : Lent) (h : sound_tables l.counter l.tables ≡ t
   disconnect-ends = disconnect-done tol l h k a b i ea j eb (part_room l.counter l.tables h a b i j ea eb) (λ r. part-stored l.counter l.tables h a b i j ea eb)
 
 module _ (tol : Tolerance) (l : Lent) (h : sound_tables l.counter l.tables ≡ true) (k : l.counter ≤ last_counter)
-    (a : ℕ) (side : Side) (i : ℕ) (ea : place_of 52 l.tables.lanes a ≡ At i) where
+    (a : ℕ) (side : Side) (i : ℕ) (ea : place_of 52 l.tables.lanes a ≡ Some i) where
   abbrev table : List ℕ
   table = l.tables.lanes
 
@@ -164,13 +162,13 @@ module _ (tol : Tolerance) (l : Lent) (h : sound_tables l.counter l.tables ≡ t
 
   pub free-ends : step tol (O.SetNeighbor a side None) l ≡ spread l (freeing table i side l.modified l.warnings)
   free-ends =
-      free-done tol l h k a side i ea (slots-room l.counter l.tables h (λ x s was. cond (E.same_slot (slot_held table i side) none) was (slots_of none none x s was)))
-      (λ r. reslot_stored none none)
+      free-done tol l h k a side i ea (slots-room l.counter l.tables h (λ x s was. cond (E.same_slot (slot_held table i side) None) was (slots_of None None x s was)))
+      (λ r. reslot_stored None None)
 
-  pub set-ends : (n : Neighbor) (j : ℕ) → place_of 52 table n.lane ≡ At j → eqb n.lane a ≡ false
+  pub set-ends : (n : Neighbor) (j : ℕ) → place_of 52 table n.lane ≡ Some j → eqb n.lane a ≡ false
       → step tol (O.SetNeighbor a side (Some n)) l ≡ spread l (setting table i side j n.direction l.modified l.warnings)
   set-ends n j en ne =
       let other = slot_held table j (reciprocal_side side n.direction) in
       set-slot-done tol l h k a side i ea n j en ne
-      (slots-room l.counter l.tables h (λ x s was. cond (E.same_slot (slot_held table i side) (some n)) was (slots_of (some n) other x s was)))
-      (λ r. reslot_stored (some n) other)
+      (slots-room l.counter l.tables h (λ x s was. cond (E.same_slot (slot_held table i side) (Some n)) was (slots_of (Some n) other x s was)))
+      (λ r. reslot_stored (Some n) other)

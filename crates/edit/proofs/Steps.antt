@@ -1,10 +1,10 @@
 -- One call, by how it ends: not sound, refused by the edit, or an edit of links and neighbours with room or without. Assumes nothing.
+use Rattle.std.specs.Prelude.{None, Err, Ok}
 use mathlib.Core.Path.{◌≡◌, refl, ap, ◌∙◌}
 use Prim.Native.Nat.{ℕ, ◌/◌, ◌≤◌}
 use native.Mathlib.Omega.{arith}
 use mathlib.Core.Bool.{Bool, true, false, cond, ◌&&◌}
-use mathlib.Core.List.{List, [], map}
-use mathlib.Core.Option.{none}
+use mathlib.Core.List.{List, []}
 use lib.Dec.{leb}
 use lib.ListN.{length, length-map}
 use borrow.Author.Tests.{le-leb}
@@ -17,9 +17,8 @@ use Rattle.tables.specs.View.{Tables}
 use Rattle.tables.specs.Formed.{sound_tables}
 use Rattle.store.specs.Store.{room_of}
 use Rattle.sound_facts.proofs.Stored.{with_lane_table}
-use Rattle.report.specs.Report.{listed, warned, report_fits}
+use Rattle.report.specs.Report.{listed, warned, report_fits, changed}
 use Rattle.report.proofs.Laws.{listed_nil}
-use Rattle.report.specs.declared.Answer.TheVariants.{Changed, Refused}
 use Rattle.step.specs.Step.{Lent, Ended, ended, step, state_of, lists_of, refusing, writing, changing}
 use Rattle.step.proofs.Steps.{step-decided}
 use Rattle.relink.specs.Parts.{Relinked, links_written, writing_links}
@@ -41,20 +40,20 @@ spread l r =
     }
 
 joined : (k : ℕ) (ws : List ℕ) (n : ℕ) {t u : Tables} {c d m o e f : List ℕ} {i j : ℕ} → t ≡ u → c ≡ d → m ≡ o → e ≡ f → i ≡ j
-    → ◌≡◌ {A = Ended} (ended (record { counter = k; tables = t; created = c; modified = m; deleted = e; warnings = ws }) (Changed (record { created = 0; modified = i; deleted = 0; warnings = n })))
-    (ended (record { counter = k; tables = u; created = d; modified = o; deleted = f; warnings = ws }) (Changed (record { created = 0; modified = j; deleted = 0; warnings = n })))
+    → ◌≡◌ {A = Ended} (ended (record { counter = k; tables = t; created = c; modified = m; deleted = e; warnings = ws }) (changed (record { created = 0; modified = i; deleted = 0; warnings = n })))
+    (ended (record { counter = k; tables = u; created = d; modified = o; deleted = f; warnings = ws }) (changed (record { created = 0; modified = j; deleted = 0; warnings = n })))
 joined k ws n p q r s v = rw (p, q, r, s, v)
 
 -- an edit of links and neighbours
 module _ (tol : Tolerance) (c : O.Command) (l : Lent) (h : sound_tables l.counter l.tables ≡ true) (m : Map) (modified : List EntityRef) (ws : List Issue)
-    (e : O.edit tol c (state_of l) ≡ E.yield (E.relinking m modified ws)) (k : l.counter ≤ last_counter) where
+    (e : O.edit tol c (state_of l) ≡ Ok (E.relinking m modified ws)) (k : l.counter ≤ last_counter) where
   abbrev cs : ChangeSet
   cs = record { created = []; modified = modified; deleted = []; warnings = ws }
 
   abbrev room : Bool
   room = fits_room (room_of l.tables) m && O.fits_lists (lists_of l) cs
 
-  decided : step tol c l ≡ cond room (changing c l (record { map = m; counter = l.counter }) cs none) (refusing l NoRoom)
+  decided : step tol c l ≡ cond room (changing c l (record { map = m; counter = l.counter }) cs None) (refusing l NoRoom)
   decided = step-decided tol c l h (E.relinking m modified ws) e (le-leb l.counter last_counter k)
 
   -- the lists of lanes and warnings alone take places
@@ -75,14 +74,14 @@ module _ (tol : Tolerance) (c : O.Command) (l : Lent) (h : sound_tables l.counte
       let n : length modified ≡ length ids = ap length q ∙ length-map ids (λ i. record { kind = LaneKind; id = i }) in
       decided ∙ (rw (f, places (length ids) n) (sides n))
     where
-      sides : length modified ≡ length ids → cond (fit && report_fits (length ids) (length ws) l.modified l.warnings) (changing c l (record { map = m; counter = l.counter }) cs none) (refusing l NoRoom)
-          ≡ spread l (cond (fit && report_fits (length ids) (length ws) l.modified l.warnings) (links_written after (listed l.modified (E.refs LaneKind ids)) (warned l.warnings ws) (Changed (record { created = 0; modified = length ids; deleted = 0; warnings = length ws }))) (links_written l.tables.lanes l.modified l.warnings (Refused NoRoom)))
+      sides : length modified ≡ length ids → cond (fit && report_fits (length ids) (length ws) l.modified l.warnings) (changing c l (record { map = m; counter = l.counter }) cs None) (refusing l NoRoom)
+          ≡ spread l (cond (fit && report_fits (length ids) (length ws) l.modified l.warnings) (links_written after (listed l.modified (E.refs LaneKind ids)) (warned l.warnings ws) (changed (record { created = 0; modified = length ids; deleted = 0; warnings = length ws }))) (links_written l.tables.lanes l.modified l.warnings (Err NoRoom)))
       sides n = by fit refl (report_fits (length ids) (length ws) l.modified l.warnings)
         where
           abbreviated : Bool → Relinked
-          abbreviated b = cond b (links_written after (listed l.modified (E.refs LaneKind ids)) (warned l.warnings ws) (Changed (record { created = 0; modified = length ids; deleted = 0; warnings = length ws }))) (links_written l.tables.lanes l.modified l.warnings (Refused NoRoom))
+          abbreviated b = cond b (links_written after (listed l.modified (E.refs LaneKind ids)) (warned l.warnings ws) (changed (record { created = 0; modified = length ids; deleted = 0; warnings = length ws }))) (links_written l.tables.lanes l.modified l.warnings (Err NoRoom))
 
-          by : (x : Bool) → fit ≡ x → (b : Bool) → cond (x && b) (changing c l (record { map = m; counter = l.counter }) cs none) (refusing l NoRoom) ≡ spread l (abbreviated (x && b))
+          by : (x : Bool) → fit ≡ x → (b : Bool) → cond (x && b) (changing c l (record { map = m; counter = l.counter }) cs None) (refusing l NoRoom) ≡ spread l (abbreviated (x && b))
           by false x b = refl
           by true x false = refl
           by true x true =

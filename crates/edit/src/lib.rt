@@ -6,43 +6,40 @@ ghost use Rattle.std.specs.Prelude.{◌≡◌, true};
 ghost use Rattle.rules.specs.Ops as O;
 ghost use Rattle.tables.specs.Formed.{sound_tables};
 ghost use Rattle.step.specs.Step as S;
+ghost use Rattle.lent.specs.Lent.{map_tables, given, SameSlices, SameLists};
 
-use entities::{OptionNeighbor, Refusal, Side, Tolerance};
-use lists::Found;
+use entities::{Neighbor, Refusal, Side, Tolerance};
 use report::Answer;
 
 // Map::connect: a link from one lane to another.
 pub fn connect(
     counter: u64,
     tolerance: Tolerance,
-    lanes: &mut [u64],
-    boundaries: &[u64],
-    roads: &[u64],
-    junctions: &[u64],
-    rules: &[u64],
-    stop_lines: &[u64],
-    crosswalks: &[u64],
-    coordinates: &[f64],
+    map: &mut lent::Map,
     from: u64,
     to: u64,
-    created: &[u64],
-    modified: &mut [u64],
-    deleted: &[u64],
-    warnings: &mut [u64],
+    lists: &mut lent::Lists,
 ) -> Answer
-    requires { sound_tables counter (S.tables_of lanes.old boundaries.now roads.now junctions.now rules.now stop_lines.now crosswalks.now coordinates.now) ≡ true }
-    ensures { S.ended (S.lent_of counter lanes.new boundaries.now roads.now junctions.now rules.now stop_lines.now crosswalks.now coordinates.now created.now modified.new deleted.now warnings.new) result ≡ S.step tolerance (O.ConnectLanes from to) (S.lent_of counter lanes.old boundaries.now roads.now junctions.now rules.now stop_lines.now crosswalks.now coordinates.now created.now modified.old deleted.now warnings.old) }
+    requires { sound_tables counter (map_tables map.old) ≡ true }
+    ensures made { S.ended (given counter map.new lists.new) result ≡ S.step tolerance (O.ConnectLanes from to) (given counter map.old lists.old) }
+    ensures same { SameSlices map.old map.new }
+    ensures same_lists { SameLists lists.old lists.new }
 {
+    let lanes = &mut *map.lanes;
+    let boundaries = &mut *map.boundaries;
+    let coordinates = &mut *map.coordinates;
+    let modified = &mut *lists.modified;
+    let warnings = &mut *lists.warnings;
     let found = lookup::lane(lanes, from);
-    let Found::At(i) = found else {
-        return Answer::Refused(Refusal::LaneAbsent(from));
+    let Some(i) = found else {
+        return Err(Refusal::LaneAbsent(from));
     };
     let other = lookup::lane(lanes, to);
-    let Found::At(j) = other else {
-        return Answer::Refused(Refusal::LaneAbsent(to));
+    let Some(j) = other else {
+        return Err(Refusal::LaneAbsent(to));
     };
     if from == to {
-        return Answer::Refused(Refusal::OwnPartner(from));
+        return Err(Refusal::OwnPartner(from));
     }
     let gap = gaps::gapped(lanes, i, j, boundaries, coordinates, tolerance.gap);
     let linked = relink::links::leads(lanes, i, to);
@@ -53,31 +50,26 @@ pub fn connect(
 pub fn disconnect(
     counter: u64,
     tolerance: Tolerance,
-    lanes: &mut [u64],
-    boundaries: &[u64],
-    roads: &[u64],
-    junctions: &[u64],
-    rules: &[u64],
-    stop_lines: &[u64],
-    crosswalks: &[u64],
-    coordinates: &[f64],
+    map: &mut lent::Map,
     from: u64,
     to: u64,
-    created: &[u64],
-    modified: &mut [u64],
-    deleted: &[u64],
-    warnings: &mut [u64],
+    lists: &mut lent::Lists,
 ) -> Answer
-    requires { sound_tables counter (S.tables_of lanes.old boundaries.now roads.now junctions.now rules.now stop_lines.now crosswalks.now coordinates.now) ≡ true }
-    ensures { S.ended (S.lent_of counter lanes.new boundaries.now roads.now junctions.now rules.now stop_lines.now crosswalks.now coordinates.now created.now modified.new deleted.now warnings.new) result ≡ S.step tolerance (O.DisconnectLanes from to) (S.lent_of counter lanes.old boundaries.now roads.now junctions.now rules.now stop_lines.now crosswalks.now coordinates.now created.now modified.old deleted.now warnings.old) }
+    requires { sound_tables counter (map_tables map.old) ≡ true }
+    ensures made { S.ended (given counter map.new lists.new) result ≡ S.step tolerance (O.DisconnectLanes from to) (given counter map.old lists.old) }
+    ensures same { SameSlices map.old map.new }
+    ensures same_lists { SameLists lists.old lists.new }
 {
+    let lanes = &mut *map.lanes;
+    let modified = &mut *lists.modified;
+    let warnings = &mut *lists.warnings;
     let found = lookup::lane(lanes, from);
-    let Found::At(i) = found else {
-        return Answer::Refused(Refusal::LaneAbsent(from));
+    let Some(i) = found else {
+        return Err(Refusal::LaneAbsent(from));
     };
     let other = lookup::lane(lanes, to);
-    let Found::At(j) = other else {
-        return Answer::Refused(Refusal::LaneAbsent(to));
+    let Some(j) = other else {
+        return Err(Refusal::LaneAbsent(to));
     };
     let linked = relink::links::leads(lanes, i, to);
     unlink::unlink(lanes, i, j, linked, modified, warnings)
@@ -87,39 +79,34 @@ pub fn disconnect(
 pub fn set_neighbor(
     counter: u64,
     tolerance: Tolerance,
-    lanes: &mut [u64],
-    boundaries: &[u64],
-    roads: &[u64],
-    junctions: &[u64],
-    rules: &[u64],
-    stop_lines: &[u64],
-    crosswalks: &[u64],
-    coordinates: &[f64],
+    map: &mut lent::Map,
     lane: u64,
     side: Side,
-    neighbor: OptionNeighbor,
-    created: &[u64],
-    modified: &mut [u64],
-    deleted: &[u64],
-    warnings: &mut [u64],
+    neighbor: Option<Neighbor>,
+    lists: &mut lent::Lists,
 ) -> Answer
-    requires { sound_tables counter (S.tables_of lanes.old boundaries.now roads.now junctions.now rules.now stop_lines.now crosswalks.now coordinates.now) ≡ true }
-    ensures { S.ended (S.lent_of counter lanes.new boundaries.now roads.now junctions.now rules.now stop_lines.now crosswalks.now coordinates.now created.now modified.new deleted.now warnings.new) result ≡ S.step tolerance (O.SetNeighbor lane side neighbor) (S.lent_of counter lanes.old boundaries.now roads.now junctions.now rules.now stop_lines.now crosswalks.now coordinates.now created.now modified.old deleted.now warnings.old) }
+    requires { sound_tables counter (map_tables map.old) ≡ true }
+    ensures made { S.ended (given counter map.new lists.new) result ≡ S.step tolerance (O.SetNeighbor lane side neighbor) (given counter map.old lists.old) }
+    ensures same { SameSlices map.old map.new }
+    ensures same_lists { SameLists lists.old lists.new }
 {
+    let lanes = &mut *map.lanes;
+    let modified = &mut *lists.modified;
+    let warnings = &mut *lists.warnings;
     let found = lookup::lane(lanes, lane);
-    let Found::At(i) = found else {
-        return Answer::Refused(Refusal::LaneAbsent(lane));
+    let Some(i) = found else {
+        return Err(Refusal::LaneAbsent(lane));
     };
-    let OptionNeighbor::Some(n) = neighbor else {
+    let Some(n) = neighbor else {
         return reslot_edits::free_slot(lanes, i, side, modified, warnings);
     };
     let direction = n.direction;
     let other = lookup::lane(lanes, n.lane);
-    let Found::At(j) = other else {
-        return Answer::Refused(Refusal::LaneAbsent(n.lane));
+    let Some(j) = other else {
+        return Err(Refusal::LaneAbsent(n.lane));
     };
     if n.lane == lane {
-        return Answer::Refused(Refusal::OwnPartner(lane));
+        return Err(Refusal::OwnPartner(lane));
     }
     reslot_edits::set_slot(lanes, i, side, j, direction, modified, warnings)
 }

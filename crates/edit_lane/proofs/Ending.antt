@@ -1,4 +1,5 @@
 -- A removal's two ends: written, or refused for want of room. Assumes nothing.
+use Rattle.std.specs.Prelude.{Err}
 use mathlib.Core.Path.{◌≡◌, sym, ap, ◌∙◌}
 use Prim.Native.Nat.{ℕ, zero, suc, ◌+◌, ◌*◌, ◌/◌, ◌≤◌}
 use native.Mathlib.Omega.{arith}
@@ -12,8 +13,7 @@ use Rattle.rules.specs.Names.{EntityRef, BoundaryKind, NoRoom}
 use Rattle.tables.specs.View.{word}
 use Rattle.row_tests.specs.Returned.{lane_at}
 use Rattle.row_tests.proofs.Lanes.{id-at}
-use Rattle.report.specs.Report.{listed, warned, orphan_rule}
-use Rattle.report.specs.declared.Answer.TheVariants.{Changed, Refused}
+use Rattle.report.specs.Report.{listed, warned, orphan_rule, changed}
 use Rattle.report.proofs.Warnings.{room}
 use Rattle.mentions.specs.declared.Rows.TheVariants.{Rules, Orphans}
 use Rattle.mentions.specs.Naming.{table_formed, naming}
@@ -71,19 +71,19 @@ module _ (a : ℕ) (t : Left) (m d w : List ℕ) (g : Gone) (ids : List ℕ) (h 
       three : {x y z u v k : ℕ} → x ≡ u → y ≡ v → z ≡ k → lists_fit u v k m d w ≡ lists_fit x y z m d w
       three e f i = rw (e, f, i)
 
-  pub refused_removal : lists_fit named (g.count + 1) orphans m d w ≡ false → removed t m d w (Refused NoRoom) ≡ without_lane a ids t m d w
+  pub refused_removal : lists_fit named (g.count + 1) orphans m d w ≡ false → removed t m d w (Err NoRoom) ≡ without_lane a ids t m d w
   unfolding without_lane
   refused_removal fit = rw (same-fits ∙ fit)
 
   pub done_removal : lists_fit named (g.count + 1) orphans m d w ≡ true → (u : Left) (m' d' w' : List ℕ) → u ≡ left_tables a (gone_ids g) t
       → m' ≡ listed m (touched a t.lanes t.roads t.junctions t.rules) → d' ≡ listed d (leaving a (gone_ids g)) → w' ≡ warned w (map orphan_rule (naming Orphans a t.rules))
-      → removed u m' d' w' (Changed (record { created = 0; modified = named; deleted = g.count + 1; warnings = orphans })) ≡ without_lane a ids t m d w
+      → removed u m' d' w' (changed (record { created = 0; modified = named; deleted = g.count + 1; warnings = orphans })) ≡ without_lane a ids t m d w
   unfolding without_lane
   done_removal fit u m' d' w' e f i j =
       rw (same-fits ∙ fit) (joined (e ∙ ap (λ z. left_tables a z t) h.0) f (i ∙ ap (λ z. listed d (leaving a z)) h.0) j counted gone-count warn_count)
     where
       joined : {u v : Left} {x y p q r s : List ℕ} {k l n o b c : ℕ} → u ≡ v → x ≡ y → p ≡ q → r ≡ s → k ≡ l → n ≡ o → b ≡ c
-          → removed u x p r (Changed (record { created = 0; modified = k; deleted = n; warnings = b })) ≡ removed v y q s (Changed (record { created = 0; modified = l; deleted = o; warnings = c }))
+          → removed u x p r (changed (record { created = 0; modified = k; deleted = n; warnings = b })) ≡ removed v y q s (changed (record { created = 0; modified = l; deleted = o; warnings = c }))
       joined e f g h i j k = rw (e, f, g, h, i, j, k)
 
 -- the lane, as it is read from its row

@@ -1,10 +1,10 @@
 -- A call of remove_lane, by how it ends. Assumes nothing.
+use Rattle.std.specs.Prelude.{None, Some, Err}
 use mathlib.Core.Path.{◌≡◌, refl, sym, ap, ◌∙◌}
 use Prim.Native.Nat.{ℕ, ◌-◌, ◌/◌, ◌≤◌}
 use native.Mathlib.Omega.{arith}
 use mathlib.Core.Bool.{Bool, true, false, cond, ◌&&◌}
 use mathlib.Core.List.{List, map}
-use mathlib.Core.Option.{none, some}
 use lib.Dec.{leb}
 use lib.ListN.{length}
 use borrow.Author.Tests.{le-leb}
@@ -26,8 +26,7 @@ use Rattle.sound_facts.proofs.Room.{points-room}
 use Rattle.laws.proofs.Remove.{removed, remove-limits, remove-fewer}
 use Rattle.laws.proofs.RemoveExact.{removal}
 use Rattle.laws.proofs.RemoveLawful.{removing, remove-yields}
-use Rattle.report.specs.Report.{listed, warned, orphan_rule}
-use Rattle.report.specs.declared.Answer.TheVariants.{Changed, Refused}
+use Rattle.report.specs.Report.{listed, warned, orphan_rule, changed}
 use Rattle.step.specs.Step.{Lent, Ended, ended, step, lists_of, refusing, changing}
 use Rattle.step.proofs.Steps.{step-refused, step-decided}
 use Rattle.report.proofs.Laws.{listed_nil}
@@ -97,16 +96,16 @@ given t = P.tables t.lanes t.boundaries t.roads t.junctions t.rules
 -- an accepted call's end, part by part
 joined : (k : ℕ) {t u : Tables} {c d : List ℕ} (modified deleted warnings : List ℕ) {m o e f : List EntityRef} {w v : List Issue} → t ≡ u → c ≡ d → m ≡ o → e ≡ f → w ≡ v
     → ◌≡◌ {A = Ended}
-    (ended (record { counter = k; tables = t; created = c; modified = listed modified m; deleted = listed deleted e; warnings = warned warnings w }) (Changed (record { created = 0; modified = length m; deleted = length e; warnings = length w })))
-    (ended (record { counter = k; tables = u; created = d; modified = listed modified o; deleted = listed deleted f; warnings = warned warnings v }) (Changed (record { created = 0; modified = length o; deleted = length f; warnings = length v })))
+    (ended (record { counter = k; tables = t; created = c; modified = listed modified m; deleted = listed deleted e; warnings = warned warnings w }) (changed (record { created = 0; modified = length m; deleted = length e; warnings = length w })))
+    (ended (record { counter = k; tables = u; created = d; modified = listed modified o; deleted = listed deleted f; warnings = warned warnings v }) (changed (record { created = 0; modified = length o; deleted = length f; warnings = length v })))
 joined k modified deleted warnings p q r s x = rw (p, q, r, s, x)
 
 module _ (tol : Tolerance) (l : Lent) (h : sound_tables l.counter l.tables ≡ true) (a : ℕ) where
-  pub lane-absent : lane (view l.tables) a ≡ none → refusing l (LaneAbsent a) ≡ step tol (O.RemoveLane a) l
+  pub lane-absent : lane (view l.tables) a ≡ None → refusing l (LaneAbsent a) ≡ step tol (O.RemoveLane a) l
   lane-absent e = step-refused tol (O.RemoveLane a) l h (LaneAbsent a) (unfold O.edit remove_lane in rw e)
 
   module _ (k : l.counter ≤ last_counter) (i : ℕ) (own : word 0 (lane_at l.tables.lanes i) ≡ a)
-      (there : lane (view l.tables) a ≡ some (lane_of l.tables.coordinates (lane_at l.tables.lanes i))) where
+      (there : lane (view l.tables) a ≡ Some (lane_of l.tables.coordinates (lane_at l.tables.lanes i))) where
     abbrev gone : Lane
     gone = lane_of l.tables.coordinates (lane_at l.tables.lanes i)
 
@@ -116,10 +115,10 @@ module _ (tol : Tolerance) (l : Lent) (h : sound_tables l.counter l.tables ≡ t
     abbrev after : O.State
     after = record { map = removed a gone (view l.tables); counter = l.counter }
 
-    decided : step tol (O.RemoveLane a) l ≡ cond (O.fits_lists (lists_of l) cs) (changing (O.RemoveLane a) l after cs none) (refusing l NoRoom)
+    decided : step tol (O.RemoveLane a) l ≡ cond (O.fits_lists (lists_of l) cs) (changing (O.RemoveLane a) l after cs None) (refusing l NoRoom)
     decided =
         step-decided tol (O.RemoveLane a) l h (removing a gone (view l.tables)) (unfold O.edit in remove-yields (view l.tables) a gone there) (le-leb l.counter last_counter k)
-        ∙ ap (λ b. cond (b && O.fits_lists (lists_of l) cs) (changing (O.RemoveLane a) l after cs none) (refusing l NoRoom)) (room-removed l.counter l.tables h a gone)
+        ∙ ap (λ b. cond (b && O.fits_lists (lists_of l) cs) (changing (O.RemoveLane a) l after cs None) (refusing l NoRoom)) (room-removed l.counter l.tables h a gone)
 
     abbrev boundaries : List ℕ
     boundaries = P.gone_with l.tables.lanes i l.tables.boundaries
@@ -146,15 +145,15 @@ module _ (tol : Tolerance) (l : Lent) (h : sound_tables l.counter l.tables ≡ t
 
     pub step-removed : spread l (P.without_lane a boundaries (given l.tables) l.modified l.deleted l.warnings) ≡ step tol (O.RemoveLane a) l
     unfolding P.without_lane
-    step-removed = sym (decided ∙ (ap (λ b. cond b (changing (O.RemoveLane a) l after cs none) (refusing l NoRoom)) places ∙ sides (P.lists_fit (length m) (length d) (length w) l.modified l.deleted l.warnings)))
+    step-removed = sym (decided ∙ (ap (λ b. cond b (changing (O.RemoveLane a) l after cs None) (refusing l NoRoom)) places ∙ sides (P.lists_fit (length m) (length d) (length w) l.modified l.deleted l.warnings)))
       where
         end : Bool → P.Removed
         end b =
             cond b
-            (P.removed (P.left_tables a boundaries (given l.tables)) (listed l.modified m) (listed l.deleted d) (warned l.warnings w) (Changed (record { created = 0; modified = length m; deleted = length d; warnings = length w })))
-            (P.removed (given l.tables) l.modified l.deleted l.warnings (Refused NoRoom))
+            (P.removed (P.left_tables a boundaries (given l.tables)) (listed l.modified m) (listed l.deleted d) (warned l.warnings w) (changed (record { created = 0; modified = length m; deleted = length d; warnings = length w })))
+            (P.removed (given l.tables) l.modified l.deleted l.warnings (Err NoRoom))
 
-        sides : (b : Bool) → cond b (changing (O.RemoveLane a) l after cs none) (refusing l NoRoom) ≡ spread l (end b)
+        sides : (b : Bool) → cond b (changing (O.RemoveLane a) l after cs None) (refusing l NoRoom) ≡ spread l (end b)
         sides false = refl
         sides true =
             joined l.counter l.modified l.deleted l.warnings (tables-left l.tables (sound-formed l.counter l.tables h) a i own) (listed_nil l.created)

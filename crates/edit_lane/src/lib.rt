@@ -7,30 +7,31 @@ ghost use Rattle.tables.specs.View.{word};
 ghost use Rattle.tables.specs.Formed.{sound_tables};
 ghost use Rattle.row_tests.specs.Returned.{lane_at};
 ghost use Rattle.step.specs.Step as S;
+ghost use Rattle.lent.specs.Lent.{map_tables, given, SameSlices, SameLists};
 ghost use Rattle.mentions.specs.declared.Rows.TheVariants.{Orphans};
 ghost use Rattle.unused.specs.Parts as P;
 
 use entities::{Refusal, Tolerance};
-use lists::Found;
 use mentions::Rows;
-use report::{Answer, Counts};
+use report::{Answer, Change, Counts};
 use tables::LANE;
 
 // Removes the lane in row i, where the lists have room.
-fn remove(
-    lanes: &mut [u64],
-    i: usize,
-    boundaries: &mut [u64],
-    roads: &mut [u64],
-    junctions: &mut [u64],
-    rules: &mut [u64],
-    modified: &mut [u64],
-    deleted: &mut [u64],
-    warnings: &mut [u64],
-) -> Answer
-    requires { P.Removable lanes.old i boundaries.old roads.old junctions.old rules.old }
-    ensures { P.removed (P.tables lanes.new boundaries.new roads.new junctions.new rules.new) modified.new deleted.new warnings.new result ≡ P.without_lane (word 0 (lane_at lanes.old i)) (P.gone_with lanes.old i boundaries.old) (P.tables lanes.old boundaries.old roads.old junctions.old rules.old) modified.old deleted.old warnings.old }
+fn remove(map: &mut lent::Map, i: usize, lists: &mut lent::Lists) -> Answer
+    requires { P.Removable map.old.lanes.now i map.old.boundaries.now map.old.roads.now map.old.junctions.now map.old.rules.now }
+    ensures made { P.removed (P.tables map.new.lanes.now map.new.boundaries.now map.new.roads.now map.new.junctions.now map.new.rules.now) lists.new.modified.now lists.new.deleted.now lists.new.warnings.now result ≡ P.without_lane (word 0 (lane_at map.old.lanes.now i)) (P.gone_with map.old.lanes.now i map.old.boundaries.now) (P.tables map.old.lanes.now map.old.boundaries.now map.old.roads.now map.old.junctions.now map.old.rules.now) lists.old.modified.now lists.old.deleted.now lists.old.warnings.now }
+    ensures rest { (map.new.stop_lines.now ≡ map.old.stop_lines.now) × (map.new.crosswalks.now ≡ map.old.crosswalks.now) × (map.new.coordinates.now ≡ map.old.coordinates.now) × (lists.new.created.now ≡ lists.old.created.now) }
+    ensures same { SameSlices map.old map.new }
+    ensures same_lists { SameLists lists.old lists.new }
 {
+    let lanes = &mut *map.lanes;
+    let boundaries = &mut *map.boundaries;
+    let roads = &mut *map.roads;
+    let junctions = &mut *map.junctions;
+    let rules = &mut *map.rules;
+    let modified = &mut *lists.modified;
+    let deleted = &mut *lists.deleted;
+    let warnings = &mut *lists.warnings;
     let lane = lanes[1 + i * LANE];
     let own = unused::own_boundaries(lanes, i, boundaries);
     let n = own.count + 1;
@@ -41,42 +42,36 @@ fn remove(
         lane_lists::list_gone(lane, own, deleted);
         lane_lists::warn(rules, lane, warnings);
         lane_lists::write(lanes, boundaries, roads, junctions, rules, lane, own);
-        return Answer::Changed(Counts {
-            created: 0,
-            modified: named,
-            deleted: n,
-            warnings: orphans,
+        return Ok(Change {
+            counts: Counts {
+                created: 0,
+                modified: named,
+                deleted: n,
+                warnings: orphans,
+            },
+            second: None,
         });
     }
-    Answer::Refused(Refusal::NoRoom)
+    Err(Refusal::NoRoom)
 }
 
 // Map::remove_lane: a lane goes, with the boundaries that only it uses. The map is sound.
 pub fn remove_lane(
     counter: u64,
     tolerance: Tolerance,
-    lanes: &mut [u64],
-    boundaries: &mut [u64],
-    roads: &mut [u64],
-    junctions: &mut [u64],
-    rules: &mut [u64],
-    stop_lines: &[u64],
-    crosswalks: &[u64],
-    coordinates: &[f64],
+    map: &mut lent::Map,
     lane: u64,
-    created: &[u64],
-    modified: &mut [u64],
-    deleted: &mut [u64],
-    warnings: &mut [u64],
+    lists: &mut lent::Lists,
 ) -> Answer
-    requires { sound_tables counter (S.tables_of lanes.old boundaries.old roads.old junctions.old rules.old stop_lines.now crosswalks.now coordinates.now) ≡ true }
-    ensures { S.ended (S.lent_of counter lanes.new boundaries.new roads.new junctions.new rules.new stop_lines.now crosswalks.now coordinates.now created.now modified.new deleted.new warnings.new) result ≡ S.step tolerance (O.RemoveLane lane) (S.lent_of counter lanes.old boundaries.old roads.old junctions.old rules.old stop_lines.now crosswalks.now coordinates.now created.now modified.old deleted.old warnings.old) }
+    requires { sound_tables counter (map_tables map.old) ≡ true }
+    ensures made { S.ended (given counter map.new lists.new) result ≡ S.step tolerance (O.RemoveLane lane) (given counter map.old lists.old) }
+    ensures same { SameSlices map.old map.new }
+    ensures same_lists { SameLists lists.old lists.new }
 {
+    let lanes = &mut *map.lanes;
     let found = lookup::lane(lanes, lane);
-    let Found::At(i) = found else {
-        return Answer::Refused(Refusal::LaneAbsent(lane));
+    let Some(i) = found else {
+        return Err(Refusal::LaneAbsent(lane));
     };
-    remove(
-        lanes, i, boundaries, roads, junctions, rules, modified, deleted, warnings,
-    )
+    remove(map, i, lists)
 }

@@ -1,4 +1,5 @@
 -- A call of merge_lanes, by how it ends, as the one equation with `step`. Assumes nothing.
+use Rattle.std.specs.Prelude.{None, Some, Err, Ok}
 use mathlib.Core.Path.{◌≡◌, refl, sym, ap, ◌∙◌}
 use Prim.Native.Nat.{ℕ, ◌+◌, ◌/◌, ◌^◌, ◌≤◌, ◌<◌, min}
 use native.Mathlib.Omega.{arith}
@@ -7,7 +8,6 @@ use mathlib.Core.List.{List, [], ◌∷◌}
 use lib.Dec.{leb}
 use lib.Ieee.{Float}
 use lib.ListN.{length, length-append}
-use Rattle.lists.specs.declared.Found.TheVariants.{At, Nothing}
 use Rattle.entities.specs.Records.{Lane, Map, Issue, ChangeSet}
 use Rattle.rules.specs.Names.{Tolerance, EntityRef, LaneKind, BoundaryKind, Refusal, LaneAbsent, NotMergeable, NoRoom, NoIds}
 use Rattle.rules.specs.Sound.{fits_room, last_counter, next_id}
@@ -21,9 +21,8 @@ use Rattle.store.specs.Store.{room_of}
 use Rattle.store.specs.Laid.{laid}
 use Rattle.layout.specs.Layout.{last_point}
 use Rattle.lookup.specs.Lookup.{place_of, row_at}
-use Rattle.report.specs.Report.{listed, warned, counts}
+use Rattle.report.specs.Report.{listed, warned, counts, changed}
 use Rattle.report.specs.declared.Counts.{Counts}
-use Rattle.report.specs.declared.Answer.TheVariants.{Changed}
 use Rattle.report.proofs.Laws.{length_up}
 use Rattle.step.specs.Step.{Lent, Ended, ended, step, state_of, lists_of, refusing, changing}
 use Rattle.step.proofs.Steps.{step-refused, step_exhausted, step-decided}
@@ -32,7 +31,6 @@ use Rattle.room.specs.Room.{ids_left, lists_fit}
 use Rattle.merge_plan.specs.Deciding.{lane_in, follows, planned}
 use Rattle.merge_plan.specs.Sides.{side_ids}
 use Rattle.merge_plan.specs.declared.Plan.{Plan}
-use Rattle.merge_plan.specs.declared.Planned.TheVariants as N
 use Rattle.merge_decide.proofs.Whole.{Plans, merge-unfit, merge-refused, merge-planned}
 use Rattle.merge_gone.specs.Leaving.{fits_after}
 use Rattle.merge_lists.specs.Changes.{touched, leaving, warnings_of}
@@ -72,15 +70,15 @@ module _ (tol : Tolerance) (l : Lent) (h : sound_tables l.counter l.tables ≡ t
   abbrev ls : List ℕ
   ls = l.tables.lanes
 
-  pub first_absent : place_of 52 ls one ≡ Nothing → refusing l (LaneAbsent one) ≡ step tol (O.MergeLanes one two) l
+  pub first_absent : place_of 52 ls one ≡ None → refusing l (LaneAbsent one) ≡ step tol (O.MergeLanes one two) l
   first_absent e = step-refused tol (O.MergeLanes one two) l h (LaneAbsent one) (unfold O.edit merge_lanes in rw (lane-missing l.tables one e))
 
-  module _ (i : ℕ) (ei : place_of 52 ls one ≡ At i) where
-    pub second-absent : place_of 52 ls two ≡ Nothing → refusing l (LaneAbsent two) ≡ step tol (O.MergeLanes one two) l
+  module _ (i : ℕ) (ei : place_of 52 ls one ≡ Some i) where
+    pub second-absent : place_of 52 ls two ≡ None → refusing l (LaneAbsent two) ≡ step tol (O.MergeLanes one two) l
     second-absent e =
         step-refused tol (O.MergeLanes one two) l h (LaneAbsent two) (unfold O.edit merge_lanes in rw (lane-there l.tables one i ei, lane-missing l.tables two e))
 
-    module _ (j : ℕ) (ej : place_of 52 ls two ≡ At j) where
+    module _ (j : ℕ) (ej : place_of 52 ls two ≡ Some j) where
       abbrev fit : Bool
       fit = follows (lane_in [] ls i) (lane_in [] ls j)
 
@@ -88,7 +86,7 @@ module _ (tol : Tolerance) (l : Lent) (h : sound_tables l.counter l.tables ≡ t
       unfit f = step-refused tol (O.MergeLanes one two) l h (NotMergeable one) (unfold O.edit in merge-unfit tol (next_id l.counter) one two l.tables i j ei ej f)
 
       module _ (f : fit ≡ true) where
-        pub side-refused : (r : Refusal) → planned tol.join l.tables.coordinates ls l.tables.boundaries i j ≡ N.Refused r → refusing l r ≡ step tol (O.MergeLanes one two) l
+        pub side-refused : (r : Refusal) → planned tol.join l.tables.coordinates ls l.tables.boundaries i j ≡ Err r → refusing l r ≡ step tol (O.MergeLanes one two) l
         side-refused r e = step-refused tol (O.MergeLanes one two) l h r (unfold O.edit in merge-refused tol (next_id l.counter) one two l.tables i j ei ej f r e)
 
 -- ---- the tables
@@ -118,9 +116,9 @@ module _ {tol : Tolerance} {counter : ℕ} {t : Tables} {one two i j : ℕ} {p :
 
 -- ---- once both sides are planned
 
-module _ (tol : Tolerance) (l : Lent) (h : sound_tables l.counter l.tables ≡ true) (small : l.counter < 2 ^ 64) (one two i j : ℕ) (ei : place_of 52 l.tables.lanes one ≡ At i)
-    (ej : place_of 52 l.tables.lanes two ≡ At j) (f : follows (lane_in [] l.tables.lanes i) (lane_in [] l.tables.lanes j) ≡ true) (p : Plan)
-    (e : planned tol.join l.tables.coordinates l.tables.lanes l.tables.boundaries i j ≡ N.Merges p) where
+module _ (tol : Tolerance) (l : Lent) (h : sound_tables l.counter l.tables ≡ true) (small : l.counter < 2 ^ 64) (one two i j : ℕ) (ei : place_of 52 l.tables.lanes one ≡ Some i)
+    (ej : place_of 52 l.tables.lanes two ≡ Some j) (f : follows (lane_in [] l.tables.lanes i) (lane_in [] l.tables.lanes j) ≡ true) (p : Plan)
+    (e : planned tol.join l.tables.coordinates l.tables.lanes l.tables.boundaries i j ≡ Ok p) where
   abbrev t : Tables
   t = l.tables
 
@@ -142,7 +140,7 @@ module _ (tol : Tolerance) (l : Lent) (h : sound_tables l.counter l.tables ≡ t
   abbrev done : E.Edited
   done = merged tol next (view t) first second plans.left plans.right
 
-  yields : O.edit tol (O.MergeLanes one two) (state_of l) ≡ E.yield done
+  yields : O.edit tol (O.MergeLanes one two) (state_of l) ≡ Ok done
   yields = unfold O.edit in plans.made
 
   ids-told : done.ids ≡ side_ids p.left + side_ids p.right
@@ -213,8 +211,8 @@ module _ (tol : Tolerance) (l : Lent) (h : sound_tables l.counter l.tables ≡ t
       -- an accepted call's end, part by part
       joined : {k k₁ : ℕ} {u v : Tables} {c d m o x y : List EntityRef} {w z : List Issue} {q r : Counts} → k ≡ k₁ → u ≡ v → c ≡ d → m ≡ o → x ≡ y → w ≡ z → q ≡ r
           → ◌≡◌ {A = Ended}
-          (ended (record { counter = k; tables = u; created = listed l.created c; modified = listed l.modified m; deleted = listed l.deleted x; warnings = warned l.warnings w }) (Changed q))
-          (ended (record { counter = k₁; tables = v; created = listed l.created d; modified = listed l.modified o; deleted = listed l.deleted y; warnings = warned l.warnings z }) (Changed r))
+          (ended (record { counter = k; tables = u; created = listed l.created c; modified = listed l.modified m; deleted = listed l.deleted x; warnings = warned l.warnings w }) (changed q))
+          (ended (record { counter = k₁; tables = v; created = listed l.created d; modified = listed l.modified o; deleted = listed l.deleted y; warnings = warned l.warnings z }) (changed r))
       joined a b c d e f g = rw (a, b, c, d, e, f, g)
 
       abbrev made : Ended
@@ -228,7 +226,7 @@ module _ (tol : Tolerance) (l : Lent) (h : sound_tables l.counter l.tables ≡ t
             deleted = listed l.deleted (leaving (word 0 (row_at 52 t.lanes j)) gone);
             warnings = warned l.warnings (warnings_of t.lanes i j p.left p.right next);
           })
-          (Changed n)
+          (changed n)
 
       abbrev after : O.State
       after = record { map = done.result; counter = O.counter_after l.counter done.ids }

@@ -1,4 +1,6 @@
 -- A call of split_lane, by how it ends, as the one equation with `step`, and what its group asks of a sound map. Assumes nothing.
+use Rattle.rules.specs.Edit.{Passed, Res, passed}
+use Rattle.std.specs.Prelude.{None, Some, Err, Ok}
 use mathlib.Core.Path.{◌≡◌, refl, sym, ap, ◌∙◌, subst}
 use Prim.Native.Nat.{ℕ, ◌+◌, ◌^◌, ◌≤◌, ◌<◌}
 use native.Mathlib.Omega.{arith}
@@ -10,7 +12,6 @@ use lib.ListN.{length, length-map, length-replicate, replicate, drop, take}
 use lib.Seq.{length-take-le}
 use Rattle.lists.specs.Rows.{over}
 use Rattle.lists.specs.Select.{has}
-use Rattle.lists.specs.declared.Found.TheVariants.{At, Nothing}
 use Rattle.lists.proofs.Rows.{length-keys, length_over, take-over}
 use Rattle.rules.specs.Names.{Tolerance, Point2, SplitAt, Refusal, LaneAbsent, NoRoom, NoIds}
 use Rattle.rules.specs.Sound.{fits_room, last_counter, next_id}
@@ -29,12 +30,6 @@ use Rattle.sound_facts.proofs.Facts.{Facts, facts}
 use Rattle.step.specs.Step.{Lent, Ended, step, state_of, lists_of, refusing}
 use Rattle.step.proofs.Steps.{step-refused, step_exhausted, step-decided}
 use Rattle.split_plan.specs.declared.Cut.{Cut}
-use Rattle.split_plan.specs.declared.Crossed.{Crossed}
-use Rattle.split_plan.specs.declared.Crossed.TheVariants as X
-use Rattle.split_plan.specs.declared.Placed.{Placed}
-use Rattle.split_plan.specs.declared.Placed.TheVariants as P
-use Rattle.split_plan.specs.declared.Stations.{Stations}
-use Rattle.split_plan.specs.declared.Stations.TheVariants as L
 use Rattle.split_plan.specs.Placing.{all_of, good_of, group_marks, marked_rows, placed, row_station, stations_told}
 use Rattle.split_plan.proofs.Marked.{Each, each-length, each-good, all-each}
 use Rattle.split_laws.proofs.Whole.{Plans, split-absent, split_unplaced, split_unstationed, split_uncrossed, split-planned}
@@ -45,15 +40,15 @@ use Rattle.edit_split.specs.Parts.{crossings, cross_ends, station_ends, cut_in, 
 
 -- ---- boundaries
 
-module _ (tol : Tolerance) (own : ℕ) (p : Point2) (seen : List Bool) (cut : List ℕ) (stations : List Float) (l : Lent) (x : Crossed) (e : x ≡ crossings p seen l.tables) where
-  pub uncrossed : (r : Refusal) → x ≡ X.Refused r → refusing l r ≡ station_ends tol own p seen cut stations l
+module _ (tol : Tolerance) (own : ℕ) (p : Point2) (seen : List Bool) (cut : List ℕ) (stations : List Float) (l : Lent) (x : Res Passed) (e : x ≡ crossings p seen l.tables) where
+  pub uncrossed : (r : Refusal) → x ≡ Err r → refusing l r ≡ station_ends tol own p seen cut stations l
   unfolding station_ends
   uncrossed r f = sym (ap (cross_ends tol own p seen cut stations l) (sym e ∙ f))
 
-  pub crossed-asks : MayCross tol l.counter l.tables own p seen cut stations → x ≡ X.All → Planned tol l.counter l.tables own p seen cut stations
+  pub crossed-asks : MayCross tol l.counter l.tables own p seen cut stations → x ≡ Ok passed → Planned tol l.counter l.tables own p seen cut stations
   crossed-asks m f = m.planned (sym e ∙ f)
 
-  pub crossed : x ≡ X.All → (y : Ended) → y ≡ split_ends tol own p seen cut stations l → y ≡ station_ends tol own p seen cut stations l
+  pub crossed : x ≡ Ok passed → (y : Ended) → y ≡ split_ends tol own p seen cut stations l → y ≡ station_ends tol own p seen cut stations l
   unfolding station_ends
   crossed f y ye = ye ∙ sym (ap (cross_ends tol own p seen cut stations l) (sym e ∙ f))
 
@@ -78,19 +73,19 @@ pub marks_there : (i : ℕ) (neighbors : Bool) (t : Tables) (seen : List Bool) �
 marks_there i neighbors t seen e few = omega (arith, ap length e, seen-long i neighbors t few)
 
 -- the group as it is marked, and the stations that were found
-module _ (tol : Tolerance) (own i : ℕ) (k : Cut) (neighbors : Bool) (l : Lent) (seen : List Bool) (es : seen ≡ seen_in i neighbors l.tables) (s : Stations) (e : s ≡ planned tol own k seen l.tables) where
+module _ (tol : Tolerance) (own i : ℕ) (k : Cut) (neighbors : Bool) (l : Lent) (seen : List Bool) (es : seen ≡ seen_in i neighbors l.tables) (s : Res ℕ) (e : s ≡ planned tol own k seen l.tables) where
   abbrev t : Tables
   t = l.tables
 
   told : s ≡ planned tol own k (seen_in i neighbors l.tables) l.tables
   told = e ∙ ap (λ z. planned tol own k z l.tables) es
 
-  pub unplanned : (r : Refusal) → s ≡ L.Refused r → refusing l r ≡ group_ends tol own i k neighbors l
+  pub unplanned : (r : Refusal) → s ≡ Err r → refusing l r ≡ group_ends tol own i k neighbors l
   unfolding group_ends
   unplanned r f = sym (ap (plan_ends tol own k (seen_in i neighbors t) l) (sym told ∙ f))
 
   -- ids and stations at the front of their arrays
-  module _ (m : MayGroup tol l.counter l.tables own i k neighbors) (n : ℕ) (f : s ≡ L.Of n) (w ids : List ℕ) (we : length w ≡ 1024) (ie : ids ≡ over w 0 (cut_in tol own k seen l.tables))
+  module _ (m : MayGroup tol l.counter l.tables own i k neighbors) (n : ℕ) (f : s ≡ Ok n) (w ids : List ℕ) (we : length w ≡ 1024) (ie : ids ≡ over w 0 (cut_in tol own k seen l.tables))
       (u stations : List Float) (ue : length u ≡ 1024) (se : stations ≡ over u 0 (stations_in tol own k seen l.tables)) where
     asked : (length (cut_in tol own k (seen_in i neighbors t) t) ≡ n) × ((length (stations_in tol own k (seen_in i neighbors t) t) ≡ n)
         × ((n ≤ 1024) × MayCross tol l.counter t own k.point (seen_in i neighbors t) (cut_in tol own k (seen_in i neighbors t) t) (stations_in tol own k (seen_in i neighbors t) t)))
@@ -135,19 +130,19 @@ module _ (tol : Tolerance) (l : Lent) (h : sound_tables l.counter l.tables ≡ t
   abbrev next : ℕ
   next = next_id l.counter
 
-  refused : (r : Refusal) → split_lane tol (next_id l.counter) own at neighbors (view l.tables) ≡ E.refuse r → refusing l r ≡ step tol (O.SplitLane own at neighbors) l
+  refused : (r : Refusal) → split_lane tol (next_id l.counter) own at neighbors (view l.tables) ≡ Err r → refusing l r ≡ step tol (O.SplitLane own at neighbors) l
   refused r e = step-refused tol (O.SplitLane own at neighbors) l h r (unfold O.edit in e)
 
-  pub absent : place_of 52 l.tables.lanes own ≡ Nothing → refusing l (LaneAbsent own) ≡ step tol (O.SplitLane own at neighbors) l
+  pub absent : place_of 52 l.tables.lanes own ≡ None → refusing l (LaneAbsent own) ≡ step tol (O.SplitLane own at neighbors) l
   absent e = refused (LaneAbsent own) (split-absent tol next own at neighbors l.tables e)
 
-  module _ (i : ℕ) (ei : place_of 52 l.tables.lanes own ≡ At i) (x : Placed) (xe : x ≡ placed tol.piece l.tables.coordinates l.tables.lanes l.tables.boundaries i at) where
-    pub unplaced : (r : Refusal) → x ≡ P.Refused r → refusing l r ≡ step tol (O.SplitLane own at neighbors) l
+  module _ (i : ℕ) (ei : place_of 52 l.tables.lanes own ≡ Some i) (x : Res Cut) (xe : x ≡ placed tol.piece l.tables.coordinates l.tables.lanes l.tables.boundaries i at) where
+    pub unplaced : (r : Refusal) → x ≡ Err r → refusing l r ≡ step tol (O.SplitLane own at neighbors) l
     unplaced r e = refused r (split_unplaced tol next own at neighbors l.tables i ei r (sym xe ∙ e))
 
     -- the cut is placed
-    module _ (small : l.counter < 2 ^ 64) (k : Cut) (told_at : x ≡ P.At k) where
-      ek : placed tol.piece l.tables.coordinates l.tables.lanes l.tables.boundaries i at ≡ P.At k
+    module _ (small : l.counter < 2 ^ 64) (k : Cut) (told_at : x ≡ Ok k) where
+      ek : placed tol.piece l.tables.coordinates l.tables.lanes l.tables.boundaries i at ≡ Ok k
       ek = sym xe ∙ told_at
 
       abbrev tt : Tables
@@ -175,13 +170,13 @@ module _ (tol : Tolerance) (l : Lent) (h : sound_tables l.counter l.tables ≡ t
       few = lanes-few l.tables.lanes known.lanes
 
       -- all of the group have stations
-      module _ (n : ℕ) (en : planned tol own k seen tt ≡ L.Of n) where
-        all_stations : (ss : List Float) × (all_of station_of marked ≡ E.yield ss) × (length ss ≡ n)
+      module _ (n : ℕ) (en : planned tol own k seen tt ≡ Ok n) where
+        all_stations : (ss : List Float) × (all_of station_of marked ≡ Ok ss) × (length ss ≡ n)
         all_stations = go (all_of station_of marked) refl en
           where
-            go : (x : E.Res (List Float)) → all_of station_of marked ≡ x → stations_told x ≡ L.Of n → (ss : List Float) × (all_of station_of marked ≡ E.yield ss) × (length ss ≡ n)
-            go (E.refuse q) p e = let z : ◌≡◌ {A = ℕ} 0 1 = cc in absurd (omega arith)
-            go (E.yield ss) p e = (ss, p, cc)
+            go : (x : E.Res (List Float)) → all_of station_of marked ≡ x → stations_told x ≡ Ok n → (ss : List Float) × (all_of station_of marked ≡ Ok ss) × (length ss ≡ n)
+            go (Err q) p e = let z : ◌≡◌ {A = ℕ} 0 1 = cc in absurd (omega arith)
+            go (Ok ss) p e = (ss, p, cc)
 
         each : Each station_of marked all_stations.0
         each = all-each station_of marked all_stations.0 all_stations.1
@@ -203,7 +198,7 @@ module _ (tol : Tolerance) (l : Lent) (h : sound_tables l.counter l.tables ≡ t
         n-few = omega (arith, marked-many, picked-few seen (rows 52 (λ (w : List ℕ). w) tt.lanes), rows-many 52 tt.lanes, few)
 
         -- and all their boundaries cross
-        module _ (ex : crossings k.point seen tt ≡ X.All) where
+        module _ (ex : crossings k.point seen tt ≡ Ok passed) where
           plans : Plans tol next own at neighbors tt k seen n
           plans = split-planned tol next own at neighbors tt i ei k ek (replicate 1024 false) seen refl n en ex
 
@@ -218,7 +213,7 @@ module _ (tol : Tolerance) (l : Lent) (h : sound_tables l.counter l.tables ≡ t
                 neighbors = neighbors;
                 marked = refl;
                 at = k.station;
-                planned = p.planned ∙ ap E.yield p.by_stations;
+                planned = p.planned ∙ ap Ok p.by_stations;
                 crossed = p.crossed;
                 ids = ap (map (λ (x : LanePlan). x.of.id)) (sym p.by_stations) ∙ p.ids;
                 stationed = ap (map (λ (x : LanePlan). x.station)) (sym p.by_stations) ∙ p.stations;
@@ -231,14 +226,14 @@ module _ (tol : Tolerance) (l : Lent) (h : sound_tables l.counter l.tables ≡ t
           abbrev fit : Bool
           fit = fits_room (room_of tt) done.result && O.fits_lists (lists_of l) done.changes
 
-          made : split_lane tol (next_id l.counter) own at neighbors (view l.tables) ≡ E.yield done
+          made : split_lane tol (next_id l.counter) own at neighbors (view l.tables) ≡ Ok done
           unfolding split_of
           made = plans.made ∙ three (group-is all-planned) plans.by_stations (sym (pieces-same all-planned))
             where
-              three : {a b : List ℕ} {c d : List LanePlan} {x y : List Piece} → a ≡ b → c ≡ d → x ≡ y → E.yield (R.cut tol next (view tt) own a c x) ≡ E.yield (R.cut tol next (view tt) own b d y)
+              three : {a b : List ℕ} {c d : List LanePlan} {x y : List Piece} → a ≡ b → c ≡ d → x ≡ y → ◌≡◌ {A = E.Res E.Edited} (Ok (R.cut tol next (view tt) own a c x)) (Ok (R.cut tol next (view tt) own b d y))
               three p q r = rw (p, q, r)
 
-          yields : O.edit tol (O.SplitLane own at neighbors) (state_of l) ≡ E.yield done
+          yields : O.edit tol (O.SplitLane own at neighbors) (state_of l) ≡ Ok done
           yields = unfold O.edit in made
 
           accepted : split_ends tol own k.point seen cut stations l ≡ step tol (O.SplitLane own at neighbors) l
@@ -253,17 +248,17 @@ module _ (tol : Tolerance) (l : Lent) (h : sound_tables l.counter l.tables ≡ t
         unfolding station_ends
         crosses = go (crossings k.point seen tt) refl
           where
-            go : (x : Crossed) → crossings k.point seen tt ≡ x → cross_ends tol own k.point seen cut stations l x ≡ step tol (O.SplitLane own at neighbors) l
-            go (X.Refused r) q = refused r (split_uncrossed tol next own at neighbors tt i ei k ek (replicate 1024 false) seen refl n en r q)
-            go X.All q = accepted q
+            go : (x : Res Passed) → crossings k.point seen tt ≡ x → cross_ends tol own k.point seen cut stations l x ≡ step tol (O.SplitLane own at neighbors) l
+            go (Err r) q = refused r (split_uncrossed tol next own at neighbors tt i ei k ek (replicate 1024 false) seen refl n en r q)
+            go (Ok _) q = accepted q
 
       pub split-ends : group_ends tol own i k neighbors l ≡ step tol (O.SplitLane own at neighbors) l
       unfolding group_ends
       split-ends = go (planned tol own k seen tt) refl
         where
-          go : (x : Stations) → planned tol own k seen tt ≡ x → plan_ends tol own k seen l x ≡ step tol (O.SplitLane own at neighbors) l
-          go (L.Refused r) q = refused r (split_unstationed tol next own at neighbors tt i ei k ek (replicate 1024 false) seen refl r q)
-          go (L.Of n) q = crosses n q
+          go : (x : Res ℕ) → planned tol own k seen tt ≡ x → plan_ends tol own k seen l x ≡ step tol (O.SplitLane own at neighbors) l
+          go (Err r) q = refused r (split_unstationed tol next own at neighbors tt i ei k ek (replicate 1024 false) seen refl r q)
+          go (Ok n) q = crosses n q
 
       pub split_done : (y : Ended) → y ≡ group_ends tol own i k neighbors l → y ≡ step tol (O.SplitLane own at neighbors) l
       split_done y e = e ∙ split-ends

@@ -1,4 +1,5 @@
 -- The last steps of a split, from pieces that are listed to the end: what they ask, and that each ends as the next one does. Assumes nothing.
+use Rattle.std.specs.Prelude.{Err}
 use mathlib.Core.Path.{◌≡◌, refl, sym, ap, ◌∙◌, subst}
 use Prim.Native.Nat.{ℕ, ◌+◌, ◌-◌, ◌^◌, ◌≤◌, ◌<◌}
 use native.Mathlib.Omega.{arith}
@@ -11,9 +12,7 @@ use Rattle.rules.specs.Names.{Tolerance, Point2, NoRoom}
 use Rattle.rules.specs.Sound.{next_id}
 use Rattle.tables.specs.View.{Tables}
 use Rattle.order.specs.Order.{column_of}
-use Rattle.report.specs.Report.{counter_behind}
-use Rattle.report.specs.declared.Answer.{Answer}
-use Rattle.report.specs.declared.Answer.TheVariants.{Refused}
+use Rattle.report.specs.Report.{counter_behind, Answer}
 use Rattle.step.specs.Step.{Ended, ended}
 use Rattle.split_lines.specs.Cut.{Measurable, chosen_lines, drawn_pieces, measured}
 use Rattle.split_relay.specs.Relaying.{Cutting, drawn_points}
@@ -28,7 +27,7 @@ use Rattle.edit_split.proofs.Parts.{ends, may_anchor}
 -- ---- room
 
 module _ (d : Drawn) (k : Cutting) (anchored past : List Bool) (t : Tables) (q : Bool) (qe : q ≡ fits_after k anchored t) where
-  pub no_room : (created modified deleted warnings : List ℕ) → q ≡ false → left t created modified deleted warnings (Refused NoRoom) ≡ split_fits d k anchored past t created modified deleted warnings
+  pub no_room : (created modified deleted warnings : List ℕ) → q ≡ false → left t created modified deleted warnings (Err NoRoom) ≡ split_fits d k anchored past t created modified deleted warnings
   unfolding split_fits
   no_room created modified deleted warnings f = rw (sym qe ∙ f)
 

@@ -1,4 +1,5 @@
 -- A split that is planned, from ids and rows to its end: what its steps ask, and that it ends as document 01 says. Assumes nothing.
+use Rattle.std.specs.Prelude.{Option, None, Some, Err}
 use mathlib.Core.Path.{◌≡◌, refl, sym, ap, ◌∙◌, subst}
 use Prim.Native.Nat.{ℕ, ◌+◌, ◌*◌, ◌/◌, ◌^◌, ◌≤◌, ◌<◌, min}
 use native.Mathlib.Omega.{arith}
@@ -10,8 +11,6 @@ use lib.ListN.{length, replicate, drop, length-append, length-map, length-replic
 use Rattle.lists.specs.Every.{all}
 use Rattle.lists.specs.Rows.{over, row_with}
 use Rattle.lists.specs.Select.{each, has}
-use Rattle.lists.specs.declared.Found.{Found}
-use Rattle.lists.specs.declared.Found.TheVariants.{At, Nothing}
 use Rattle.lists.proofs.Booleans.{and-fst, and-snd}
 use Rattle.lists.proofs.Rows.{length-keys, length_over}
 use Rattle.rules.specs.Names.{Tolerance, Point2, EntityKind, EntityRef, LaneKind, BoundaryKind, NoRoom, NoIds}
@@ -26,10 +25,8 @@ use Rattle.apart.specs.Marks.{within}
 use Rattle.apart.proofs.Marks.{counted-facts}
 use Rattle.store.specs.Store.{room_of}
 use Rattle.store.specs.Laid.{laid}
-use Rattle.report.specs.Report.{listed, warned, accepting, counts, counter_behind}
+use Rattle.report.specs.Report.{listed, warned, accepting, counts, counter_behind, Answer, divided}
 use Rattle.report.specs.declared.Counts.{Counts}
-use Rattle.report.specs.declared.Answer.{Answer}
-use Rattle.report.specs.declared.Answer.TheVariants.{Split, Refused}
 use Rattle.report.proofs.Laws.{length_up}
 use Rattle.room.specs.Room.{ids_left, rows_fit, lists_fit}
 use Rattle.step.specs.Step.{Lent, Ended, ended, lists_of, refusing}
@@ -80,13 +77,13 @@ module _ {tol : Tolerance} {own : ℕ} {p : Point2} {seen : List Bool} {cut : Li
       both : {a b c d : ℕ} → a ≡ b → c ≡ d → a + c ≡ b + d
       both e f = rw (e, f)
 
-  pub no-ids : ids_left l.counter (ids + length cut) ≡ false → ended l (Refused NoIds) ≡ split_ends tol own p seen cut stations l
+  pub no-ids : ids_left l.counter (ids + length cut) ≡ false → ended l (Err NoIds) ≡ split_ends tol own p seen cut stations l
   unfolding split_ends
   no-ids f = rw (ids-told, f)
 
   module _ (left : ids_left l.counter (ids + length cut) ≡ true) where
     pub no_rows : (rows_fit 1024 52 (word 0 l.tables.lanes + length cut) l.tables.lanes && rows_fit 4096 5 (word 0 l.tables.boundaries + ids) l.tables.boundaries) ≡ false
-        → ended l (Refused NoRoom) ≡ split_ends tol own p seen cut stations l
+        → ended l (Err NoRoom) ≡ split_ends tol own p seen cut stations l
     unfolding split_ends
     no_rows f = rw (ids-told, left, M.rows-full k ids pieces-many f)
 
@@ -334,7 +331,7 @@ module _ {tol : Tolerance} {counter : ℕ} {t : Tables} {own : ℕ} {stations : 
     answer_is =
         let (r, (e, s)) = L.own-place h in
         ap (answer_of (counts_of ids k (anchored_in k t) (past_in tol.join stations k t) t) k.next) e
-        ∙ (ap (λ n. Split n (k.next + r)) counts-are ∙ sym (ap (accepting (split_of tol counter t own k.point k.seen k.cut stations).changes) (L.second_is h r e)))
+        ∙ (ap (λ n. divided n (k.next + r)) counts-are ∙ sym (ap (accepting (split_of tol counter t own k.point k.seen k.cut stations).changes) (L.second_is h r e)))
 
     -- ---- how it ends
 
@@ -361,9 +358,9 @@ module _ {tol : Tolerance} {counter : ℕ} {t : Tables} {own : ℕ} {stations : 
       counter-is : counter_behind counter (answer_of (counts_of ids k anchored past t) k.next (row_with own k.cut)) ≡ O.counter_after counter E.ids
       counter-is = go (row_with own k.cut) ∙ ap (O.counter_after counter) (sym (L.ids-is h))
         where
-          go : (f : Found) → counter_behind counter (answer_of (counts_of ids k anchored past t) k.next f) ≡ O.counter_after counter (ids + length k.cut)
-          go (At r) = refl
-          go Nothing = refl
+          go : (f : Option ℕ) → counter_behind counter (answer_of (counts_of ids k anchored past t) k.next f) ≡ O.counter_after counter (ids + length k.cut)
+          go (Some r) = refl
+          go None = refl
 
       none-deleted : deleted ≡ listed deleted E.changes.deleted
       none-deleted = nothing deleted ∙ ap (listed deleted) (sym (L.deleted_is h))
@@ -388,7 +385,7 @@ module _ {tol : Tolerance} {counter : ℕ} {t : Tables} {own : ℕ} {stations : 
         where
           last : (q : Bool)
               → closed (cond q (left (tables_cut k d.points anchored past t) (listed created (created_by d.first ids (length k.cut))) (listed modified (modified_in k anchored past t)) deleted (warned warnings (warnings_in k t))
-              (answer_of (counts_of ids k anchored past t) k.next (row_with own k.cut))) (left t created modified deleted warnings (Refused NoRoom))) ≡ cond q (written l E) (refusing l NoRoom)
+              (answer_of (counts_of ids k anchored past t) k.next (row_with own k.cut))) (left t created modified deleted warnings (Err NoRoom))) ≡ cond q (written l E) (refusing l NoRoom)
           last true = rw ids-is at (all_made fit)
           last false = refl
 
@@ -400,7 +397,7 @@ module _ {tol : Tolerance} {counter : ℕ} {t : Tables} {own : ℕ} {stations : 
           enough = ap (λ n. leb (O.counter_after counter n) last_counter) (L.ids-is h) ∙ h.number.left
 
           go : (b : Bool) → fits_after k anchored t ≡ b
-              → closed (cond b (split_made d k anchored past t created modified deleted warnings) (left t created modified deleted warnings (Refused NoRoom)))
+              → closed (cond b (split_made d k anchored past t created modified deleted warnings) (left t created modified deleted warnings (Err NoRoom)))
               ≡ cond (fits_room (room_of t) E.result && O.fits_lists (lists_of l) E.changes) (written l E) (refusing l NoRoom)
           go false e = rw (fits-is ∙ e)
           go true e = rw (fits-is ∙ e, lists_told) (by-lists e (lists_fit (counts_of ids k anchored past t) created modified deleted warnings) refl)

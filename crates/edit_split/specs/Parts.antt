@@ -1,5 +1,6 @@
 -- split_lane in words: how a call ends from step to step, and what each step asks. Nothing that a host calls rests on this page.
-use Rattle.std.specs.Prelude.{◌≡◌, ℕ, ◌+◌, ◌-◌, ◌≤◌, ◌<◌, Bool, true, false, cond, List, Float, length, replicate}
+use Rattle.rules.specs.Edit.{Passed, Res, passed}
+use Rattle.std.specs.Prelude.{◌≡◌, ℕ, ◌+◌, ◌-◌, ◌≤◌, ◌<◌, Bool, true, false, cond, List, Float, length, replicate, Err, Ok}
 use Rattle.lists.specs.Rows.{over}
 use Rattle.rules.specs.Names.{Tolerance, Point2, NoRoom}
 use Rattle.rules.specs.Limits.{max_lanes, max_rules}
@@ -8,14 +9,9 @@ use Rattle.tables.specs.View.{Tables, word}
 use Rattle.tables.specs.Columns.{row_count}
 use Rattle.row_tests.specs.Returned.{searchable}
 use Rattle.lookup.specs.Lookup.{Drawable}
-use Rattle.report.specs.declared.Answer.TheVariants.{Refused}
 use Rattle.step.specs.Step.{Lent, Ended, refusing}
 use Rattle.split_plan.specs.declared.Cut.{Cut}
-use Rattle.split_plan.specs.declared.Crossed.{Crossed}
-use Rattle.split_plan.specs.declared.Crossed.TheVariants as X
-use Rattle.split_plan.specs.declared.Stations.{Stations}
-use Rattle.split_plan.specs.declared.Stations.TheVariants as L
-use Rattle.split_plan.specs.Placing.{all_of, all_pass, cross_told, group_cut, group_marks, group_stations, marked_rows, row_crosses, row_station, stations_told}
+use Rattle.split_plan.specs.Placing.{all_of, all_pass, group_cut, group_marks, group_stations, marked_rows, row_crosses, row_station, stations_told}
 use Rattle.split_pieces.specs.Pieces.{cut_keys, piece_words}
 use Rattle.split_rules.specs.Past.{Marking, anchored_by, past_by}
 use Rattle.split_relay.specs.Relaying.{Cutting}
@@ -26,12 +22,12 @@ use Rattle.split_facts.specs.Splitting.{Numbered, Planned, reach_of, split_ends}
 -- ---- the group
 
 -- the boundaries of the marked lanes cross the cut, or the call is refused
-abbrev pub cross_ends : Tolerance → ℕ → Point2 → List Bool → List ℕ → List Float → Lent → Crossed → Ended
-cross_ends tol own p seen cut stations l (X.Refused r) = refusing l r
-cross_ends tol own p seen cut stations l X.All = split_ends tol own p seen cut stations l
+abbrev pub cross_ends : Tolerance → ℕ → Point2 → List Bool → List ℕ → List Float → Lent → Res Passed → Ended
+cross_ends tol own p seen cut stations l (Err r) = refusing l r
+cross_ends tol own p seen cut stations l (Ok _) = split_ends tol own p seen cut stations l
 
-abbrev pub crossings : Point2 → List Bool → Tables → Crossed
-crossings p seen t = cross_told (all_pass (row_crosses t.coordinates t.boundaries p) (marked_rows seen t.lanes))
+abbrev pub crossings : Point2 → List Bool → Tables → Res Passed
+crossings p seen t = (all_pass (row_crosses t.coordinates t.boundaries p) (marked_rows seen t.lanes))
 
 unfoldable pub station_ends : Tolerance → ℕ → Point2 → List Bool → List ℕ → List Float → Lent → Ended
 station_ends tol own p seen cut stations l = cross_ends tol own p seen cut stations l (crossings p seen l.tables)
@@ -43,11 +39,11 @@ cut_in tol own k seen t = group_cut tol.piece t.coordinates t.lanes t.boundaries
 abbrev pub stations_in : Tolerance → ℕ → Cut → List Bool → Tables → List Float
 stations_in tol own k seen t = group_stations tol.piece t.coordinates t.lanes t.boundaries own k seen
 
-abbrev pub plan_ends : Tolerance → ℕ → Cut → List Bool → Lent → Stations → Ended
-plan_ends tol own k seen l (L.Refused r) = refusing l r
-plan_ends tol own k seen l (L.Of n) = station_ends tol own k.point seen (cut_in tol own k seen l.tables) (stations_in tol own k seen l.tables) l
+abbrev pub plan_ends : Tolerance → ℕ → Cut → List Bool → Lent → Res ℕ → Ended
+plan_ends tol own k seen l (Err r) = refusing l r
+plan_ends tol own k seen l (Ok n) = station_ends tol own k.point seen (cut_in tol own k seen l.tables) (stations_in tol own k seen l.tables) l
 
-abbrev pub planned : Tolerance → ℕ → Cut → List Bool → Tables → Stations
+abbrev pub planned : Tolerance → ℕ → Cut → List Bool → Tables → Res ℕ
 planned tol own k seen t = stations_told (all_of (row_station tol.piece t.coordinates t.boundaries own k) (marked_rows seen t.lanes))
 
 -- the lanes of the group of the one in row i are marked
@@ -62,14 +58,14 @@ group_ends tol own i k neighbors l = let seen = seen_in i neighbors l.tables in 
 pub record MayCross (tol : Tolerance) (counter : ℕ) (t : Tables) (own : ℕ) (p : Point2) (seen : List Bool) (cut : List ℕ) (stations : List Float) : Type 0 where
   pub drawable : Drawable t.lanes t.boundaries t.coordinates
   pub marks : word row_count t.lanes ≤ length seen
-  pub planned : crossings p seen t ≡ X.All → Planned tol counter t own p seen cut stations
+  pub planned : crossings p seen t ≡ Ok passed → Planned tol counter t own p seen cut stations
 
 pub record MayGroup (tol : Tolerance) (counter : ℕ) (t : Tables) (own i : ℕ) (k : Cut) (neighbors : Bool) : Type 0 where
   pub search : searchable t.lanes ≡ true
   pub row : i < word row_count t.lanes
   pub rows : word row_count t.lanes ≤ max_lanes
   pub drawable : Drawable t.lanes t.boundaries t.coordinates
-  pub stationed : (n : ℕ) → planned tol own k (seen_in i neighbors t) t ≡ L.Of n
+  pub stationed : (n : ℕ) → planned tol own k (seen_in i neighbors t) t ≡ Ok n
       → (length (cut_in tol own k (seen_in i neighbors t) t) ≡ n) × ((length (stations_in tol own k (seen_in i neighbors t) t) ≡ n)
       × ((n ≤ max_lanes) × MayCross tol counter t own k.point (seen_in i neighbors t) (cut_in tol own k (seen_in i neighbors t) t) (stations_in tol own k (seen_in i neighbors t) t)))
 
@@ -100,7 +96,7 @@ drawn_by counter own p ids reach end many =
 
 unfoldable pub split_fits : Drawn → Cutting → List Bool → List Bool → Tables → List ℕ → List ℕ → List ℕ → List ℕ → Left
 split_fits d k anchored past t created modified deleted warnings =
-    cond (fits_after k anchored t) (split_made d k anchored past t created modified deleted warnings) (left t created modified deleted warnings (Refused NoRoom))
+    cond (fits_after k anchored t) (split_made d k anchored past t created modified deleted warnings) (left t created modified deleted warnings (Err NoRoom))
 
 -- the anchors of rules that name a cut lane, and past which cuts they lie
 abbrev pub anchored_in : Cutting → Tables → List Bool

@@ -2,6 +2,7 @@
 #![tactic(auto)]
 
 ghost use Rattle.std.specs.Prelude.{◌≡◌, true, ◌+◌, ◌^◌, ◌≤◌, ◌<◌};
+ghost use Rattle.lent.specs.Lent.{map_tables, given, SameSlices, SameLists};
 ghost use Rattle.rules.specs.Sound.{next_id};
 ghost use Rattle.rules.specs.Ops as O;
 ghost use Rattle.tables.specs.Formed.{sound_tables};
@@ -13,10 +14,10 @@ ghost use Rattle.edit_split.specs.Parts as P;
 
 use entities::{Refusal, SplitAt, Tolerance};
 use geometry::Point2;
-use lists::{Found, both};
+use lists::both;
 use report::Answer;
 use split_made::Drawn;
-use split_plan::{Crossed, Cut, Placed, Stations};
+use split_plan::Cut;
 use tables::{BOUNDARY, LANE};
 
 // Rows of lanes, boundaries and rules at most.
@@ -38,14 +39,7 @@ const RULE_MARKS: usize = 32768;
 
 // A split that is decided and measured: made, where the finished map has room.
 fn split_anchored(
-    lanes: &mut [u64],
-    boundaries: &mut [u64],
-    roads: &mut [u64],
-    junctions: &mut [u64],
-    rules: &mut [u64],
-    stop_lines: &mut [u64],
-    crosswalks: &mut [u64],
-    coordinates: &mut [f64],
+    map: &mut lent::Map,
     drawn: Drawn,
     seen: &[bool],
     cut: &[u64],
@@ -55,23 +49,15 @@ fn split_anchored(
     centers: &[u64],
     anchored: &[bool],
     past: &[bool],
-    created: &mut [u64],
-    modified: &mut [u64],
-    deleted: &mut [u64],
-    warnings: &mut [u64],
+    lists: &mut lent::Lists,
 ) -> Answer
-    requires { P.MayMake drawn (D.cutting_of drawn seen.now cut.now marks.now pieces.now lines.now centers.now) anchored.now past.now (S.tables_of lanes.old boundaries.old roads.old junctions.old rules.old stop_lines.old crosswalks.old coordinates.old) }
-    ensures { D.left (S.tables_of lanes.new boundaries.new roads.new junctions.new rules.new stop_lines.new crosswalks.new coordinates.new) created.new modified.new deleted.new warnings.new result ≡ P.split_fits drawn (D.cutting_of drawn seen.now cut.now marks.now pieces.now lines.now centers.now) anchored.now past.now (S.tables_of lanes.old boundaries.old roads.old junctions.old rules.old stop_lines.old crosswalks.old coordinates.old) created.old modified.old deleted.old warnings.old }
+    requires { P.MayMake drawn (D.cutting_of drawn seen.now cut.now marks.now pieces.now lines.now centers.now) anchored.now past.now (map_tables map.old) }
+    ensures made { D.left (map_tables map.new) lists.new.created.now lists.new.modified.now lists.new.deleted.now lists.new.warnings.now result ≡ P.split_fits drawn (D.cutting_of drawn seen.now cut.now marks.now pieces.now lines.now centers.now) anchored.now past.now (map_tables map.old) lists.old.created.now lists.old.modified.now lists.old.deleted.now lists.old.warnings.now }
+    ensures same { SameSlices map.old map.new }
+    ensures same_lists { SameLists lists.old lists.new }
 {
     if !split_made::fits(
-        lanes,
-        boundaries,
-        roads,
-        junctions,
-        rules,
-        stop_lines,
-        crosswalks,
-        coordinates,
+        map.view(),
         drawn,
         seen,
         cut,
@@ -81,44 +67,17 @@ fn split_anchored(
         centers,
         anchored,
     ) {
-        return Answer::Refused(Refusal::NoRoom);
+        return Err(Refusal::NoRoom);
     }
     split_made::make(
-        lanes,
-        boundaries,
-        roads,
-        junctions,
-        rules,
-        stop_lines,
-        crosswalks,
-        coordinates,
-        drawn,
-        seen,
-        cut,
-        marks,
-        pieces,
-        lines,
-        centers,
-        anchored,
-        past,
-        created,
-        modified,
-        deleted,
-        warnings,
+        map, drawn, seen, cut, marks, pieces, lines, centers, anchored, past, lists,
     )
 }
 
 // The same with the anchors of rules, found here.
 fn split_measured(
     join: f64,
-    lanes: &mut [u64],
-    boundaries: &mut [u64],
-    roads: &mut [u64],
-    junctions: &mut [u64],
-    rules: &mut [u64],
-    stop_lines: &mut [u64],
-    crosswalks: &mut [u64],
-    coordinates: &mut [f64],
+    map: &mut lent::Map,
     drawn: Drawn,
     seen: &[bool],
     cut: &[u64],
@@ -127,14 +86,19 @@ fn split_measured(
     pieces: &[u64],
     lines: &[u64],
     centers: &[u64],
-    created: &mut [u64],
-    modified: &mut [u64],
-    deleted: &mut [u64],
-    warnings: &mut [u64],
+    lists: &mut lent::Lists,
 ) -> Answer
-    requires { P.MayAnchor join stations.now drawn (D.cutting_of drawn seen.now cut.now marks.now pieces.now lines.now centers.now) (S.tables_of lanes.old boundaries.old roads.old junctions.old rules.old stop_lines.old crosswalks.old coordinates.old) }
-    ensures { D.left (S.tables_of lanes.new boundaries.new roads.new junctions.new rules.new stop_lines.new crosswalks.new coordinates.new) created.new modified.new deleted.new warnings.new result ≡ P.split_anchored join stations.now drawn (D.cutting_of drawn seen.now cut.now marks.now pieces.now lines.now centers.now) (S.tables_of lanes.old boundaries.old roads.old junctions.old rules.old stop_lines.old crosswalks.old coordinates.old) created.old modified.old deleted.old warnings.old }
+    requires { P.MayAnchor join stations.now drawn (D.cutting_of drawn seen.now cut.now marks.now pieces.now lines.now centers.now) (map_tables map.old) }
+    ensures made { D.left (map_tables map.new) lists.new.created.now lists.new.modified.now lists.new.deleted.now lists.new.warnings.now result ≡ P.split_anchored join stations.now drawn (D.cutting_of drawn seen.now cut.now marks.now pieces.now lines.now centers.now) (map_tables map.old) lists.old.created.now lists.old.modified.now lists.old.deleted.now lists.old.warnings.now }
+    ensures same { SameSlices map.old map.new }
+    ensures same_lists { SameLists lists.old lists.new }
 {
+    let lanes = &mut *map.lanes;
+    let boundaries = &mut *map.boundaries;
+    let rules = &mut *map.rules;
+    let stop_lines = &mut *map.stop_lines;
+    let crosswalks = &mut *map.crosswalks;
+    let coordinates = &mut *map.coordinates;
     let mut anchored = [false; MAX_RULES];
     let mut past = [false; RULE_MARKS];
     split_rules::mark_rules(
@@ -152,27 +116,7 @@ fn split_measured(
         &mut past,
     );
     split_anchored(
-        lanes,
-        boundaries,
-        roads,
-        junctions,
-        rules,
-        stop_lines,
-        crosswalks,
-        coordinates,
-        drawn,
-        seen,
-        cut,
-        marks,
-        pieces,
-        lines,
-        centers,
-        &anchored,
-        &past,
-        created,
-        modified,
-        deleted,
-        warnings,
+        map, drawn, seen, cut, marks, pieces, lines, centers, &anchored, &past, lists,
     )
 }
 
@@ -208,14 +152,7 @@ fn decided(
 fn split_pieced(
     counter: u64,
     tolerance: Tolerance,
-    lanes: &mut [u64],
-    boundaries: &mut [u64],
-    roads: &mut [u64],
-    junctions: &mut [u64],
-    rules: &mut [u64],
-    stop_lines: &mut [u64],
-    crosswalks: &mut [u64],
-    coordinates: &mut [f64],
+    map: &mut lent::Map,
     own: u64,
     point: Point2,
     seen: &[bool],
@@ -226,14 +163,16 @@ fn split_pieced(
     pieces: &[u64],
     many: usize,
     reach: usize,
-    created: &mut [u64],
-    modified: &mut [u64],
-    deleted: &mut [u64],
-    warnings: &mut [u64],
+    lists: &mut lent::Lists,
 ) -> Answer
-    requires { P.Pieced tolerance counter (S.tables_of lanes.old boundaries.old roads.old junctions.old rules.old stop_lines.old crosswalks.old coordinates.old) own point seen.now cut.now stations.now ids marks.now pieces.now many reach }
-    ensures { S.ended (S.lent_of (counter_behind counter result) lanes.new boundaries.new roads.new junctions.new rules.new stop_lines.new crosswalks.new coordinates.new created.new modified.new deleted.new warnings.new) result ≡ K.split_ends tolerance own point seen.now cut.now stations.now (S.lent_of counter lanes.old boundaries.old roads.old junctions.old rules.old stop_lines.old crosswalks.old coordinates.old created.old modified.old deleted.old warnings.old) }
+    requires { P.Pieced tolerance counter (map_tables map.old) own point seen.now cut.now stations.now ids marks.now pieces.now many reach }
+    ensures made { S.ended (given (counter_behind counter result) map.new lists.new) result ≡ K.split_ends tolerance own point seen.now cut.now stations.now (given counter map.old lists.old) }
+    ensures same { SameSlices map.old map.new }
+    ensures same_lists { SameLists lists.old lists.new }
 {
+    let lanes = &mut *map.lanes;
+    let boundaries = &mut *map.boundaries;
+    let coordinates = &mut *map.coordinates;
     let mut lines = [0; PIECE_WORDS];
     let mut centers = [0; CENTER_WORDS];
     let end = split_made::measure(
@@ -250,14 +189,7 @@ fn split_pieced(
     let drawn = decided(counter, own, point, ids, reach, end, many);
     split_measured(
         tolerance.join,
-        lanes,
-        boundaries,
-        roads,
-        junctions,
-        rules,
-        stop_lines,
-        crosswalks,
-        coordinates,
+        map,
         drawn,
         seen,
         cut,
@@ -266,10 +198,7 @@ fn split_pieced(
         pieces,
         &lines,
         &centers,
-        created,
-        modified,
-        deleted,
-        warnings,
+        lists,
     )
 }
 
@@ -277,14 +206,7 @@ fn split_pieced(
 fn split_numbered(
     counter: u64,
     tolerance: Tolerance,
-    lanes: &mut [u64],
-    boundaries: &mut [u64],
-    roads: &mut [u64],
-    junctions: &mut [u64],
-    rules: &mut [u64],
-    stop_lines: &mut [u64],
-    crosswalks: &mut [u64],
-    coordinates: &mut [f64],
+    map: &mut lent::Map,
     own: u64,
     point: Point2,
     seen: &[bool],
@@ -292,43 +214,24 @@ fn split_numbered(
     stations: &[f64],
     ids: usize,
     marks: &[bool],
-    created: &mut [u64],
-    modified: &mut [u64],
-    deleted: &mut [u64],
-    warnings: &mut [u64],
+    lists: &mut lent::Lists,
 ) -> Answer
-    requires { K.Numbered tolerance counter (S.tables_of lanes.old boundaries.old roads.old junctions.old rules.old stop_lines.old crosswalks.old coordinates.old) own point seen.now cut.now stations.now ids marks.now }
-    ensures { S.ended (S.lent_of (counter_behind counter result) lanes.new boundaries.new roads.new junctions.new rules.new stop_lines.new crosswalks.new coordinates.new created.new modified.new deleted.new warnings.new) result ≡ K.split_ends tolerance own point seen.now cut.now stations.now (S.lent_of counter lanes.old boundaries.old roads.old junctions.old rules.old stop_lines.old crosswalks.old coordinates.old created.old modified.old deleted.old warnings.old) }
+    requires { K.Numbered tolerance counter (map_tables map.old) own point seen.now cut.now stations.now ids marks.now }
+    ensures made { S.ended (given (counter_behind counter result) map.new lists.new) result ≡ K.split_ends tolerance own point seen.now cut.now stations.now (given counter map.old lists.old) }
+    ensures same { SameSlices map.old map.new }
+    ensures same_lists { SameLists lists.old lists.new }
 {
+    let lanes = &mut *map.lanes;
+    let boundaries = &mut *map.boundaries;
+    let stop_lines = &mut *map.stop_lines;
+    let crosswalks = &mut *map.crosswalks;
     let mut pieces = [0; PIECE_WORDS];
     let first = room::next_id(counter);
     let many = split_pieces::list_pieces(lanes, seen, boundaries, marks, first, &mut pieces);
     let reach = reach::lines_reach(lanes, boundaries, stop_lines, crosswalks);
     split_pieced(
-        counter,
-        tolerance,
-        lanes,
-        boundaries,
-        roads,
-        junctions,
-        rules,
-        stop_lines,
-        crosswalks,
-        coordinates,
-        own,
-        point,
-        seen,
-        cut,
-        stations,
-        ids,
-        marks,
-        &pieces,
-        many,
-        reach,
-        created,
-        modified,
-        deleted,
-        warnings,
+        counter, tolerance, map, own, point, seen, cut, stations, ids, marks, &pieces, many, reach,
+        lists,
     )
 }
 
@@ -338,32 +241,26 @@ fn split_numbered(
 fn split_planned(
     counter: u64,
     tolerance: Tolerance,
-    lanes: &mut [u64],
-    boundaries: &mut [u64],
-    roads: &mut [u64],
-    junctions: &mut [u64],
-    rules: &mut [u64],
-    stop_lines: &mut [u64],
-    crosswalks: &mut [u64],
-    coordinates: &mut [f64],
+    map: &mut lent::Map,
     own: u64,
     point: Point2,
     seen: &[bool],
     cut: &[u64],
     stations: &[f64],
-    created: &mut [u64],
-    modified: &mut [u64],
-    deleted: &mut [u64],
-    warnings: &mut [u64],
+    lists: &mut lent::Lists,
 ) -> Answer
-    requires { K.Planned tolerance counter (S.tables_of lanes.old boundaries.old roads.old junctions.old rules.old stop_lines.old crosswalks.old coordinates.old) own point seen.now cut.now stations.now }
-    ensures { S.ended (S.lent_of (counter_behind counter result) lanes.new boundaries.new roads.new junctions.new rules.new stop_lines.new crosswalks.new coordinates.new created.new modified.new deleted.new warnings.new) result ≡ K.split_ends tolerance own point seen.now cut.now stations.now (S.lent_of counter lanes.old boundaries.old roads.old junctions.old rules.old stop_lines.old crosswalks.old coordinates.old created.old modified.old deleted.old warnings.old) }
+    requires { K.Planned tolerance counter (map_tables map.old) own point seen.now cut.now stations.now }
+    ensures made { S.ended (given (counter_behind counter result) map.new lists.new) result ≡ K.split_ends tolerance own point seen.now cut.now stations.now (given counter map.old lists.old) }
+    ensures same { SameSlices map.old map.new }
+    ensures same_lists { SameLists lists.old lists.new }
 {
+    let lanes = &mut *map.lanes;
+    let boundaries = &mut *map.boundaries;
     let mut marks = [false; MAX_BOUNDARIES];
     split_pieces::mark_cut(lanes, seen, boundaries, &mut marks);
     let ids = split_pieces::count_ids(lanes, seen, boundaries, &marks);
     if !room::ids_left(counter, ids + cut.len()) {
-        return Answer::Refused(Refusal::NoIds);
+        return Err(Refusal::NoIds);
     }
     let n = lanes[0] as usize + cut.len();
     let b = boundaries[0] as usize + ids;
@@ -372,30 +269,10 @@ fn split_planned(
         lanes_fit,
         room::rows_fit(MAX_BOUNDARIES, BOUNDARY, b, boundaries),
     ) {
-        return Answer::Refused(Refusal::NoRoom);
+        return Err(Refusal::NoRoom);
     }
     split_numbered(
-        counter,
-        tolerance,
-        lanes,
-        boundaries,
-        roads,
-        junctions,
-        rules,
-        stop_lines,
-        crosswalks,
-        coordinates,
-        own,
-        point,
-        seen,
-        cut,
-        stations,
-        ids,
-        &marks,
-        created,
-        modified,
-        deleted,
-        warnings,
+        counter, tolerance, map, own, point, seen, cut, stations, ids, &marks, lists,
     )
 }
 
@@ -405,83 +282,52 @@ fn split_planned(
 fn split_stationed(
     counter: u64,
     tolerance: Tolerance,
-    lanes: &mut [u64],
-    boundaries: &mut [u64],
-    roads: &mut [u64],
-    junctions: &mut [u64],
-    rules: &mut [u64],
-    stop_lines: &mut [u64],
-    crosswalks: &mut [u64],
-    coordinates: &mut [f64],
+    map: &mut lent::Map,
     own: u64,
     point: Point2,
     seen: &[bool],
     cut: &[u64],
     stations: &[f64],
-    created: &mut [u64],
-    modified: &mut [u64],
-    deleted: &mut [u64],
-    warnings: &mut [u64],
+    lists: &mut lent::Lists,
 ) -> Answer
-    requires { P.MayCross tolerance counter (S.tables_of lanes.old boundaries.old roads.old junctions.old rules.old stop_lines.old crosswalks.old coordinates.old) own point seen.now cut.now stations.now }
-    ensures { S.ended (S.lent_of (counter_behind counter result) lanes.new boundaries.new roads.new junctions.new rules.new stop_lines.new crosswalks.new coordinates.new created.new modified.new deleted.new warnings.new) result ≡ P.station_ends tolerance own point seen.now cut.now stations.now (S.lent_of counter lanes.old boundaries.old roads.old junctions.old rules.old stop_lines.old crosswalks.old coordinates.old created.old modified.old deleted.old warnings.old) }
+    requires { P.MayCross tolerance counter (map_tables map.old) own point seen.now cut.now stations.now }
+    ensures made { S.ended (given (counter_behind counter result) map.new lists.new) result ≡ P.station_ends tolerance own point seen.now cut.now stations.now (given counter map.old lists.old) }
+    ensures same { SameSlices map.old map.new }
+    ensures same_lists { SameLists lists.old lists.new }
 {
-    let crossed = split_cross::cross_all(lanes, boundaries, coordinates, point, seen);
-    match crossed {
-        Crossed::Refused(refusal) => Answer::Refused(refusal),
-        Crossed::All => split_planned(
-            counter,
-            tolerance,
-            lanes,
-            boundaries,
-            roads,
-            junctions,
-            rules,
-            stop_lines,
-            crosswalks,
-            coordinates,
-            own,
-            point,
-            seen,
-            cut,
-            stations,
-            created,
-            modified,
-            deleted,
-            warnings,
-        ),
-    }
+    let lanes = &mut *map.lanes;
+    let boundaries = &mut *map.boundaries;
+    let coordinates = &mut *map.coordinates;
+    split_cross::cross_all(lanes, boundaries, coordinates, point, seen)?;
+    split_planned(
+        counter, tolerance, map, own, point, seen, cut, stations, lists,
+    )
 }
 
 // The group of the lane in row i, each lane at its own station.
 fn split_group(
     counter: u64,
     tolerance: Tolerance,
-    lanes: &mut [u64],
-    boundaries: &mut [u64],
-    roads: &mut [u64],
-    junctions: &mut [u64],
-    rules: &mut [u64],
-    stop_lines: &mut [u64],
-    crosswalks: &mut [u64],
-    coordinates: &mut [f64],
+    map: &mut lent::Map,
     own: u64,
     i: usize,
     place: Cut,
     neighbors: bool,
-    created: &mut [u64],
-    modified: &mut [u64],
-    deleted: &mut [u64],
-    warnings: &mut [u64],
+    lists: &mut lent::Lists,
 ) -> Answer
-    requires { P.MayGroup tolerance counter (S.tables_of lanes.old boundaries.old roads.old junctions.old rules.old stop_lines.old crosswalks.old coordinates.old) own i place neighbors }
-    ensures { S.ended (S.lent_of (counter_behind counter result) lanes.new boundaries.new roads.new junctions.new rules.new stop_lines.new crosswalks.new coordinates.new created.new modified.new deleted.new warnings.new) result ≡ P.group_ends tolerance own i place neighbors (S.lent_of counter lanes.old boundaries.old roads.old junctions.old rules.old stop_lines.old crosswalks.old coordinates.old created.old modified.old deleted.old warnings.old) }
+    requires { P.MayGroup tolerance counter (map_tables map.old) own i place neighbors }
+    ensures made { S.ended (given (counter_behind counter result) map.new lists.new) result ≡ P.group_ends tolerance own i place neighbors (given counter map.old lists.old) }
+    ensures same { SameSlices map.old map.new }
+    ensures same_lists { SameLists lists.old lists.new }
 {
+    let lanes = &mut *map.lanes;
+    let boundaries = &mut *map.boundaries;
+    let coordinates = &mut *map.coordinates;
     let mut seen = [false; MAX_LANES];
     let mut ids = [0; MAX_LANES];
     let mut stations = [0.0; MAX_LANES];
     split_stations::choose(lanes, i, neighbors, &mut seen);
-    let planned = split_stations::plan_lanes(
+    let k = split_stations::plan_lanes(
         tolerance.piece,
         own,
         lanes,
@@ -491,82 +337,42 @@ fn split_group(
         &seen,
         &mut ids,
         &mut stations,
-    );
-    match planned {
-        Stations::Refused(refusal) => Answer::Refused(refusal),
-        Stations::Of(k) => split_stationed(
-            counter,
-            tolerance,
-            lanes,
-            boundaries,
-            roads,
-            junctions,
-            rules,
-            stop_lines,
-            crosswalks,
-            coordinates,
-            own,
-            place.point,
-            &seen,
-            &ids[..k],
-            &stations[..k],
-            created,
-            modified,
-            deleted,
-            warnings,
-        ),
-    }
+    )?;
+    split_stationed(
+        counter,
+        tolerance,
+        map,
+        own,
+        place.point,
+        &seen,
+        &ids[..k],
+        &stations[..k],
+        lists,
+    )
 }
 
 // Map::split_lane: the lane, or with its neighbours everything reached through neighbour slots, cut in two. The map is sound.
 pub fn split_lane(
     counter: u64,
     tolerance: Tolerance,
-    lanes: &mut [u64],
-    boundaries: &mut [u64],
-    roads: &mut [u64],
-    junctions: &mut [u64],
-    rules: &mut [u64],
-    stop_lines: &mut [u64],
-    crosswalks: &mut [u64],
-    coordinates: &mut [f64],
+    map: &mut lent::Map,
     lane: u64,
     at: SplitAt,
     neighbors: bool,
-    created: &mut [u64],
-    modified: &mut [u64],
-    deleted: &mut [u64],
-    warnings: &mut [u64],
+    lists: &mut lent::Lists,
 ) -> Answer
-    requires { sound_tables counter (S.tables_of lanes.old boundaries.old roads.old junctions.old rules.old stop_lines.old crosswalks.old coordinates.old) ≡ true }
-    ensures { S.ended (S.lent_of (counter_behind counter result) lanes.new boundaries.new roads.new junctions.new rules.new stop_lines.new crosswalks.new coordinates.new created.new modified.new deleted.new warnings.new) result ≡ S.step tolerance (O.SplitLane lane at neighbors) (S.lent_of counter lanes.old boundaries.old roads.old junctions.old rules.old stop_lines.old crosswalks.old coordinates.old created.old modified.old deleted.old warnings.old) }
+    requires { sound_tables counter (map_tables map.old) ≡ true }
+    ensures made { S.ended (given (counter_behind counter result) map.new lists.new) result ≡ S.step tolerance (O.SplitLane lane at neighbors) (given counter map.old lists.old) }
+    ensures same { SameSlices map.old map.new }
+    ensures same_lists { SameLists lists.old lists.new }
 {
+    let lanes = &mut *map.lanes;
+    let boundaries = &mut *map.boundaries;
+    let coordinates = &mut *map.coordinates;
     let found = lookup::lane(lanes, lane);
-    let Found::At(i) = found else {
-        return Answer::Refused(Refusal::LaneAbsent(lane));
+    let Some(i) = found else {
+        return Err(Refusal::LaneAbsent(lane));
     };
-    let placed = split_plan::place_cut(tolerance.piece, lanes, i, boundaries, coordinates, at);
-    match placed {
-        Placed::Refused(refusal) => Answer::Refused(refusal),
-        Placed::At(place) => split_group(
-            counter,
-            tolerance,
-            lanes,
-            boundaries,
-            roads,
-            junctions,
-            rules,
-            stop_lines,
-            crosswalks,
-            coordinates,
-            lane,
-            i,
-            place,
-            neighbors,
-            created,
-            modified,
-            deleted,
-            warnings,
-        ),
-    }
+    let place = split_plan::place_cut(tolerance.piece, lanes, i, boundaries, coordinates, at)?;
+    split_group(counter, tolerance, map, lane, i, place, neighbors, lists)
 }

@@ -1,7 +1,6 @@
 -- The records of a map, in the definitions alone: document 01, "The map". Kinds, handles and marks are numbers, ids are numbers below 2 ^ 64.
 -- "A line is compared by its points, not by where they are stored": here a line is the list of its points.
-use Rattle.std.specs.Prelude.{Bool, List, ℕ}
-use Rattle.std.proofs.Math.Option.{Option}
+use Rattle.std.specs.Prelude.{Bool, List, ℕ, Option}
 use Rattle.geometry.specs.declared.Point3.{Point3}
 use Rattle.entities.specs.Types.{BoundaryRef, Neighbor, EntityRef, Severity, IssueCode}
 

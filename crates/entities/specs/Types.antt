@@ -1,6 +1,5 @@
 -- The types that go by value (id.rs, entities.rs, topology.rs, diagnostics.rs), with the numbers of document 01.
-use Rattle.std.specs.Prelude.{◌≡◌, refl, false, ℕ, Float}
-use Rattle.std.proofs.Math.Option.{Option, none, some}
+use Rattle.std.specs.Prelude.{◌≡◌, refl, false, ℕ, Float, Option, None, Some}
 use Rattle.std.specs.Float.{binary64}
 use Rattle.std.specs.Float.Ieee.{of_bits, round}
 use Rattle.entities.specs.declared.Side.{Side}
@@ -9,14 +8,10 @@ pub use Rattle.entities.specs.declared.BoundaryRef.{BoundaryRef}
 use Rattle.entities.specs.declared.NeighborDirection.{NeighborDirection}
 use Rattle.entities.specs.declared.NeighborDirection.TheVariants.{Same, Opposite}
 pub use Rattle.entities.specs.declared.Neighbor.{Neighbor}
-use Rattle.entities.specs.declared.OptionNeighbor.{OptionNeighbor}
-use Rattle.entities.specs.declared.OptionNeighbor.TheVariants.{None as NoNeighbor, Some as ANeighbor}
 use Rattle.entities.specs.declared.Tolerance.{Tolerance}
 use Rattle.entities.specs.declared.EntityKind.{EntityKind}
 use Rattle.entities.specs.declared.EntityKind.TheVariants.{Lane as LaneKind, Boundary as BoundaryKind, Road as RoadKind, Junction as JunctionKind, StopLine as StopLineKind, TrafficSignal as SignalKind, Crosswalk as CrosswalkKind, RegulatoryElement as RuleKind}
 pub use Rattle.entities.specs.declared.EntityRef.{EntityRef}
-use Rattle.entities.specs.declared.OptionEntity.{OptionEntity}
-use Rattle.entities.specs.declared.OptionEntity.TheVariants.{None as NoEntity, Some as AnEntity}
 pub use Rattle.entities.specs.declared.Severity.{Severity}
 use Rattle.entities.specs.declared.Severity.TheVariants.{Info, Warning, Error}
 pub use Rattle.entities.specs.declared.IssueCode.{IssueCode}
@@ -38,11 +33,6 @@ same l = record { lane = l; direction = Same }
 
 abbrev pub opposing : ℕ → Neighbor
 opposing l = record { lane = l; direction = Opposite }
-
--- what a slot holds, or a command puts there
-abbrev pub neighbor_option : OptionNeighbor → Option Neighbor
-neighbor_option NoNeighbor = none
-neighbor_option (ANeighbor n) = some n
 
 -- Document 01: "Same-direction neighbours sit on opposite sides, opposite-direction neighbours on the same side."
 abbrev pub reciprocal_side : Side → NeighborDirection → Side
@@ -123,22 +113,22 @@ abbrev pub boundary_entity : ℕ → EntityRef
 boundary_entity b = record { kind = BoundaryKind; id = b }
 
 -- an entity that is named, as it goes by value
-abbrev pub a_lane : ℕ → OptionEntity
-a_lane l = AnEntity (lane_entity l)
+abbrev pub a_lane : ℕ → Option EntityRef
+a_lane l = Some (lane_entity l)
 
-abbrev pub a_boundary : ℕ → OptionEntity
-a_boundary b = AnEntity (boundary_entity b)
+abbrev pub a_boundary : ℕ → Option EntityRef
+a_boundary b = Some (boundary_entity b)
 
 -- "The entity is the absent one for 1 and 6, the lane that fails for 3 and 7, the first lane named for 4 and 5, the boundary for 8", "none for 2, 9, 10, 11".
-abbrev pub refusal_entity : Refusal → OptionEntity
+abbrev pub refusal_entity : Refusal → Option EntityRef
 refusal_entity (LaneAbsent l) = a_lane l
-refusal_entity FractionOutside = NoEntity
+refusal_entity FractionOutside = None
 refusal_entity (PositionOutside l) = a_lane l
 refusal_entity (OwnPartner l) = a_lane l
 refusal_entity (NotMergeable l) = a_lane l
 refusal_entity (BoundaryAbsent b) = a_boundary b
 refusal_entity (NoUsableLine l) = a_lane l
 refusal_entity (NotCrossing b) = a_boundary b
-refusal_entity Unsound = NoEntity
-refusal_entity NoRoom = NoEntity
-refusal_entity NoIds = NoEntity
+refusal_entity Unsound = None
+refusal_entity NoRoom = None
+refusal_entity NoIds = None

@@ -8,7 +8,7 @@ ghost use Rattle.entities.specs.Types as T;
 // ---- entities.rs
 
 // Left or right, along the direction of travel.
-#[derive(Clone, Copy)]
+#[derive(Clone, Copy, PartialEq, Eq)]
 pub enum Side {
     Left,
     Right,
@@ -45,13 +45,13 @@ impl BoundaryRef {
 
 // ---- topology.rs
 
-#[derive(Clone, Copy)]
+#[derive(Clone, Copy, PartialEq, Eq)]
 pub enum NeighborDirection {
     Same,
     Opposite,
 }
 
-#[derive(Clone, Copy)]
+#[derive(Clone, Copy, PartialEq, Eq)]
 pub struct Neighbor {
     pub lane: u64,
     pub direction: NeighborDirection,
@@ -75,13 +75,6 @@ impl Neighbor {
             direction: NeighborDirection::Opposite,
         }
     }
-}
-
-// What a neighbour slot holds.
-#[derive(Clone, Copy)]
-pub enum OptionNeighbor {
-    None,
-    Some(Neighbor),
 }
 
 // On which side of the neighbour the lane stands, whose neighbour on `side` it is.
@@ -128,7 +121,7 @@ pub enum Command {
     SetNeighbor {
         lane: u64,
         side: Side,
-        neighbor: OptionNeighbor,
+        neighbor: Option<Neighbor>,
     },
     RemoveLane {
         lane: u64,
@@ -188,12 +181,12 @@ pub enum EntityKind {
     RegulatoryElement,
 }
 
-impl EntityKind {
-    // The kind's place in document 01's order.
-    pub fn number(self) -> u64
-        ensures { result ≡ T.kind_number self }
-    {
-        match self {
+// The kind's place in document 01's order.
+impl From<EntityKind> for u64 {
+    ghost from_gives = { λ kind number. number ≡ T.kind_number kind };
+
+    fn from(kind: EntityKind) -> u64 {
+        match kind {
             EntityKind::Lane => 0,
             EntityKind::Boundary => 1,
             EntityKind::Road => 2,
@@ -213,12 +206,6 @@ pub struct EntityRef {
     pub id: u64,
 }
 
-#[derive(Clone, Copy)]
-pub enum OptionEntity {
-    None,
-    Some(EntityRef),
-}
-
 // ---- diagnostics.rs
 
 #[derive(Clone, Copy)]
@@ -228,11 +215,11 @@ pub enum Severity {
     Error,
 }
 
-impl Severity {
-    pub fn number(self) -> u64
-        ensures { result ≡ T.severity_number self }
-    {
-        match self {
+impl From<Severity> for u64 {
+    ghost from_gives = { λ severity number. number ≡ T.severity_number severity };
+
+    fn from(severity: Severity) -> u64 {
+        match severity {
             Severity::Info => 0,
             Severity::Warning => 1,
             Severity::Error => 2,
@@ -251,12 +238,12 @@ pub enum IssueCode {
     AttributeConflict,
 }
 
-impl IssueCode {
-    // The code's place in the module `codes` of diagnostics.rs, from 0.
-    pub fn number(self) -> u64
-        ensures { result ≡ T.code_number self }
-    {
-        match self {
+// The code's place in the module `codes` of diagnostics.rs, from 0.
+impl From<IssueCode> for u64 {
+    ghost from_gives = { λ code number. number ≡ T.code_number code };
+
+    fn from(code: IssueCode) -> u64 {
+        match code {
             IssueCode::NoOp => 1,
             IssueCode::GeometricGap => 2,
             IssueCode::BoundaryUnshared => 3,
@@ -284,11 +271,11 @@ pub enum Refusal {
     NoIds,
 }
 
-impl Refusal {
-    pub fn number(self) -> u64
-        ensures { result ≡ T.refusal_number self }
-    {
-        match self {
+impl From<Refusal> for u64 {
+    ghost from_gives = { λ refusal number. number ≡ T.refusal_number refusal };
+
+    fn from(refusal: Refusal) -> u64 {
+        match refusal {
             Refusal::LaneAbsent(_) => 1,
             Refusal::FractionOutside => 2,
             Refusal::PositionOutside(_) => 3,
@@ -302,40 +289,42 @@ impl Refusal {
             Refusal::NoIds => 11,
         }
     }
+}
 
+impl Refusal {
     // The entity that a refusal names.
-    pub fn entity(self) -> OptionEntity
+    pub fn entity(self) -> Option<EntityRef>
         ensures { result ≡ T.refusal_entity self }
     {
         match self {
             Refusal::LaneAbsent(l) => lane_entity(l),
-            Refusal::FractionOutside => OptionEntity::None,
+            Refusal::FractionOutside => None,
             Refusal::PositionOutside(l) => lane_entity(l),
             Refusal::OwnPartner(l) => lane_entity(l),
             Refusal::NotMergeable(l) => lane_entity(l),
             Refusal::BoundaryAbsent(b) => boundary_entity(b),
             Refusal::NoUsableLine(l) => lane_entity(l),
             Refusal::NotCrossing(b) => boundary_entity(b),
-            Refusal::Unsound => OptionEntity::None,
-            Refusal::NoRoom => OptionEntity::None,
-            Refusal::NoIds => OptionEntity::None,
+            Refusal::Unsound => None,
+            Refusal::NoRoom => None,
+            Refusal::NoIds => None,
         }
     }
 }
 
-fn lane_entity(id: u64) -> OptionEntity
+fn lane_entity(id: u64) -> Option<EntityRef>
     ensures { result ≡ T.a_lane id }
 {
-    OptionEntity::Some(EntityRef {
+    Some(EntityRef {
         kind: EntityKind::Lane,
         id,
     })
 }
 
-fn boundary_entity(id: u64) -> OptionEntity
+fn boundary_entity(id: u64) -> Option<EntityRef>
     ensures { result ≡ T.a_boundary id }
 {
-    OptionEntity::Some(EntityRef {
+    Some(EntityRef {
         kind: EntityKind::Boundary,
         id,
     })

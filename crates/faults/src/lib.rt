@@ -1,36 +1,25 @@
 // Which clause of soundness fails first, and at which row. A host asks after a refusal, so nothing here is in a hurry.
 #![tactic(auto)]
 
-ghost use Rattle.std.specs.Prelude.{◌≡◌, true, cond, [], ◌∷◌, ◌≤◌, ◌<◌, ltb};
+ghost use Rattle.std.specs.Prelude.{◌≡◌, true, cond, [], ◌∷◌, ◌≤◌, ◌<◌, ltb, Some, None};
 ghost use Rattle.tables.specs.View.{rows, tables_of};
 ghost use Rattle.tables.specs.Formed.{counted, all_clear};
 ghost use Rattle.row_tests.specs.Returned.{searchable};
+ghost use Rattle.row_faults.specs.declared.Clause.TheVariants.{Counts, Points};
+ghost use Rattle.row_faults.specs.declared.Table.TheVariants.{Lane, Coordinate};
 ghost use Rattle.row_faults.specs.Passes as R;
 ghost use Rattle.row_returns.specs.Returns.{named_back};
 ghost use Rattle.apart.specs.Marks.{takeable, line_spans};
 ghost use Rattle.soundness.specs.Parts.{all_counted};
 ghost use Rattle.faults.specs.Faults as F;
 
-use row_faults::{
-    BOUNDARY_TABLE, CROSSWALK_TABLE, JUNCTION_TABLE, KINDS, LANE_TABLE, LINES, LINKS, MARKS, NAMES,
-    REPEATS, ROAD_TABLE, RULE_TABLE, STOP_LINE_TABLE,
-};
-use row_returns::{NEIGHBORS, RETURNS};
+use row_faults::{Clause, Table};
 use tables::{
     BOUNDARIES, BOUNDARY, CROSSWALK, CROSSWALKS, JUNCTION, JUNCTIONS, LANE, LANES, ROAD, ROADS,
     RULE, RULES, STOP_LINE, STOP_LINES,
 };
 
-// The clauses that are not asked of rows by themselves, and the coordinates as a table.
-const COUNTS: u64 = 1;
-
-const ASCENDING: u64 = 4;
-
-const POINTS: u64 = 8;
-
-const COORDINATE_TABLE: u64 = 7;
-
-// A clause, a table and a row, counted from 0; a clause of 0 is no fault.
+// A clause and a table by their numbers, as C reads them, and a row, counted from 0; a clause of 0 is no fault.
 #[repr(C)]
 #[derive(Clone, Copy)]
 pub struct Fault {
@@ -39,44 +28,30 @@ pub struct Fault {
     pub row: u64,
 }
 
-// The first of two faults, told in their order.
-fn earlier(a: Fault, b: Fault) -> Fault
-    ensures { result ≡ F.earlier a b }
-{
-    if a.clause == 0 {
-        return b;
-    }
-    a
-}
-
 // A fault at a row, where that is one of the n rows.
-fn told(clause: u64, table: u64, row: usize, n: usize) -> Fault
-    ensures { result ≡ cond (ltb row n) (record { clause = clause; table = table; row = row }) F.no_fault }
+fn told(clause: Clause, table: Table, row: usize, n: usize) -> Option<Fault>
+    ensures { result ≡ cond (ltb row n) (Some (F.fault_at clause table row)) None }
 {
     if row < n {
-        return Fault {
-            clause,
-            table,
+        return Some(Fault {
+            clause: u64::from(clause),
+            table: u64::from(table),
             row: row as u64,
-        };
+        });
     }
-    Fault {
-        clause: 0,
-        table: 0,
-        row: 0,
-    }
+    None
 }
 
 // ---- counts
 
-fn count_fault(table: u64, t: &[u64], limit: u64, row: usize) -> Fault
+fn count_fault(table: Table, t: &[u64], limit: u64, row: usize) -> Option<Fault>
     requires { (limit ≤ 4096) × (row ≤ 512) }
-    ensures { result ≡ F.fault_in 1 table (counted limit row t.now ∷ []) }
+    ensures { result ≡ F.fault_in Counts table (counted limit row t.now ∷ []) }
 {
     if row_tests::sound::counted(t, limit, row) {
-        return told(COUNTS, table, 1, 1);
+        return None;
     }
-    told(COUNTS, table, 0, 1)
+    told(Clause::Counts, table, 0, 1)
 }
 
 fn counts_fault(
@@ -88,41 +63,29 @@ fn counts_fault(
     stop_lines: &[u64],
     crosswalks: &[u64],
     coordinates: &[f64],
-) -> Fault
+) -> Option<Fault>
     ensures { result ≡ F.counts_fault (tables_of lanes.now boundaries.now roads.now junctions.now rules.now stop_lines.now crosswalks.now coordinates.now) }
 {
-    earlier(
-        count_fault(LANE_TABLE, lanes, LANES, LANE),
-        earlier(
-            count_fault(BOUNDARY_TABLE, boundaries, BOUNDARIES, BOUNDARY),
-            earlier(
-                count_fault(ROAD_TABLE, roads, ROADS, ROAD),
-                earlier(
-                    count_fault(JUNCTION_TABLE, junctions, JUNCTIONS, JUNCTION),
-                    earlier(
-                        count_fault(RULE_TABLE, rules, RULES, RULE),
-                        earlier(
-                            count_fault(STOP_LINE_TABLE, stop_lines, STOP_LINES, STOP_LINE),
-                            count_fault(CROSSWALK_TABLE, crosswalks, CROSSWALKS, CROSSWALK),
-                        ),
-                    ),
-                ),
-            ),
-        ),
-    )
+    count_fault(Table::Lane, lanes, LANES, LANE)
+        .or(count_fault(Table::Boundary, boundaries, BOUNDARIES, BOUNDARY))
+        .or(count_fault(Table::Road, roads, ROADS, ROAD))
+        .or(count_fault(Table::Junction, junctions, JUNCTIONS, JUNCTION))
+        .or(count_fault(Table::Rule, rules, RULES, RULE))
+        .or(count_fault(Table::StopLine, stop_lines, STOP_LINES, STOP_LINE))
+        .or(count_fault(Table::Crosswalk, crosswalks, CROSSWALKS, CROSSWALK))
 }
 
 // ---- rows and ids
 
 fn row_fault(
-    clause: u64,
-    table: u64,
+    clause: Clause,
+    table: Table,
     t: &[u64],
     limit: u64,
     row: usize,
     most: u64,
     coordinates: &[f64],
-) -> Fault
+) -> Option<Fault>
     requires { (row ≡ R.row_words table) × (counted limit row t.now ≡ true) }
     ensures { result ≡ F.fault_in clause table (rows row (R.row_passes clause table most coordinates.now) t.now) }
 {
@@ -132,7 +95,7 @@ fn row_fault(
 
 // One clause, of the rows of the last four tables.
 fn later_rows_fault(
-    clause: u64,
+    clause: Clause,
     most: u64,
     lanes: &[u64],
     boundaries: &[u64],
@@ -142,49 +105,43 @@ fn later_rows_fault(
     stop_lines: &[u64],
     crosswalks: &[u64],
     coordinates: &[f64],
-) -> Fault
+) -> Option<Fault>
     requires { all_counted (tables_of lanes.now boundaries.now roads.now junctions.now rules.now stop_lines.now crosswalks.now coordinates.now) ≡ true }
     ensures { result ≡ F.later_rows_fault clause most (tables_of lanes.now boundaries.now roads.now junctions.now rules.now stop_lines.now crosswalks.now coordinates.now) }
 {
-    earlier(
-        row_fault(
-            clause,
-            JUNCTION_TABLE,
-            junctions,
-            JUNCTIONS,
-            JUNCTION,
-            most,
-            coordinates,
-        ),
-        earlier(
-            row_fault(clause, RULE_TABLE, rules, RULES, RULE, most, coordinates),
-            earlier(
-                row_fault(
-                    clause,
-                    STOP_LINE_TABLE,
-                    stop_lines,
-                    STOP_LINES,
-                    STOP_LINE,
-                    most,
-                    coordinates,
-                ),
-                row_fault(
-                    clause,
-                    CROSSWALK_TABLE,
-                    crosswalks,
-                    CROSSWALKS,
-                    CROSSWALK,
-                    most,
-                    coordinates,
-                ),
-            ),
-        ),
+    row_fault(
+        clause,
+        Table::Junction,
+        junctions,
+        JUNCTIONS,
+        JUNCTION,
+        most,
+        coordinates,
     )
+    .or(row_fault(clause, Table::Rule, rules, RULES, RULE, most, coordinates))
+    .or(row_fault(
+        clause,
+        Table::StopLine,
+        stop_lines,
+        STOP_LINES,
+        STOP_LINE,
+        most,
+        coordinates,
+    ))
+    .or(row_fault(
+        clause,
+        Table::Crosswalk,
+        crosswalks,
+        CROSSWALKS,
+        CROSSWALK,
+        most,
+        coordinates,
+    ))
 }
 
 // One clause, of the rows of every table.
 fn rows_fault(
-    clause: u64,
+    clause: Clause,
     most: u64,
     lanes: &[u64],
     boundaries: &[u64],
@@ -194,7 +151,7 @@ fn rows_fault(
     stop_lines: &[u64],
     crosswalks: &[u64],
     coordinates: &[f64],
-) -> Fault
+) -> Option<Fault>
     requires { all_counted (tables_of lanes.now boundaries.now roads.now junctions.now rules.now stop_lines.now crosswalks.now coordinates.now) ≡ true }
     ensures { result ≡ F.rows_fault clause most (tables_of lanes.now boundaries.now roads.now junctions.now rules.now stop_lines.now crosswalks.now coordinates.now) }
 {
@@ -210,32 +167,26 @@ fn rows_fault(
         crosswalks,
         coordinates,
     );
-    earlier(
-        row_fault(clause, LANE_TABLE, lanes, LANES, LANE, most, coordinates),
-        earlier(
-            row_fault(
-                clause,
-                BOUNDARY_TABLE,
-                boundaries,
-                BOUNDARIES,
-                BOUNDARY,
-                most,
-                coordinates,
-            ),
-            earlier(
-                row_fault(clause, ROAD_TABLE, roads, ROADS, ROAD, most, coordinates),
-                later,
-            ),
-        ),
-    )
+    row_fault(clause, Table::Lane, lanes, LANES, LANE, most, coordinates)
+        .or(row_fault(
+            clause,
+            Table::Boundary,
+            boundaries,
+            BOUNDARIES,
+            BOUNDARY,
+            most,
+            coordinates,
+        ))
+        .or(row_fault(clause, Table::Road, roads, ROADS, ROAD, most, coordinates))
+        .or(later)
 }
 
-fn id_fault(table: u64, t: &[u64], limit: u64, row: usize) -> Fault
+fn id_fault(table: Table, t: &[u64], limit: u64, row: usize) -> Option<Fault>
     requires { (0 < row) × (counted limit row t.now ≡ true) }
     ensures { result ≡ F.ids_in table row t.now }
 {
     let first = row_faults::first_fallen(t, limit, row);
-    told(ASCENDING, table, first, t[0] as usize)
+    told(Clause::Ids, table, first, t[0] as usize)
 }
 
 fn ids_fault(
@@ -247,29 +198,17 @@ fn ids_fault(
     stop_lines: &[u64],
     crosswalks: &[u64],
     coordinates: &[f64],
-) -> Fault
+) -> Option<Fault>
     requires { all_counted (tables_of lanes.now boundaries.now roads.now junctions.now rules.now stop_lines.now crosswalks.now coordinates.now) ≡ true }
     ensures { result ≡ F.ids_fault (tables_of lanes.now boundaries.now roads.now junctions.now rules.now stop_lines.now crosswalks.now coordinates.now) }
 {
-    earlier(
-        id_fault(LANE_TABLE, lanes, LANES, LANE),
-        earlier(
-            id_fault(BOUNDARY_TABLE, boundaries, BOUNDARIES, BOUNDARY),
-            earlier(
-                id_fault(ROAD_TABLE, roads, ROADS, ROAD),
-                earlier(
-                    id_fault(JUNCTION_TABLE, junctions, JUNCTIONS, JUNCTION),
-                    earlier(
-                        id_fault(RULE_TABLE, rules, RULES, RULE),
-                        earlier(
-                            id_fault(STOP_LINE_TABLE, stop_lines, STOP_LINES, STOP_LINE),
-                            id_fault(CROSSWALK_TABLE, crosswalks, CROSSWALKS, CROSSWALK),
-                        ),
-                    ),
-                ),
-            ),
-        ),
-    )
+    id_fault(Table::Lane, lanes, LANES, LANE)
+        .or(id_fault(Table::Boundary, boundaries, BOUNDARIES, BOUNDARY))
+        .or(id_fault(Table::Road, roads, ROADS, ROAD))
+        .or(id_fault(Table::Junction, junctions, JUNCTIONS, JUNCTION))
+        .or(id_fault(Table::Rule, rules, RULES, RULE))
+        .or(id_fault(Table::StopLine, stop_lines, STOP_LINES, STOP_LINE))
+        .or(id_fault(Table::Crosswalk, crosswalks, CROSSWALKS, CROSSWALK))
 }
 
 // Links that ascend, lines, and lanes that stand once in a list.
@@ -283,12 +222,12 @@ fn link_faults(
     stop_lines: &[u64],
     crosswalks: &[u64],
     coordinates: &[f64],
-) -> Fault
+) -> Option<Fault>
     requires { all_counted (tables_of lanes.now boundaries.now roads.now junctions.now rules.now stop_lines.now crosswalks.now coordinates.now) ≡ true }
     ensures { result ≡ F.link_faults most (tables_of lanes.now boundaries.now roads.now junctions.now rules.now stop_lines.now crosswalks.now coordinates.now) }
 {
     let links = rows_fault(
-        LINKS,
+        Clause::Links,
         most,
         lanes,
         boundaries,
@@ -300,7 +239,7 @@ fn link_faults(
         coordinates,
     );
     let lines = rows_fault(
-        LINES,
+        Clause::Lines,
         most,
         lanes,
         boundaries,
@@ -312,7 +251,7 @@ fn link_faults(
         coordinates,
     );
     let repeats = rows_fault(
-        REPEATS,
+        Clause::Repeats,
         most,
         lanes,
         boundaries,
@@ -323,7 +262,7 @@ fn link_faults(
         crosswalks,
         coordinates,
     );
-    earlier(links, earlier(lines, repeats))
+    links.or(lines).or(repeats)
 }
 
 // The clauses of ids, and those behind them.
@@ -337,7 +276,7 @@ fn id_faults(
     stop_lines: &[u64],
     crosswalks: &[u64],
     coordinates: &[f64],
-) -> Fault
+) -> Option<Fault>
     requires { all_counted (tables_of lanes.now boundaries.now roads.now junctions.now rules.now stop_lines.now crosswalks.now coordinates.now) ≡ true }
     ensures { result ≡ F.id_faults most (tables_of lanes.now boundaries.now roads.now junctions.now rules.now stop_lines.now crosswalks.now coordinates.now) }
 {
@@ -352,7 +291,7 @@ fn id_faults(
         coordinates,
     );
     let names = rows_fault(
-        NAMES,
+        Clause::Names,
         most,
         lanes,
         boundaries,
@@ -374,7 +313,7 @@ fn id_faults(
         crosswalks,
         coordinates,
     );
-    earlier(ids, earlier(names, links))
+    ids.or(names).or(links)
 }
 
 // The clauses that are asked of rows and ids, in their order.
@@ -388,12 +327,12 @@ fn form_faults(
     stop_lines: &[u64],
     crosswalks: &[u64],
     coordinates: &[f64],
-) -> Fault
+) -> Option<Fault>
     requires { all_counted (tables_of lanes.now boundaries.now roads.now junctions.now rules.now stop_lines.now crosswalks.now coordinates.now) ≡ true }
     ensures { result ≡ F.row_faults most (tables_of lanes.now boundaries.now roads.now junctions.now rules.now stop_lines.now crosswalks.now coordinates.now) }
 {
     let marks = rows_fault(
-        MARKS,
+        Clause::Marks,
         most,
         lanes,
         boundaries,
@@ -405,7 +344,7 @@ fn form_faults(
         coordinates,
     );
     let kinds = rows_fault(
-        KINDS,
+        Clause::Kinds,
         most,
         lanes,
         boundaries,
@@ -427,31 +366,36 @@ fn form_faults(
         crosswalks,
         coordinates,
     );
-    earlier(marks, earlier(kinds, ids))
+    marks.or(kinds).or(ids)
 }
 
 // ---- what ties rows to each other
 
-fn points_fault(lanes: &[u64], boundaries: &[u64], stop_lines: &[u64], crosswalks: &[u64]) -> Fault
+fn points_fault(
+    lanes: &[u64],
+    boundaries: &[u64],
+    stop_lines: &[u64],
+    crosswalks: &[u64],
+) -> Option<Fault>
     requires { takeable 65536 lanes.now boundaries.now stop_lines.now crosswalks.now ≡ true }
-    ensures { result ≡ F.fault_in 8 7 (all_clear (line_spans lanes.now boundaries.now stop_lines.now crosswalks.now) ∷ []) }
+    ensures { result ≡ F.fault_in Points Coordinate (all_clear (line_spans lanes.now boundaries.now stop_lines.now crosswalks.now) ∷ []) }
 {
     if lines_apart::lines_apart(lanes, boundaries, stop_lines, crosswalks) {
-        return told(POINTS, COORDINATE_TABLE, 1, 1);
+        return None;
     }
-    told(POINTS, COORDINATE_TABLE, 0, 1)
+    told(Clause::Points, Table::Coordinate, 0, 1)
 }
 
-fn back_fault(clause: u64, lanes: &[u64]) -> Fault
+fn back_fault(clause: Clause, lanes: &[u64]) -> Option<Fault>
     requires { searchable lanes.now ≡ true }
-    ensures { result ≡ F.fault_in clause 0 (rows 52 (named_back clause lanes.now) lanes.now) }
+    ensures { result ≡ F.fault_in clause Lane (rows 52 (named_back clause lanes.now) lanes.now) }
 {
     let first = row_returns::first_unreturned(clause, lanes);
-    told(clause, LANE_TABLE, first, lanes[0] as usize)
+    told(clause, Table::Lane, first, lanes[0] as usize)
 }
 
-// The first fault of a map with its counter; all 0 where it is sound.
-pub fn first_fault(
+// The first fault of a map with its counter.
+fn found(
     counter: u64,
     lanes: &[u64],
     boundaries: &[u64],
@@ -461,8 +405,8 @@ pub fn first_fault(
     stop_lines: &[u64],
     crosswalks: &[u64],
     coordinates: &[f64],
-) -> Fault
-    ensures { result ≡ F.fault_of counter (tables_of lanes.now boundaries.now roads.now junctions.now rules.now stop_lines.now crosswalks.now coordinates.now) }
+) -> Option<Fault>
+    ensures { result ≡ F.found counter (tables_of lanes.now boundaries.now roads.now junctions.now rules.now stop_lines.now crosswalks.now coordinates.now) }
 {
     let counts = counts_fault(
         lanes,
@@ -474,7 +418,7 @@ pub fn first_fault(
         crosswalks,
         coordinates,
     );
-    if counts.clause != 0 {
+    if counts.is_some() {
         return counts;
     }
     let rows = form_faults(
@@ -488,10 +432,43 @@ pub fn first_fault(
         crosswalks,
         coordinates,
     );
-    if rows.clause != 0 {
+    if rows.is_some() {
         return rows;
     }
     let points = points_fault(lanes, boundaries, stop_lines, crosswalks);
-    let links = back_fault(RETURNS, lanes);
-    earlier(points, earlier(links, back_fault(NEIGHBORS, lanes)))
+    let links = back_fault(Clause::Returns, lanes);
+    points.or(links).or(back_fault(Clause::Neighbors, lanes))
+}
+
+// The first fault as a host is told it; all 0 where the map is sound.
+#[tactic(auto, unfolding(crate::specs::Faults::fault_of))]
+pub fn first_fault(
+    counter: u64,
+    lanes: &[u64],
+    boundaries: &[u64],
+    roads: &[u64],
+    junctions: &[u64],
+    rules: &[u64],
+    stop_lines: &[u64],
+    crosswalks: &[u64],
+    coordinates: &[f64],
+) -> Fault
+    ensures { result ≡ F.fault_of counter (tables_of lanes.now boundaries.now roads.now junctions.now rules.now stop_lines.now crosswalks.now coordinates.now) }
+{
+    found(
+        counter,
+        lanes,
+        boundaries,
+        roads,
+        junctions,
+        rules,
+        stop_lines,
+        crosswalks,
+        coordinates,
+    )
+    .unwrap_or(Fault {
+        clause: 0,
+        table: 0,
+        row: 0,
+    })
 }

@@ -5,11 +5,9 @@ ghost use Rattle.std.specs.Prelude.{◌≡◌, true, ◌*◌, ◌≤◌, ◌<◌
 ghost use Rattle.lists.specs.Select.{ascending};
 ghost use Rattle.lists.specs.Rows.{keys, row_with, Among};
 
-use lists::Found;
-
 // Among `size` rows from row `from` on, the one whose first word is id, by halves; no other row has it. A turn has one test and no way out of the
-// loop, so that the processor need not guess where a search ends.
-fn find_among(rows: &[u64], s: usize, n: usize, id: u64, from: usize, size: usize) -> Found
+// loop, so that the processor need not guess where a search ends. A table is lent rows, not a slice of ids, so the library's search has nothing to look in.
+fn find_among(rows: &[u64], s: usize, n: usize, id: u64, from: usize, size: usize) -> Option<usize>
     requires { (0 < s) × ((n * s ≤ length rows.now) × ((ascending (keys s n rows.now) ≡ true) × Among (keys s n rows.now) id from size)) }
     ensures { result ≡ row_with id (keys s n rows.now) }
 {
@@ -23,18 +21,18 @@ fn find_among(rows: &[u64], s: usize, n: usize, id: u64, from: usize, size: usiz
         left -= half;
     }
     if rows[low * s] == id {
-        return Found::At(low);
+        return Some(low);
     }
-    Found::Nothing
+    None
 }
 
 // The row of n rows of s words whose first word is id: the first words ascend.
-pub fn find_row(rows: &[u64], s: usize, n: usize, id: u64) -> Found
+pub fn find_row(rows: &[u64], s: usize, n: usize, id: u64) -> Option<usize>
     requires { (0 < s) × ((n * s ≤ length rows.now) × (ascending (keys s n rows.now) ≡ true)) }
     ensures { result ≡ row_with id (keys s n rows.now) }
 {
     if n == 0 {
-        return Found::Nothing;
+        return None;
     }
     find_among(rows, s, n, id, 0, n)
 }

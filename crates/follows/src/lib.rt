@@ -21,14 +21,12 @@ const MARKS: usize = 64;
 fn first_place(ids: &[u64], id: u64) -> usize
     ensures { (result ≡ F.first_place id ids.now) × (result ≤ length ids.now) }
 {
-    let mut i = 0;
-    while i < ids.len() {
+    for i in 0..ids.len() {
         if ids[i] == id {
             return i;
         }
-        i += 1;
     }
-    i
+    ids.len()
 }
 
 // An id put behind the first `id` of a list of n ids, which stands at place p. From the back, so that none is overwritten before it is moved.
@@ -36,12 +34,8 @@ fn insert_behind(slots: &mut [u64], n: usize, p: usize, id: u64, second: u64)
     requires { (n < length slots.old) × ((p ≡ F.first_place id (take n slots.old)) × (p < n)) }
     ensures { slots.new ≡ over slots.old 0 (swap_first id (F.pair id second) (take n slots.old)) }
 {
-    let mut i = n;
-    while p + 1 < i {
-        slots[i] = slots[i - 1];
-        i -= 1;
-    }
-    slots[i] = second;
+    slots.copy_within(p + 1..n, p + 2);
+    slots[p + 1] = second;
 }
 
 // One cut lane in a rule's own lanes.
@@ -72,10 +66,8 @@ fn follow_all(row: &mut [u64], cut: &[u64], next: u64, anchored: bool, past: &[b
     requires { (Numbered next cut.now) × ((length row.old ≡ 330) × ((word 5 row.old ≤ 64) × ((length past.now ≡ 64) × (length (F.followed_all anchored past.now next cut.now (ids_at 5 row.old)) ≤ 64)))) }
     ensures { row.new ≡ change_at (F.followed_all anchored past.now next cut.now) 5 row.old }
 {
-    let mut r = 0;
-    while r < cut.len() {
+    for r in 0..cut.len() {
         follow(row, cut[r], next + r as u64, anchored, past);
-        r += 1;
     }
 }
 
@@ -99,14 +91,12 @@ pub fn follow_rules(t: &mut [u64], cut: &[u64], next: u64, anchored: &[bool], pa
     ensures { t.new ≡ F.rules_follow anchored.now past.now next cut.now t.old }
 {
     let n = t[0] as usize;
-    let mut i = 0;
-    while i < n {
+    for i in 0..n {
         let at = 1 + i * RULE;
         let end = at + RULE;
         let first = i * MARKS;
         let last = first + MARKS;
         follow_rule(&mut t[at..end], cut, next, anchored[i], &past[first..last]);
-        i += 1;
     }
 }
 
@@ -120,8 +110,7 @@ fn own_differ(row: &[u64], cut: &[u64], anchored: bool, past: &[bool]) -> bool
     let n = row[RULE_LANES] as usize;
     let from = RULE_LANES + 1;
     let to = from + n;
-    let mut r = 0;
-    while r < cut.len() {
+    for r in 0..cut.len() {
         let p = first_place(&row[from..to], cut[r]);
         if p < n {
             if !anchored {
@@ -131,7 +120,6 @@ fn own_differ(row: &[u64], cut: &[u64], anchored: bool, past: &[bool]) -> bool
                 return true;
             }
         }
-        r += 1;
     }
     false
 }
@@ -169,13 +157,11 @@ pub fn mark_rules(t: &[u64], cut: &[u64], anchored: &[bool], past: &[bool], mark
     ensures { marks.new ≡ over marks.old 0 (F.rule_marks anchored.now past.now cut.now t.now) }
 {
     let n = t[0] as usize;
-    let mut i = 0;
-    while i < n {
+    for i in 0..n {
         let at = 1 + i * RULE;
         let end = at + RULE;
         let first = i * MARKS;
         let last = first + MARKS;
         marks[i] = rule_differs(&t[at..end], cut, anchored[i], &past[first..last]);
-        i += 1;
     }
 }

@@ -76,11 +76,9 @@ pub fn forget(t: &mut [u64], rows: Rows, id: u64)
 {
     let s = mentions::row_words(rows);
     let n = t[0] as usize;
-    let mut i = 0;
-    while i < n {
+    for i in 0..n {
         let at = 1 + i * s;
         let end = at + s;
         forget_row(&mut t[at..end], rows, id);
-        i += 1;
     }
 }

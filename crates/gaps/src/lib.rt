@@ -8,26 +8,17 @@ ghost use Rattle.row_tests.specs.Returned.{lane_at};
 ghost use Rattle.lookup.specs.Lookup.{sorted_table, all_stored, drawn};
 
 use entities::Side;
+use geometry::Point3;
 use lists::both;
-use polyline::OptionPoint3;
-
-fn there(p: OptionPoint3) -> bool
-    ensures { result ≡ E.there p }
-{
-    match p {
-        OptionPoint3::None => false,
-        OptionPoint3::Some(_) => true,
-    }
-}
 
 // Whether two ends that are there are further apart than the tolerance.
-fn apart(tolerance: f64, p: OptionPoint3, q: OptionPoint3) -> bool
+fn apart(tolerance: f64, p: Option<Point3>, q: Option<Point3>) -> bool
     ensures { result ≡ E.far_apart tolerance p q }
 {
-    let OptionPoint3::Some(a) = p else {
+    let Some(a) = p else {
         return false;
     };
-    let OptionPoint3::Some(b) = q else {
+    let Some(b) = q else {
         return false;
     };
     a.distance(b) > tolerance
@@ -49,7 +40,10 @@ pub fn gapped(
     let fr = lane_lines::oriented_last(lanes, i, Side::Right, boundaries, coordinates);
     let tl = lane_lines::oriented_first(lanes, j, Side::Left, boundaries, coordinates);
     let tr = lane_lines::oriented_first(lanes, j, Side::Right, boundaries, coordinates);
-    let ends = both(both(both(there(fl), there(fr)), there(tl)), there(tr));
+    let ends = both(
+        both(both(fl.is_some(), fr.is_some()), tl.is_some()),
+        tr.is_some(),
+    );
     if ends {
         if apart(tolerance, fl, tl) {
             return true;

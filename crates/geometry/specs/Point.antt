@@ -1,14 +1,12 @@
 -- geometry/mod.rs: points by value, each float operation in the order of the Rust.
 -- Document 01: norms are the root of the rounded sum of squares, left to right, in two dimensions too (docs/DIFFERENCES.md, `hypot`).
-use Rattle.std.specs.Prelude.{Bool, ◌&&◌, cond, Float}
+use Rattle.std.specs.Prelude.{Bool, ◌&&◌, cond, Float, Option, None, Some}
 use Rattle.std.specs.Float.Ieee.{lt}
 use Rattle.std.specs.Float.Ieee.Scale.{finite}
 use Rattle.root.specs.Root.{root}
 use Rattle.geometry.specs.Float.{◌+ᶠ◌, ◌-ᶠ◌, ◌*ᶠ◌, ◌/ᶠ◌, zeroᶠ, oneᶠ, epsilon, clamp, coordinate}
 use Rattle.geometry.specs.declared.Point2.{Point2}
 use Rattle.geometry.specs.declared.Point3.{Point3}
-use Rattle.geometry.specs.declared.Heading.{Heading}
-use Rattle.geometry.specs.declared.Heading.TheVariants.{Zero, Unit}
 
 -- ---- Point2
 
@@ -34,8 +32,8 @@ unfoldable pub distance2 : Point2 → Point2 → Float
 distance2 p q = norm2 (sub2 p q)
 
 -- the unit vector, or nothing where the norm is not above EPSILON
-unfoldable pub normalized : Point2 → Heading
-normalized p = let n = norm2 p in cond (lt epsilon n) (Unit (record { x = p.x /ᶠ n; y = p.y /ᶠ n })) Zero
+unfoldable pub normalized : Point2 → Option Point2
+normalized p = let n = norm2 p in cond (lt epsilon n) (Some (record { x = p.x /ᶠ n; y = p.y /ᶠ n })) None
 
 unfoldable pub lerp2 : Point2 → Point2 → Float → Point2
 lerp2 p q t = add2 p (mul2 (sub2 q p) t)

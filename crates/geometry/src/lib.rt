@@ -9,6 +9,7 @@ ghost use Rattle.geometry.specs.Point as P;
 ghost use Rattle.root.specs.Begun.{Unfinished};
 
 use root::Begun;
+use std::ops::{Add, Mul, Sub};
 
 // A point or a vector in the plane.
 #[derive(Clone, Copy)]
@@ -17,7 +18,7 @@ pub struct Point2 {
     pub y: f64,
 }
 
-// A point or a vector in space.
+// A point or a vector in space: the Rust's two types and names, each with its own operations in its own order, so they are not one type over a size.
 #[derive(Clone, Copy)]
 pub struct Point3 {
     pub x: f64,
@@ -25,11 +26,43 @@ pub struct Point3 {
     pub z: f64,
 }
 
-// A direction: of a zero vector there is none.
-#[derive(Clone, Copy)]
-pub enum Heading {
-    Zero,
-    Unit(Point2),
+impl Add for Point2 {
+    type Output = Self;
+
+    ghost add_gives = { λ p q r. r ≡ P.add2 p q };
+
+    fn add(self, other: Point2) -> Self {
+        Self {
+            x: self.x + other.x,
+            y: self.y + other.y,
+        }
+    }
+}
+
+impl Sub for Point2 {
+    type Output = Self;
+
+    ghost sub_gives = { λ p q r. r ≡ P.sub2 p q };
+
+    fn sub(self, other: Point2) -> Self {
+        Self {
+            x: self.x - other.x,
+            y: self.y - other.y,
+        }
+    }
+}
+
+impl Mul<f64> for Point2 {
+    type Output = Self;
+
+    ghost mul_gives = { λ p q r. r ≡ P.mul2 p q };
+
+    fn mul(self, by: f64) -> Self {
+        Self {
+            x: self.x * by,
+            y: self.y * by,
+        }
+    }
 }
 
 impl Point2 {
@@ -37,33 +70,6 @@ impl Point2 {
         ensures { (result.x ≡ x) × (result.y ≡ y) }
     {
         Self { x, y }
-    }
-
-    pub fn add(self, other: Point2) -> Self
-        ensures { result ≡ P.add2 self other }
-    {
-        Self {
-            x: self.x + other.x,
-            y: self.y + other.y,
-        }
-    }
-
-    pub fn sub(self, other: Point2) -> Self
-        ensures { result ≡ P.sub2 self other }
-    {
-        Self {
-            x: self.x - other.x,
-            y: self.y - other.y,
-        }
-    }
-
-    pub fn mul(self, by: f64) -> Self
-        ensures { result ≡ P.mul2 self by }
-    {
-        Self {
-            x: self.x * by,
-            y: self.y * by,
-        }
     }
 
     pub fn dot(self, other: Point2) -> f64
@@ -88,32 +94,74 @@ impl Point2 {
     pub fn distance(self, other: Point2) -> f64
         ensures { result ≡ P.distance2 self other }
     {
-        self.sub(other).norm()
+        (self - other).norm()
     }
 
-    pub fn normalized(self) -> Heading
+    pub fn normalized(self) -> Option<Point2>
         ensures { result ≡ P.normalized self }
     {
         let n = self.norm();
         if Point3::EPSILON < n {
-            return Heading::Unit(Point2 {
+            return Some(Point2 {
                 x: self.x / n,
                 y: self.y / n,
             });
         }
-        Heading::Zero
+        None
     }
 
     pub fn lerp(self, other: Point2, t: f64) -> Self
         ensures { result ≡ P.lerp2 self other t }
     {
-        self.add(other.sub(self).mul(t))
+        self + (other - self) * t
     }
 
     pub fn is_finite(self) -> bool
         ensures { result ≡ P.finite2 self }
     {
         is_finite(self.x) && is_finite(self.y)
+    }
+}
+
+impl Add for Point3 {
+    type Output = Self;
+
+    ghost add_gives = { λ p q r. r ≡ P.add3 p q };
+
+    fn add(self, other: Point3) -> Self {
+        Self {
+            x: self.x + other.x,
+            y: self.y + other.y,
+            z: self.z + other.z,
+        }
+    }
+}
+
+impl Sub for Point3 {
+    type Output = Self;
+
+    ghost sub_gives = { λ p q r. r ≡ P.sub3 p q };
+
+    fn sub(self, other: Point3) -> Self {
+        Self {
+            x: self.x - other.x,
+            y: self.y - other.y,
+            z: self.z - other.z,
+        }
+    }
+}
+
+impl Mul<f64> for Point3 {
+    type Output = Self;
+
+    ghost mul_gives = { λ p q r. r ≡ P.mul3 p q };
+
+    fn mul(self, by: f64) -> Self {
+        Self {
+            x: self.x * by,
+            y: self.y * by,
+            z: self.z * by,
+        }
     }
 }
 
@@ -125,36 +173,6 @@ impl Point3 {
         ensures { (result.x ≡ x) × ((result.y ≡ y) × (result.z ≡ z)) }
     {
         Self { x, y, z }
-    }
-
-    pub fn add(self, other: Point3) -> Self
-        ensures { result ≡ P.add3 self other }
-    {
-        Self {
-            x: self.x + other.x,
-            y: self.y + other.y,
-            z: self.z + other.z,
-        }
-    }
-
-    pub fn sub(self, other: Point3) -> Self
-        ensures { result ≡ P.sub3 self other }
-    {
-        Self {
-            x: self.x - other.x,
-            y: self.y - other.y,
-            z: self.z - other.z,
-        }
-    }
-
-    pub fn mul(self, by: f64) -> Self
-        ensures { result ≡ P.mul3 self by }
-    {
-        Self {
-            x: self.x * by,
-            y: self.y * by,
-            z: self.z * by,
-        }
     }
 
     pub fn dot(self, other: Point3) -> f64
@@ -172,14 +190,14 @@ impl Point3 {
     pub fn distance(self, other: Point3) -> f64
         ensures { result ≡ P.distance3 self other }
     {
-        self.sub(other).norm()
+        (self - other).norm()
     }
 
     // The distance, begun: `root::finish` finds it.
     pub fn begin_distance(self, other: Point3) -> Begun
         ensures { Unfinished (P.distance3 self other) result.a result.top result.guess }
     {
-        let way = self.sub(other);
+        let way = self - other;
         root::begin(way.dot(way))
     }
 
@@ -193,8 +211,8 @@ impl Point3 {
     pub fn lerp(self, other: Point3, t: f64) -> Self
         ensures { result ≡ P.lerp3 self other t }
     {
-        let way = other.sub(self);
-        self.add(way.mul(t))
+        let way = other - self;
+        self + way * t
     }
 
     pub fn xy(self) -> Point2
@@ -237,10 +255,10 @@ pub fn clamp(x: f64, least: f64, most: f64) -> f64
 pub fn project_on_segment(p: Point2, a: Point2, b: Point2) -> f64
     ensures { result ≡ P.project_on_segment p a b }
 {
-    let ab = b.sub(a);
+    let ab = b - a;
     let len2 = ab.dot(ab);
     if len2 < Point3::EPSILON * Point3::EPSILON {
         return 0.0;
     }
-    clamp(p.sub(a).dot(ab) / len2, 0.0, 1.0)
+    clamp((p - a).dot(ab) / len2, 0.0, 1.0)
 }

@@ -1,4 +1,5 @@
 -- General laws: of tests and choices over lists, by places; of keys and rows; of marks. Assumes nothing.
+use Rattle.std.specs.Prelude.{Option, None, Some}
 use mathlib.Core.Path.{◌≡◌, refl, sym, ap, ◌∙◌}
 use Prim.Native.Nat.{ℕ, zero, suc, ◌+◌, ◌<◌, ◌≤◌}
 use native.Mathlib.Nat.{le_of_suc-le-suc, not-suc-le-zero}
@@ -14,8 +15,6 @@ use borrow.Author.Tests.{eq-eqb, ne_eqb, eqb-true, eqb-false}
 use Rattle.lists.specs.Every.{all}
 use Rattle.lists.specs.Rows.{reads, over, row_with, later}
 use Rattle.lists.specs.Select.{keep, any, has}
-use Rattle.lists.specs.declared.Found.{Found}
-use Rattle.lists.specs.declared.Found.TheVariants.{At, Nothing}
 use Rattle.lists.proofs.Select.{has-any, has-keep, length-keep}
 use Rattle.lists.proofs.Booleans.{or_right, or_left}
 use Rattle.group.specs.Walk.{marks, chosen}
@@ -117,25 +116,25 @@ module _ {A : Type 0} (p q : A → Bool) (h : (x : A) → p x ≡ true → q x �
 
 -- ---- the row with a key
 
-pub found-key : (x : ℕ) (ks : List ℕ) (j : ℕ) → row_with x ks ≡ At j → get_or ks j 0 ≡ x
+pub found-key : (x : ℕ) (ks : List ℕ) (j : ℕ) → row_with x ks ≡ Some j → get_or ks j 0 ≡ x
 unfolding row_with
 found-key x [] j e = let z : ◌≡◌ {A = ℕ} 0 1 = cc in absurd (omega arith)
 found-key x (k ∷ ks) j e = go (eqb k x) refl (row_with x ks) (λ i s. found-key x ks i s) e
   where
-    go : (b : Bool) → eqb k x ≡ b → (r : Found) → ((i : ℕ) → r ≡ At i → get_or ks i 0 ≡ x) → cond b (At 0) (later r) ≡ At j → get_or (k ∷ ks) j 0 ≡ x
+    go : (b : Bool) → eqb k x ≡ b → (r : Option ℕ) → ((i : ℕ) → r ≡ Some i → get_or ks i 0 ≡ x) → cond b (Some 0) (later r) ≡ Some j → get_or (k ∷ ks) j 0 ≡ x
     go true q r s f = let z : j ≡ 0 = cc in rw z (eqb-true k x q)
-    go false q (At i) s f = let z : j ≡ suc i = cc in rw z (s i refl)
-    go false q Nothing s f = let z : ◌≡◌ {A = ℕ} 0 1 = cc in absurd (omega arith)
+    go false q (Some i) s f = let z : j ≡ suc i = cc in rw z (s i refl)
+    go false q None s f = let z : ◌≡◌ {A = ℕ} 0 1 = cc in absurd (omega arith)
 
-pub found_none : (x : ℕ) (ks : List ℕ) → row_with x ks ≡ Nothing → has x ks ≡ false
+pub found_none : (x : ℕ) (ks : List ℕ) → row_with x ks ≡ None → has x ks ≡ false
 unfolding row_with has
 found_none x [] e = refl
 found_none x (k ∷ ks) e = go (eqb k x) refl (row_with x ks) (λ s. found_none x ks s) e
   where
-    go : (b : Bool) → eqb k x ≡ b → (r : Found) → (r ≡ Nothing → has x ks ≡ false) → cond b (At 0) (later r) ≡ Nothing → (eqb x k || has x ks) ≡ false
+    go : (b : Bool) → eqb k x ≡ b → (r : Option ℕ) → (r ≡ None → has x ks ≡ false) → cond b (Some 0) (later r) ≡ None → (eqb x k || has x ks) ≡ false
     go true q r s f = let z : ◌≡◌ {A = ℕ} 0 1 = cc in absurd (omega arith)
-    go false q (At i) s f = let z : ◌≡◌ {A = ℕ} 0 1 = cc in absurd (omega arith)
-    go false q Nothing s f = let n : x ≡ k → ⊥ = (λ g. eqb-false k x q (sym g)) in rw (ne_eqb x k n) (s refl)
+    go false q (Some i) s f = let z : ◌≡◌ {A = ℕ} 0 1 = cc in absurd (omega arith)
+    go false q None s f = let n : x ≡ k → ⊥ = (λ g. eqb-false k x q (sym g)) in rw (ne_eqb x k n) (s refl)
 
 -- ---- marks
 

@@ -1,12 +1,12 @@
 -- Slots of a lane table and the lateral group: a slot of a lane of the group leads to one, and marks that hold a lane and are closed under
 -- slots hold its group. Assumes nothing.
+use Rattle.std.specs.Prelude.{Option, None, Some}
 use mathlib.Core.Path.{◌≡◌, refl, sym, ap, ◌∙◌}
 use Prim.Native.Nat.{ℕ, suc, ◌+◌, ◌*◌, ◌<◌, ◌≤◌}
 use native.Mathlib.Omega.{arith}
 use mathlib.Core.Bool.{Bool, true, false, not, ◌&&◌, ◌||◌, cond, true≢false}
 use mathlib.Core.List.{List, [], map}
 use mathlib.Core.Logic.{◌⊎◌, inl, inr, ⊎_elim}
-use mathlib.Core.Option.{none, some}
 use lib.Dec.{eqb}
 use lib.Ieee.{Float}
 use lib.ListN.{length, get_or, drop}
@@ -14,8 +14,6 @@ use lib.Seq.{drop-drop, get_or-drop}
 use borrow.Author.Tests.{eq-eqb, ne_eqb, eqb-true}
 use Rattle.lists.specs.Rows.{row_with}
 use Rattle.lists.specs.Select.{keep, any, has}
-use Rattle.lists.specs.declared.Found.{Found}
-use Rattle.lists.specs.declared.Found.TheVariants.{At, Nothing}
 use Rattle.lists.proofs.Booleans.{and_both, and-fst, and-snd, or_right, or_left}
 use Rattle.lists.proofs.Rows.{length-reads, get_d_reads, length-keys, key-at, row-at}
 use Rattle.entities.specs.Records.{Lane, Map}
@@ -67,7 +65,7 @@ slot_names k w y = not (eqb (word k w) 0) && eqb (word (suc k) w) y
 names-slot : (k : ℕ) (w : List ℕ) (y : ℕ) → names (slot_at k w) y ≡ slot_names k w y
 names-slot k w y = go (eqb (word k w) 0) (eqb (word k w) 1) (word (suc k) w)
   where
-    go : (a b : Bool) (v : ℕ) → names (cond a none (cond b (some (same v)) (some (opposing v)))) y ≡ (not a && eqb v y)
+    go : (a b : Bool) (v : ℕ) → names (cond a None (cond b (Some (same v)) (Some (opposing v)))) y ≡ (not a && eqb v y)
     go true b v = refl
     go false true v = refl
     go false false v = refl
@@ -77,23 +75,23 @@ unfolding lane_of
 beside-slots c w y = rw (names-slot 14 w y, names-slot 16 w y)
 
 -- the mark of a row that was found
-abbrev mark_of : List Bool → Found → Bool
-mark_of s Nothing = false
-mark_of s (At r) = get_or s r false
+abbrev mark_of : List Bool → Option ℕ → Bool
+mark_of s None = false
+mark_of s (Some r) = get_or s r false
 
 -- the slots of a row lead to marked rows
 abbrev pub Shut : List ℕ → List Bool → ℕ → Type 0
-Shut t s r = (k x : ℕ) → (k ≡ 14) ⊎ (k ≡ 16) → slot_row t k r ≡ At x → get_or s x false ≡ true
+Shut t s r = (k x : ℕ) → (k ≡ 14) ⊎ (k ≡ 16) → slot_row t k r ≡ Some x → get_or s x false ≡ true
 
 -- the slot at k of row j as it is read: empty, or its lane is searched for
 module _ (t : List ℕ) (k j : ℕ) (h : k + 2 ≤ 52) where
-  pub slot-empty : get_or t (1 + j * 52 + k) 0 ≡ 0 → Nothing ≡ slot_row t k j
+  pub slot-empty : get_or t (1 + j * 52 + k) 0 ≡ 0 → None ≡ slot_row t k j
   unfolding slot_row
   slot-empty e =
       let m : word k (lane_at t j) ≡ 0 = sym (word_at t j k (omega arith)) ∙ e in
       rw (eq-eqb (word k (lane_at t j)) 0 m)
 
-  pub slot-search : (get_or t (1 + j * 52 + k) 0 ≡ 0 → ⊥) → (r : Found) → row_with (get_or t (1 + j * 52 + k + 1) 0) (ids_of t) ≡ r → r ≡ slot_row t k j
+  pub slot-search : (get_or t (1 + j * 52 + k) 0 ≡ 0 → ⊥) → (r : Option ℕ) → row_with (get_or t (1 + j * 52 + k + 1) 0) (ids_of t) ≡ r → r ≡ slot_row t k j
   unfolding slot_row
   slot-search n r e =
       let m : word k (lane_at t j) ≡ 0 → ⊥ = (λ z. n (word_at t j k (omega arith) ∙ z)) in
@@ -110,14 +108,14 @@ module _ (t : List ℕ) (h : searchable t ≡ true) where
   pub id-of : (j : ℕ) → j < word 0 t → get_or (ids_of t) j 0 ≡ word 0 (lane_at t j)
   id-of j l = key-at 52 (word 0 t) j (drop 1 t) (omega arith) l ∙ get_or-drop 1 t (j * 52) 0 ∙ id-at t j
 
-  row_of : (j : ℕ) → j < word 0 t → row_with (word 0 (lane_at t j)) (ids_of t) ≡ At j
+  row_of : (j : ℕ) → j < word 0 t → row_with (word 0 (lane_at t j)) (ids_of t) ≡ Some j
   row_of j l = row-at (word 0 (lane_at t j)) j (ids_of t) (lanes-ascend t h) (omega (arith, ids-length)) (id-of j l)
 
   -- the row that a search for an id finds holds it, so that a map's group of an id is that of the row found
-  pub found-id : (x j : ℕ) → row_with x (ids_of t) ≡ At j → word 0 (lane_at t j) ≡ x
+  pub found-id : (x j : ℕ) → row_with x (ids_of t) ≡ Some j → word 0 (lane_at t j) ≡ x
   found-id x j e = sym (id-of j (omega (arith, found_within x (ids_of t) j e, ids-length))) ∙ found-key x (ids_of t) j e
 
-  pub group-of-found : (m : Map) (c : List Float) → m.lanes ≡ rows 52 (lane_of c) t → (x j : ℕ) → row_with x (ids_of t) ≡ At j → group_at t j ≡ lateral_group m x
+  pub group-of-found : (m : Map) (c : List Float) → m.lanes ≡ rows 52 (lane_of c) t → (x j : ℕ) → row_with x (ids_of t) ≡ Some j → group_at t j ≡ lateral_group m x
   unfolding group_at
   group-of-found m c q x j e = ap (lateral_group (lane_map t)) (found-id x j e) ∙ sym (group-of-rows m c t q x)
 
@@ -129,11 +127,11 @@ module _ (t : List ℕ) (h : searchable t ≡ true) where
   map-ids = ids-rows [] t
 
   -- what a slot leads to is one of the rows, and the slot names its id
-  pub slot-leads : (k j x : ℕ) → slot_row t k j ≡ At x → (x < word 0 t) × (slot_names k (lane_at t j) (word 0 (lane_at t x)) ≡ true)
+  pub slot-leads : (k j x : ℕ) → slot_row t k j ≡ Some x → (x < word 0 t) × (slot_names k (lane_at t j) (word 0 (lane_at t x)) ≡ true)
   unfolding slot_row
   slot-leads k j x e = go (eqb (word k (lane_at t j)) 0) refl e
     where
-      go : (b : Bool) → eqb (word k (lane_at t j)) 0 ≡ b → cond b Nothing (row_with (word (suc k) (lane_at t j)) (ids_of t)) ≡ At x
+      go : (b : Bool) → eqb (word k (lane_at t j)) 0 ≡ b → cond b None (row_with (word (suc k) (lane_at t j)) (ids_of t)) ≡ Some x
           → (x < word 0 t) × (slot_names k (lane_at t j) (word 0 (lane_at t x)) ≡ true)
       go true q f = let z : ◌≡◌ {A = ℕ} 0 1 = cc in absurd (omega arith)
       go false q f =
@@ -144,16 +142,16 @@ module _ (t : List ℕ) (h : searchable t ≡ true) where
 
   -- a present lane that a slot names is what it leads to
   slot-finds : (C : Type 0) (k j y : ℕ) → slot_names k (lane_at t j) y ≡ true → has y (ids_of t) ≡ true
-      → ((x : ℕ) → x < word 0 t → slot_row t k j ≡ At x → word 0 (lane_at t x) ≡ y → C) → C
+      → ((x : ℕ) → x < word 0 t → slot_row t k j ≡ Some x → word 0 (lane_at t x) ≡ y → C) → C
   unfolding slot_row
   slot-finds C k j y e p f = go (eqb (word k (lane_at t j)) 0) refl (row_with (word (suc k) (lane_at t j)) (ids_of t)) refl
     where
-      go : (b : Bool) → eqb (word k (lane_at t j)) 0 ≡ b → (r : Found) → row_with (word (suc k) (lane_at t j)) (ids_of t) ≡ r → C
+      go : (b : Bool) → eqb (word k (lane_at t j)) 0 ≡ b → (r : Option ℕ) → row_with (word (suc k) (lane_at t j)) (ids_of t) ≡ r → C
       go true q r s = absurd (true≢false (sym e ∙ rw q))
-      go false q Nothing s =
+      go false q None s =
           let g : word (suc k) (lane_at t j) ≡ y = eqb-true (word (suc k) (lane_at t j)) y (rw q at e) in
           absurd (true≢false (sym p ∙ found_none y (ids_of t) (rw g at s)))
-      go false q (At x) s =
+      go false q (Some x) s =
           let v = word (suc k) (lane_at t j) in
           let g : v ≡ y = eqb-true v y (rw q at e) in
           let l : x < word 0 t = omega (arith, found_within v (ids_of t) x s, ids-length) in
@@ -207,7 +205,7 @@ module _ (t : List ℕ) (h : searchable t ≡ true) where
         group-part (lane_map t) (word 0 (lane_at t i)) present ∙ ap (keep (λ y. has y (lateral_group (lane_map t) (word 0 (lane_at t i))))) map-ids
 
     -- a slot of a lane of the group leads into the group
-    pub group-leads : (k j x : ℕ) → (k ≡ 14) ⊎ (k ≡ 16) → j < word 0 t → has (word 0 (lane_at t j)) (group_at t i) ≡ true → slot_row t k j ≡ At x
+    pub group-leads : (k j x : ℕ) → (k ≡ 14) ⊎ (k ≡ 16) → j < word 0 t → has (word 0 (lane_at t j)) (group_at t i) ≡ true → slot_row t k j ≡ Some x
         → (x < word 0 t) × (has (word 0 (lane_at t x)) (group_at t i) ≡ true)
     unfolding group_at
     group-leads k j x c b g e =

@@ -1,4 +1,5 @@
 -- The walk's steps: what holds of marks and queue when a row is entered, when both slots of a row were looked at, and at the end. Assumes nothing.
+use Rattle.std.specs.Prelude.{Option, None, Some}
 use mathlib.Core.Path.{◌≡◌, refl, sym, ap, ◌∙◌}
 use Prim.Native.Nat.{ℕ, suc, ◌+◌, ◌<◌, ◌≤◌}
 use native.Mathlib.Nat.{le_of_suc-le-suc, not-suc-le-zero, eq-or-lt_of_le}
@@ -13,8 +14,6 @@ use borrow.Author.Tests.{eqb-true, eqb-false, ltb-true, lt-ltb, ltb-false}
 use Rattle.lists.specs.Every.{all}
 use Rattle.lists.specs.Rows.{over}
 use Rattle.lists.specs.Select.{has}
-use Rattle.lists.specs.declared.Found.{Found}
-use Rattle.lists.specs.declared.Found.TheVariants.{At, Nothing}
 use Rattle.lists.proofs.Rows.{length-keys, length_over, get_d_over-behind}
 use Rattle.lists.proofs.Booleans.{same_test, or_right, or_left}
 use Rattle.lists.proofs.Select.{has-append}
@@ -27,40 +26,40 @@ use Rattle.group.proofs.Slots.{Shut, id-of, slot-leads, group-has-own, group-lea
 
 -- ---- marks and queue when a row is entered
 
-mark-keeps : (f : Found) (s : List Bool) (x : ℕ) → get_or s x false ≡ true → get_or (seen_marked f s) x false ≡ true
-mark-keeps Nothing s x e = e
-mark-keeps (At r) s x e = go (eqb x r) refl
+mark-keeps : (f : Option ℕ) (s : List Bool) (x : ℕ) → get_or s x false ≡ true → get_or (seen_marked f s) x false ≡ true
+mark-keeps None s x e = e
+mark-keeps (Some r) s x e = go (eqb x r) refl
   where
     go : (b : Bool) → eqb x r ≡ b → get_or (set s r true) x false ≡ true
     go true q = let z : x ≡ r = eqb-true x r q in rw (mark-again s r (rw z at e)) e
     go false q = get_or-set_other s r x true false (eqb-false x r q) ∙ e
 
-mark-sets : (f : Found) (s : List Bool) (x : ℕ) → f ≡ At x → x < length s → get_or (seen_marked f s) x false ≡ true
+mark-sets : (f : Option ℕ) (s : List Bool) (x : ℕ) → f ≡ Some x → x < length s → get_or (seen_marked f s) x false ≡ true
 mark-sets f s x e h = rw e (get_or-set_same s x true false h)
 
-pub marked-length : (f : Found) (s : List Bool) → length (seen_marked f s) ≡ length s
-marked-length Nothing s = refl
-marked-length (At r) s = length-set s r true
+pub marked-length : (f : Option ℕ) (s : List Bool) → length (seen_marked f s) ≡ length s
+marked-length None s = refl
+marked-length (Some r) s = length-set s r true
 
-pub queued-length : (f : Found) (s : List Bool) (n : ℕ) (q : List ℕ) → length (queued f s n q) ≡ length q
-queued-length Nothing s n q = refl
-queued-length (At r) s n q = go (get_or s r false)
+pub queued-length : (f : Option ℕ) (s : List Bool) (n : ℕ) (q : List ℕ) → length (queued f s n q) ≡ length q
+queued-length None s n q = refl
+queued-length (Some r) s n q = go (get_or s r false)
   where
     go : (b : Bool) → length (cond b q (set q n r)) ≡ length q
     go true = refl
     go false = length-set q n r
 
-queue-keeps : (f : Found) (s : List Bool) (n : ℕ) (q : List ℕ) (p : ℕ) → p < n → get_or (queued f s n q) p 0 ≡ get_or q p 0
-queue-keeps Nothing s n q p h = refl
-queue-keeps (At r) s n q p h = go (get_or s r false)
+queue-keeps : (f : Option ℕ) (s : List Bool) (n : ℕ) (q : List ℕ) (p : ℕ) → p < n → get_or (queued f s n q) p 0 ≡ get_or q p 0
+queue-keeps None s n q p h = refl
+queue-keeps (Some r) s n q p h = go (get_or s r false)
   where
     go : (b : Bool) → get_or (cond b q (set q n r)) p 0 ≡ get_or q p 0
     go true = refl
     go false = get_or-set_other q n p r 0 (λ e. omega arith)
 
-marks-keep : (f : Found) (s : List Bool) → marks s ≤ marks (seen_marked f s)
-marks-keep Nothing s = omega arith
-marks-keep (At r) s = go (get_or s r false) refl (ltb r (length s)) refl
+marks-keep : (f : Option ℕ) (s : List Bool) → marks s ≤ marks (seen_marked f s)
+marks-keep None s = omega arith
+marks-keep (Some r) s = go (get_or s r false) refl (ltb r (length s)) refl
   where
     go : (a : Bool) → get_or s r false ≡ a → (b : Bool) → ltb r (length s) ≡ b → marks s ≤ marks (set s r true)
     go true e b f = rw (mark-again s r e) (omega arith)
@@ -68,29 +67,29 @@ marks-keep (At r) s = go (get_or s r false) refl (ltb r (length s)) refl
     go false e false f = rw (set_out s r true (ltb-false r (length s) f)) (omega arith)
 
 -- what `enter` answers: nothing was found; the row was marked; the row is new
-abbrev pub Entered : Found → List Bool → List ℕ → ℕ → List Bool → List ℕ → ℕ → Type 0
+abbrev pub Entered : Option ℕ → List Bool → List ℕ → ℕ → List Bool → List ℕ → ℕ → Type 0
 Entered f s q end s2 q2 end2 = (end2 ≡ marks (seen_marked f s)) × ((s2 ≡ seen_marked f s) × (q2 ≡ queued f s end q))
 
-module _ (f : Found) (s : List Bool) (q : List ℕ) (end : ℕ) (e : end ≡ marks s) where
-  pub entered-none : f ≡ Nothing → Entered f s q end s q end
+module _ (f : Option ℕ) (s : List Bool) (q : List ℕ) (end : ℕ) (e : end ≡ marks s) where
+  pub entered-none : f ≡ None → Entered f s q end s q end
   entered-none n = rw n (e, (refl, refl))
 
-  pub entered-again : (r : ℕ) → f ≡ At r → get_or s r false ≡ true → Entered f s q end s q end
+  pub entered-again : (r : ℕ) → f ≡ Some r → get_or s r false ≡ true → Entered f s q end s q end
   entered-again r a m =
       let x : set s r true ≡ s = mark-again s r m in
       rw (a, m, x) (e, (refl, refl))
 
-  pub entered-new : (r : ℕ) → f ≡ At r → seen_within (length s) f ≡ true → get_or s r false ≡ false → Entered f s q end (set s r true) (set q end r) (end + 1)
+  pub entered-new : (r : ℕ) → f ≡ Some r → seen_within (length s) f ≡ true → get_or s r false ≡ false → Entered f s q end (set s r true) (set q end r) (end + 1)
   entered-new r a b m =
       let h : r < length s = ltb-true r (length s) (rw a at b) in
       let x : end + 1 ≡ marks (set s r true) = let k = marks-more s r h m in omega arith in
       rw (a, m) (x, (refl, refl))
 
   -- there is room for the row in the marks and, if it is new, in the queue
-  pub enter-room : (r : ℕ) → f ≡ At r → seen_within (length s) f ≡ true → r < length s
+  pub enter-room : (r : ℕ) → f ≡ Some r → seen_within (length s) f ≡ true → r < length s
   enter-room r a b = ltb-true r (length s) (rw a at b)
 
-  pub enter-end : (r : ℕ) → f ≡ At r → seen_within (length s) f ≡ true → get_or s r false ≡ false → end < length s
+  pub enter-end : (r : ℕ) → f ≡ Some r → seen_within (length s) f ≡ true → get_or s r false ≡ false → end < length s
   enter-end r a b m = rw e (marks-room s r (enter-room r a b) m)
 
 -- ---- the walk of row i's group: `done` rows of the queue have been looked at, and it ends at `end`
@@ -136,10 +135,10 @@ module _ (t : List ℕ) (i : ℕ) where
           long = length-set q end r ∙ w.long ∙ sym (length-set s r true);
           ahead = omega (arith, w.ahead);
           in_rows = λ p l. ⊎_elim (λ e. rw (last p e) b) (λ k. rw (old p k) (w.in_rows p k)) (eq-or-lt_of_le (le_of_suc-le-suc l));
-          in_marks = λ p l. ⊎_elim (λ e. rw (last p e) here) (λ k. rw (old p k) (mark-keeps (At r) s (get_or q p 0) (w.in_marks p k))) (eq-or-lt_of_le (le_of_suc-le-suc l));
+          in_marks = λ p l. ⊎_elim (λ e. rw (last p e) here) (λ k. rw (old p k) (mark-keeps (Some r) s (get_or q p 0) (w.in_marks p k))) (eq-or-lt_of_le (le_of_suc-le-suc l));
           listed = λ x e. rw now (has-append x (take end q) (r ∷ []) ∙ set_cases x (has x (take end q) || has x (r ∷ [])) e (λ z. or_right (has x (take end q)) (has x (r ∷ [])) (has-at (r ∷ []) 0 x (omega arith) (sym z))) (λ k. or_left (has x (take end q)) (has x (r ∷ [])) (w.listed x k)));
           reached = λ x e. set_cases x (has (word 0 (lane_at t x)) (group_at t i)) e (λ z. rw z g) (λ k. w.reached x k);
-          shut = λ p l. rw (old p (omega (arith, w.ahead))) (λ k x c e. mark-keeps (At r) s x (w.shut p l k x c e));
+          shut = λ p l. rw (old p (omega (arith, w.ahead))) (λ k x c e. mark-keeps (Some r) s x (w.shut p l k x c e));
         })
       where
         -- what is marked now is the row, or was marked before
@@ -151,10 +150,10 @@ module _ (t : List ℕ) (i : ℕ) where
             go false q = k (sym (get_or-set_other s r x true false (eqb-false x r q)) ∙ e)
 
     -- a row that was found and is of the group is entered
-    pub enters : (f : Found) → ((r : ℕ) → f ≡ At r → (r < length s) × ((r < word 0 t) × (has (word 0 (lane_at t r)) (group_at t i) ≡ true)))
+    pub enters : (f : Option ℕ) → ((r : ℕ) → f ≡ Some r → (r < length s) × ((r < word 0 t) × (has (word 0 (lane_at t r)) (group_at t i) ≡ true)))
         → Walk t i (seen_marked f s) (queued f s end q) done (marks (seen_marked f s))
-    enters Nothing ok = rw (← w.counted) w
-    enters (At r) ok = go (get_or s r false) refl
+    enters None ok = rw (← w.counted) w
+    enters (Some r) ok = go (get_or s r false) refl
       where
         go : (b : Bool) → get_or s r false ≡ b → Walk t i (set s r true) (cond b q (set q end r)) done (marks (set s r true))
         go true e = rw (mark-again s r e, ← w.counted) w
@@ -182,7 +181,7 @@ abbrev pub Holds : List ℕ → ℕ → List Bool → List ℕ → ℕ → ℕ �
 Holds t i s q done end = (length s ≡ 1024) × ((length q ≡ 1024) × ((get_or s i false ≡ true) × Walk t i s q done end))
 
 -- what `enter` asks
-abbrev May : Found → List Bool → List ℕ → ℕ → Type 0
+abbrev May : Option ℕ → List Bool → List ℕ → ℕ → Type 0
 May f s q end = (length q ≡ length s) × ((seen_within (length s) f ≡ true) × (end ≡ marks s))
 
 -- ---- a turn of the loop, and its end
@@ -190,27 +189,27 @@ May f s q end = (length q ≡ length s) × ((seen_within (length s) f ≡ true) 
 module _ (t : List ℕ) (h : searchable t ≡ true) (i : ℕ) (l : i < word 0 t) where
   -- the first row
   pub walk_first : (s : List Bool) (q : List ℕ) → all not s ≡ true → length q ≡ length s → word 0 t ≤ length s
-      → Walk t i (seen_marked (At i) s) (queued (At i) s 0 q) 0 (marks (seen_marked (At i) s))
+      → Walk t i (seen_marked (Some i) s) (queued (Some i) s 0 q) 0 (marks (seen_marked (Some i) s))
   walk_first s q a e b =
-      enters t i s q 0 0 (walk_begins t i s q a e) (At i)
+      enters t i s q 0 0 (walk_begins t i s q a e) (Some i)
       (λ r z. let y : i ≡ r = cc in rw (← y) (omega arith, (l, group-has-own t h i l)))
 
   -- what a slot leads to is a row that has a mark
   pub slot_in_lem : (n k j : ℕ) → word 0 t ≤ n → seen_within n (slot_row t k j) ≡ true
   slot_in_lem n k j b = go (slot_row t k j) refl
     where
-      go : (f : Found) → slot_row t k j ≡ f → seen_within n f ≡ true
-      go Nothing e = refl
-      go (At x) e = lt-ltb x n (omega (arith, (slot-leads t h k j x e).0))
+      go : (f : Option ℕ) → slot_row t k j ≡ f → seen_within n f ≡ true
+      go None e = refl
+      go (Some x) e = lt-ltb x n (omega (arith, (slot-leads t h k j x e).0))
 
   -- a slot of a row that is marked
   slot_turn : (s : List Bool) (q : List ℕ) (done end : ℕ) → Walk t i s q done end → word 0 t ≤ length s → (k j : ℕ) → (k ≡ 14) ⊎ (k ≡ 16) → j < word 0 t → get_or s j false ≡ true
-      → (f : Found) → f ≡ slot_row t k j → Walk t i (seen_marked f s) (queued f s end q) done (marks (seen_marked f s))
+      → (f : Option ℕ) → f ≡ slot_row t k j → Walk t i (seen_marked f s) (queued f s end q) done (marks (seen_marked f s))
   slot_turn s q done end w b k j c d e f z =
       enters t i s q done end w f
       (λ r y. let g = group-leads t h i l k j r c d (w.reached j e) (sym z ∙ y) in (omega (arith, g.0), g))
 
-  module _ (s : List Bool) (q : List ℕ) (done end : ℕ) (w : Walk t i s q done end) (b : word 0 t ≤ length s) (n : done < end) (f g : Found) (ef : f ≡ slot_row t 14 (get_or q done 0)) (eg : g ≡ slot_row t 16 (get_or q done 0)) where
+  module _ (s : List Bool) (q : List ℕ) (done end : ℕ) (w : Walk t i s q done end) (b : word 0 t ≤ length s) (n : done < end) (f g : Option ℕ) (ef : f ≡ slot_row t 14 (get_or q done 0)) (eg : g ≡ slot_row t 16 (get_or q done 0)) where
     left : Walk t i (seen_marked f s) (queued f s end q) done (marks (seen_marked f s))
     left = slot_turn s q done end w b 14 (get_or q done 0) (inl refl) (w.in_rows done n) (w.in_marks done n) f ef
 
@@ -291,16 +290,16 @@ module _ (t : List ℕ) (h : searchable t ≡ true) (i : ℕ) (l : i < word 0 t)
   few : word 0 t ≤ 1024
   few = lanes-few t h
 
-  pub may-first : (s : List Bool) (q : List ℕ) → length s ≡ 1024 → all not s ≡ true → length q ≡ 1024 → May (At i) s q 0
+  pub may-first : (s : List Bool) (q : List ℕ) → length s ≡ 1024 → all not s ≡ true → length q ≡ 1024 → May (Some i) s q 0
   may-first s q a b c = (c ∙ sym a, (rw a (lt-ltb i 1024 (omega (arith, few))), sym (marks-none s b)))
 
-  pub begun : (s s1 : List Bool) (q q1 : List ℕ) (e1 : ℕ) → length s ≡ 1024 → all not s ≡ true → length q ≡ 1024 → Entered (At i) s q 0 s1 q1 e1 → Holds t i s1 q1 0 e1
+  pub begun : (s s1 : List Bool) (q q1 : List ℕ) (e1 : ℕ) → length s ≡ 1024 → all not s ≡ true → length q ≡ 1024 → Entered (Some i) s q 0 s1 q1 e1 → Holds t i s1 q1 0 e1
   begun s s1 q q1 e1 a b c d =
       let z : length q ≡ length s = c ∙ sym a in
       let w = walk_first s q b z (rw a few) in
-      let x : length s1 ≡ 1024 = ap length d.1.0 ∙ marked-length (At i) s ∙ a in
-      let y : length q1 ≡ 1024 = ap length d.1.1 ∙ queued-length (At i) s 0 q ∙ c in
-      (x, (y, (rw d.1.0 (mark-sets (At i) s i refl (rw a (omega (arith, few)))), rw (d.0, d.1.0, d.1.1) w)))
+      let x : length s1 ≡ 1024 = ap length d.1.0 ∙ marked-length (Some i) s ∙ a in
+      let y : length q1 ≡ 1024 = ap length d.1.1 ∙ queued-length (Some i) s 0 q ∙ c in
+      (x, (y, (rw d.1.0 (mark-sets (Some i) s i refl (rw a (omega (arith, few)))), rw (d.0, d.1.0, d.1.1) w)))
 
   module _ (s : List Bool) (q : List ℕ) (done end : ℕ) (w : Holds t i s q done end) where
     room : word 0 t ≤ length s
@@ -312,19 +311,19 @@ module _ (t : List ℕ) (h : searchable t ≡ true) (i : ℕ) (l : i < word 0 t)
     pub row_in : done < end → get_or q done 0 < word 0 t
     row_in n = w.1.1.1.in_rows done n
 
-    pub may-left : (f : Found) → f ≡ slot_row t 14 (get_or q done 0) → May f s q end
+    pub may-left : (f : Option ℕ) → f ≡ slot_row t 14 (get_or q done 0) → May f s q end
     may-left f e = (w.1.0 ∙ sym w.0, (rw e (slot_in_lem (length s) 14 (get_or q done 0) room), w.1.1.1.counted))
 
-    pub queue-stays : (f : Found) (s1 : List Bool) (q1 : List ℕ) (e1 : ℕ) → Entered f s q end s1 q1 e1 → 1024 ≡ length q1
+    pub queue-stays : (f : Option ℕ) (s1 : List Bool) (q1 : List ℕ) (e1 : ℕ) → Entered f s q end s1 q1 e1 → 1024 ≡ length q1
     queue-stays f s1 q1 e1 d = sym (ap length d.1.1 ∙ queued-length f s end q ∙ w.1.0)
 
-    pub may-right : (f g : Found) (s1 : List Bool) (q1 : List ℕ) (e1 : ℕ) → Entered f s q end s1 q1 e1 → g ≡ slot_row t 16 (get_or q done 0) → May g s1 q1 e1
+    pub may-right : (f g : Option ℕ) (s1 : List Bool) (q1 : List ℕ) (e1 : ℕ) → Entered f s q end s1 q1 e1 → g ≡ slot_row t 16 (get_or q done 0) → May g s1 q1 e1
     may-right f g s1 q1 e1 d e =
         let x : length s1 ≡ length s = ap length d.1.0 ∙ marked-length f s in
         let y : length q1 ≡ length q = ap length d.1.1 ∙ queued-length f s end q in
         (y ∙ w.1.0 ∙ sym (x ∙ w.0), (rw (x, e) (slot_in_lem (length s) 16 (get_or q done 0) room), d.0 ∙ ap marks (sym d.1.0)))
 
-    pub turned : (f g : Found) (s1 s2 : List Bool) (q1 q2 : List ℕ) (e1 e2 : ℕ) → done < end → f ≡ slot_row t 14 (get_or q done 0) → g ≡ slot_row t 16 (get_or q done 0)
+    pub turned : (f g : Option ℕ) (s1 s2 : List Bool) (q1 q2 : List ℕ) (e1 e2 : ℕ) → done < end → f ≡ slot_row t 14 (get_or q done 0) → g ≡ slot_row t 16 (get_or q done 0)
         → Entered f s q end s1 q1 e1 → Entered g s1 q1 e1 s2 q2 e2 → Holds t i s2 q2 (done + 1) e2
     turned f g s1 s2 q1 q2 e1 e2 n ef eg d k =
         let x : length s2 ≡ 1024 = ap length k.1.0 ∙ marked-length g s1 ∙ ap length d.1.0 ∙ marked-length f s ∙ w.0 in

@@ -1,9 +1,7 @@
 -- The walk over neighbour slots in a lane table: "The group walk starts with 1,024 lanes marked unseen."
-use Rattle.std.specs.Prelude.{ℕ, suc, Bool, true, false, cond, List, [], ◌∷◌, eqb, ltb, length, get_or, set, drop}
+use Rattle.std.specs.Prelude.{ℕ, suc, Bool, true, false, cond, List, [], ◌∷◌, eqb, ltb, length, get_or, set, drop, Option, None, Some}
 use Rattle.lists.specs.Rows.{keys, row_with}
 use Rattle.lists.specs.Select.{keep}
-use Rattle.lists.specs.declared.Found.{Found}
-use Rattle.lists.specs.declared.Found.TheVariants.{At, Nothing}
 use Rattle.entities.specs.Records.{Map}
 use Rattle.rules.specs.Map.{lateral_group}
 use Rattle.tables.specs.View.{word, rows, lane_of}
@@ -34,28 +32,28 @@ group_at t i = lateral_group (lane_map t) (word row_id (lane_at t i))
 -- ---- one slot
 
 -- the row of the lane that the slot at place k of row j names; nothing for an empty slot and for an absent lane
-unfoldable pub slot_row : List ℕ → ℕ → ℕ → Found
-slot_row t k j = cond (eqb (word k (lane_at t j)) 0) Nothing (row_with (word (suc k) (lane_at t j)) (ids_of t))
+unfoldable pub slot_row : List ℕ → ℕ → ℕ → Option ℕ
+slot_row t k j = cond (eqb (word k (lane_at t j)) 0) None (row_with (word (suc k) (lane_at t j)) (ids_of t))
 
 -- ---- marks of rows
 
-abbrev pub seen_within : ℕ → Found → Bool
-seen_within n Nothing = true
-seen_within n (At r) = ltb r n
+abbrev pub seen_within : ℕ → Option ℕ → Bool
+seen_within n None = true
+seen_within n (Some r) = ltb r n
 
 -- how many are marked
 unfoldable pub marks : List Bool → ℕ
 marks s = length (keep (λ b. b) s)
 
 -- a row that was found is marked
-abbrev pub seen_marked : Found → List Bool → List Bool
-seen_marked Nothing s = s
-seen_marked (At r) s = set s r true
+abbrev pub seen_marked : Option ℕ → List Bool → List Bool
+seen_marked None s = s
+seen_marked (Some r) s = set s r true
 
 -- a row that was found and is not marked goes into the queue, at its end
-abbrev pub queued : Found → List Bool → ℕ → List ℕ → List ℕ
-queued Nothing s end q = q
-queued (At r) s end q = cond (get_or s r false) q (set q end r)
+abbrev pub queued : Option ℕ → List Bool → ℕ → List ℕ → List ℕ
+queued None s end q = q
+queued (Some r) s end q = cond (get_or s r false) q (set q end r)
 
 -- the keys whose rows are marked
 unfoldable pub chosen : List Bool → List ℕ → List ℕ

@@ -9,31 +9,30 @@ ghost use Rattle.tables.specs.View.{word};
 ghost use Rattle.row_tests.specs.Returned.{searchable};
 ghost use Rattle.group.specs.Walk as G;
 
-use lists::Found;
 use tables::{LANE, LEFT_SLOT, RIGHT_SLOT};
 
 // As many marks as a map may have lanes.
 const LANES: usize = 1024;
 
 // The row of the lane that slot k of row j names.
-fn slot_row(lanes: &[u64], k: usize, j: usize) -> Found
+fn slot_row(lanes: &[u64], k: usize, j: usize) -> Option<usize>
     requires { (searchable lanes.now ≡ true) × (((k ≡ 14) ⊎ (k ≡ 16)) × (j < word 0 lanes.now)) }
     ensures { result ≡ G.slot_row lanes.now k j }
 {
     let at = 1 + j * LANE + k;
     if lanes[at] == 0 {
-        return Found::Nothing;
+        return None;
     }
     let n = lanes[0] as usize;
     find::find_row(&lanes[1..], LANE, n, lanes[at + 1])
 }
 
 // A row that was found is marked, and goes to the queue's end if it was not marked; where the queue ends then.
-fn enter(found: Found, seen: &mut [bool], queue: &mut [usize], end: usize) -> usize
+fn enter(found: Option<usize>, seen: &mut [bool], queue: &mut [usize], end: usize) -> usize
     requires { (length queue.old ≡ length seen.old) × ((G.seen_within (length seen.old) found ≡ true) × (end ≡ G.marks seen.old)) }
     ensures { (result ≡ G.marks (G.seen_marked found seen.old)) × ((seen.new ≡ G.seen_marked found seen.old) × (queue.new ≡ G.queued found seen.old end queue.old)) }
 {
-    let Found::At(row) = found else {
+    let Some(row) = found else {
         return end;
     };
     if seen[row] {
@@ -44,13 +43,14 @@ fn enter(found: Found, seen: &mut [bool], queue: &mut [usize], end: usize) -> us
     end + 1
 }
 
-// The marks of the group of the lane in row i. Each lane is entered once, and its two slots are looked at once.
+// The marks of the group of the lane in row i. Each lane is entered once, and its two slots are looked at once. The queue grows while it is gone through, in an
+// array of a lane's room (no heap), so no range counts it.
 pub fn lateral_group(lanes: &[u64], i: usize, seen: &mut [bool])
     requires { (searchable lanes.now ≡ true) × ((i < word 0 lanes.now) × ((length seen.old ≡ 1024) × (all not seen.old ≡ true))) }
     ensures { seen.new ≡ over seen.old 0 (map (λ k. has k (G.group_at lanes.now i)) (G.ids_of lanes.now)) }
 {
     let mut queue: [usize; LANES] = [0; LANES];
-    let mut end = enter(Found::At(i), seen, &mut queue, 0);
+    let mut end = enter(Some(i), seen, &mut queue, 0);
     let mut done = 0;
     while done < end {
         let j = queue[done];
@@ -67,13 +67,11 @@ fn marked_ids(lanes: &[u64], seen: &[bool], out: &mut [u64]) -> usize
 {
     let n = lanes[0] as usize;
     let mut count = 0;
-    let mut j = 0;
-    while j < n {
+    for j in 0..n {
         if seen[j] {
             out[count] = lanes[1 + j * LANE];
             count += 1;
         }
-        j += 1;
     }
     count
 }

@@ -1,18 +1,16 @@
 -- A list of ids that gains each cut lane's second half: the pairs of cut lanes and their numbers, and one turn of the loop from the back. Assumes nothing.
+use Rattle.std.specs.Prelude.{Option, None, Some}
 use mathlib.Core.Path.{◌≡◌, refl, sym, ap, ◌∙◌}
 use Prim.Native.Nat.{ℕ, zero, suc, ◌+◌, ◌-◌, ◌≤◌, ◌<◌}
 use native.Mathlib.Numerals.{add-one}
 use native.Mathlib.Omega.{arith}
 use mathlib.Core.Bool.{Bool, true, false, ◌||◌, cond, true≢false}
 use mathlib.Core.List.{List, [], ◌∷◌, ◌++◌, map, append-nil}
-use mathlib.Core.Option.{Option, none, some}
 use lib.Dec.{eqb}
 use lib.ListN.{length, get_or, set, take, drop, length-append, length-map, take-append-drop, drop_of_length-le}
 use lib.Seq.{length-take-le, take_all, take-suc, take-take, get_or-take}
 use borrow.Author.Tests.{eq-eqb, ne_eqb}
-use Rattle.lists.specs.declared.Found.{Found}
 use Rattle.grow.specs.declared.Moved.{Moved}
-use Rattle.lists.specs.declared.Found.TheVariants.{At, Nothing}
 use Rattle.lists.specs.Select.{keep, any, find, each, has, second_of, with_second, insert_after, numbered, behind_first, written_behind}
 use Rattle.lists.specs.Rows.{over, keys, later, row_with}
 use Rattle.grow.specs.Moves.{moved_to}
@@ -23,9 +21,9 @@ use Rattle.lists.proofs.Rows.{length_over, get_d_over-before, over-nil, over-fro
 -- ---- ids beside their numbers
 
 -- the number of the row that was found
-abbrev pub number_at : ℕ → Found → Option ℕ
-number_at next (At r) = some (next + r)
-number_at next Nothing = none
+abbrev pub number_at : ℕ → Option ℕ → Option ℕ
+number_at next (Some r) = Some (next + r)
+number_at next None = None
 
 pub firsts-numbered : (next : ℕ) (cut : List ℕ) → map (λ h. h.0) (numbered next cut) ≡ cut
 unfolding numbered
@@ -47,41 +45,41 @@ second-numbered next i [] = refl
 second-numbered next i (c ∷ cut) = go (eqb c i) (find (λ h. eqb h.0 i) (numbered (suc next) cut)) (row_with i cut) (second-numbered (suc next) i cut)
   where
     number : Option (ℕ × ℕ) → Option ℕ
-    number o = elim o [ none ↦ none | some h ↦ some h.1 ]
+    number o = elim o [ None ↦ None | Some h ↦ Some h.1 ]
 
-    go : (b : Bool) (o : Option (ℕ × ℕ)) (r : Found) → number o ≡ number_at (suc next) r → number (cond b (some (c, next)) o) ≡ number_at next (cond b (At 0) (later r))
-    go true o r h = let e : next ≡ next + 0 = omega arith in ap some e
-    go false o (At r) h = let e : suc next + r ≡ next + suc r = omega arith in h ∙ ap some e
-    go false o Nothing h = h
+    go : (b : Bool) (o : Option (ℕ × ℕ)) (r : Option ℕ) → number o ≡ number_at (suc next) r → number (cond b (Some (c, next)) o) ≡ number_at next (cond b (Some 0) (later r))
+    go true o r h = let e : next ≡ next + 0 = omega arith in ap Some e
+    go false o (Some r) h = let e : suc next + r ≡ next + suc r = omega arith in h ∙ ap Some e
+    go false o None h = h
 
 -- an id with its number behind it
 abbrev beside : ℕ → Option ℕ → List ℕ
-beside i none = i ∷ []
-beside i (some j) = i ∷ j ∷ []
+beside i None = i ∷ []
+beside i (Some j) = i ∷ j ∷ []
 
 by-beside : (hs : List (ℕ × ℕ)) (i : ℕ) (o : Option ℕ) → second_of hs i ≡ o → with_second hs i ≡ beside i o
-by-beside hs i none e = ap (λ (q : Option ℕ). elim q as (λ p. List ℕ) [ none ↦ i ∷ [] | some j ↦ i ∷ j ∷ [] ]) e
-by-beside hs i (some j) e = ap (λ (q : Option ℕ). elim q as (λ p. List ℕ) [ none ↦ i ∷ [] | some k ↦ i ∷ k ∷ [] ]) e
+by-beside hs i None e = ap (λ (q : Option ℕ). elim q as (λ p. List ℕ) [ None ↦ i ∷ [] | Some j ↦ i ∷ j ∷ [] ]) e
+by-beside hs i (Some j) e = ap (λ (q : Option ℕ). elim q as (λ p. List ℕ) [ None ↦ i ∷ [] | Some k ↦ i ∷ k ∷ [] ]) e
 
 module _ (next i : ℕ) (cut : List ℕ) where
-  pub second-cut : (r : ℕ) → row_with i cut ≡ At r → with_second (numbered next cut) i ≡ i ∷ (next + r) ∷ []
-  second-cut r e = by-beside (numbered next cut) i (some (next + r)) (second-numbered next i cut ∙ ap (number_at next) e)
+  pub second-cut : (r : ℕ) → row_with i cut ≡ Some r → with_second (numbered next cut) i ≡ i ∷ (next + r) ∷ []
+  second-cut r e = by-beside (numbered next cut) i (Some (next + r)) (second-numbered next i cut ∙ ap (number_at next) e)
 
-  pub second-uncut : row_with i cut ≡ Nothing → with_second (numbered next cut) i ≡ i ∷ []
-  second-uncut e = by-beside (numbered next cut) i none (second-numbered next i cut ∙ ap (number_at next) e)
+  pub second-uncut : row_with i cut ≡ None → with_second (numbered next cut) i ≡ i ∷ []
+  second-uncut e = by-beside (numbered next cut) i None (second-numbered next i cut ∙ ap (number_at next) e)
 
 -- ---- an id moved up with its second half
 
-module _ (w cut : List ℕ) (next i to : ℕ) (h : i + 1 < to) (m : to ≤ length w) (f : Found) (e : f ≡ row_with (get_or w i 0) (keys 1 (length cut) cut)) where
+module _ (w cut : List ℕ) (next i to : ℕ) (h : i + 1 < to) (m : to ≤ length w) (f : Option ℕ) (e : f ≡ row_with (get_or w i 0) (keys 1 (length cut) cut)) where
   abbrev becomes : List ℕ
   becomes = with_second (numbered next cut) (get_or w i 0)
 
-  pub moved-one : f ≡ Nothing → (◌≡◌ {A = Moved} (record { to = to - 1; written = 1 }) (moved_to i to becomes)) × (set w (to - 1) (get_or w i 0) ≡ over w (to - 1) becomes)
+  pub moved-one : f ≡ None → (◌≡◌ {A = Moved} (record { to = to - 1; written = 1 }) (moved_to i to becomes)) × (set w (to - 1) (get_or w i 0) ≡ over w (to - 1) becomes)
   moved-one q =
       let u : becomes ≡ get_or w i 0 ∷ [] = second-uncut next (get_or w i 0) cut (one_found (get_or w i 0) cut f e ∙ q) in
       rw u (rw (ne_eqb (to - 1) i (λ z. omega arith)), store_at w (to - 1) (get_or w i 0) (omega arith))
 
-  module _ (r : ℕ) (q : f ≡ At r) where
+  module _ (r : ℕ) (q : f ≡ Some r) where
     two : becomes ≡ get_or w i 0 ∷ (next + r) ∷ []
     two = second-cut next (get_or w i 0) cut r (one_found (get_or w i 0) cut f e ∙ q)
 
@@ -114,8 +112,8 @@ module _ (hs : List (ℕ × ℕ)) where
   -- an id stands before its second half
   first_any : (z : ℕ) (o : Option ℕ) → first z ≡ true → any first (beside z o) ≡ true
   unfolding any
-  first_any z none h = or_left (first z) false h
-  first_any z (some j) h = or_left (first z) (any first (j ∷ [])) h
+  first_any z None h = or_left (first z) false h
+  first_any z (Some j) h = or_left (first z) (any first (j ∷ [])) h
 
   any-after : (xs : List ℕ) → any first xs ≡ true → any first (insert_after hs xs) ≡ true
   unfolding any
@@ -129,8 +127,8 @@ module _ (hs : List (ℕ × ℕ)) where
   -- of an id and its second half the second half stands behind the first cut lane
   first-behind : (z : ℕ) (o : Option ℕ) → first z ≡ true → length (behind_first first (beside z o)) ≡ length (beside z o) - 1
   unfolding behind_first
-  first-behind z none h = rw h
-  first-behind z (some j) h = rw h
+  first-behind z None h = rw h
+  first-behind z (Some j) h = rw h
 
   second-behind : (z : ℕ) → length (behind_first first (with_second hs z)) ≡ length (with_second hs z) - 1
   second-behind z = go (first z) refl

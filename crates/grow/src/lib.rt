@@ -1,4 +1,4 @@
-// Lists that grow: each cut lane is followed by its second half.
+// Lists that grow: each cut lane is followed by its second half. A list's n ids are the front of the slots of a lent row, which it grows into: fixed memory.
 #![tactic(auto)]
 
 ghost use Rattle.std.specs.Prelude.{◌≡◌, true, ◌+◌, ◌-◌, ◌^◌, ◌≤◌, ◌<◌, length, get_or, take};
@@ -6,20 +6,16 @@ ghost use Rattle.lists.specs.Select.{keep, has, ascending, with_second, insert_a
 ghost use Rattle.lists.specs.Rows.{over};
 ghost use Rattle.grow.specs.Moves.{moved_to};
 
-use lists::Found;
-
 // How many ids of a list of n ids stand in an ascending list of cut lanes.
 pub fn count_cut(ids: &[u64], n: usize, cut: &[u64]) -> usize
     requires { (n ≤ length ids.now) × (ascending cut.now ≡ true) }
     ensures { result ≡ length (keep (λ i. has i cut.now) (take n ids.now)) }
 {
-    let mut i = 0;
     let mut count = 0;
-    while i < n {
-        if let Found::At(_) = rank::rank(cut, ids[i]) {
+    for i in 0..n {
+        if let Some(_) = rank::rank(cut, ids[i]) {
             count += 1;
         }
-        i += 1;
     }
     count
 }
@@ -38,7 +34,7 @@ fn move_up(slots: &mut [u64], i: usize, to: usize, cut: &[u64], next: u64) -> Mo
 {
     let id = slots[i];
     let last = to - 1;
-    let Found::At(r) = rank::rank(cut, id) else {
+    let Some(r) = rank::rank(cut, id) else {
         slots[last] = id;
         return Moved {
             to: last,
@@ -66,7 +62,7 @@ pub struct Grown {
 }
 
 // Each cut lane's second half put after every occurrence of its first in a list of n ids; the second half of the cut lane at place r is next + r. In place, from
-// the back: an id is written once, and none before or at the first cut lane. The slots past the list stay.
+// the back: an id is written once, and none before or at the first cut lane. The slots past the list stay. The two ends move by what was written, so no range counts them.
 pub fn grow(slots: &mut [u64], n: usize, cut: &[u64], next: u64) -> Grown
     requires { (n ≤ length slots.old) × ((ascending cut.now ≡ true) × ((next + length cut.now ≤ 2 ^ 64) × (length (insert_after (numbered next cut.now) (take n slots.old)) ≤ length slots.old))) }
     ensures { (result ≡ record { count = length (insert_after (numbered next cut.now) (take n slots.old)); written = written_behind (numbered next cut.now) (take n slots.old) }) × (slots.new ≡ over slots.old 0 (insert_after (numbered next cut.now) (take n slots.old))) }

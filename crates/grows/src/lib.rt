@@ -23,11 +23,9 @@ pub fn grow_rows(t: &mut [u64], s: usize, k: usize, cut: &[u64], next: u64)
     ensures { t.new ≡ on_rows s (G.grows_at next cut.now k) t.old }
 {
     let n = t[0] as usize;
-    let mut i = 0;
-    while i < n {
+    for i in 0..n {
         let at = 1 + i * s;
         let end = at + s;
         grow_list(&mut t[at..end], k, cut, next);
-        i += 1;
     }
 }

@@ -15,10 +15,8 @@ fn shift_down(c: &mut [f64], start: usize, n: usize, at: usize)
     requires { (at ≤ start) × (start + n ≤ length c.old) }
     ensures { c.new ≡ over c.old at (take n (drop start c.old)) }
 {
-    let mut i = 0;
-    while i < n {
+    for i in 0..n {
         c[at + i] = c[start + i];
-        i += 1;
     }
 }
 
@@ -27,9 +25,7 @@ fn shift_up(c: &mut [f64], start: usize, n: usize, at: usize)
     requires { (start ≤ at) × (at + n ≤ length c.old) }
     ensures { c.new ≡ over c.old at (take n (drop start c.old)) }
 {
-    let mut i = n;
-    while 0 < i {
-        i -= 1;
+    for i in (0..n).rev() {
         c[at + i] = c[start + i];
     }
 }

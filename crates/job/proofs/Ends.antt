@@ -1,4 +1,6 @@
 -- The tests before a job's first edit, and a job on the front of the second area. Assumes nothing.
+use Rattle.jobs.specs.Answers.{JobAnswer}
+use Rattle.std.specs.Prelude.{Result, Ok, Err, ⊤}
 use mathlib.Core.Path.{◌≡◌, refl, sym, ap, ◌∙◌}
 use mathlib.Core.Bool.{Bool, true, false}
 use Prim.Native.Nat.{ℕ}
@@ -12,41 +14,42 @@ use Rattle.tables.specs.Formed.{sound_tables}
 use Rattle.step.specs.Step.{Lent, lists_of}
 use Rattle.step.specs.Run.{Held}
 use Rattle.jobs.specs.declared.Job.{Job}
-use Rattle.jobs.specs.declared.JobAnswer.{JobAnswer}
-use Rattle.jobs.specs.declared.JobAnswer.TheVariants.{NoRoom, TooManyEdits, Unsound}
+use Rattle.jobs.specs.declared.JobRefusal.{JobRefusal}
+use Rattle.jobs.specs.declared.JobRefusal.TheVariants.{NoRoom, TooManyEdits, Unsound}
 use Rattle.jobs.specs.Job.{Run, done, stopped, max_edits, net}
 use Rattle.area.specs.Area.{area_fits, copied, put_back}
 use Rattle.job_step.specs.Job.{JobEnded, JobLent, ending, job_step, refusing, job_ended}
 use Rattle.job_step.proofs.Area.{copied-front}
 use Rattle.job_step.proofs.Ends.{job_too_many, job_unsound, job-short}
 use Rattle.job.specs.First.{first_tests}
-use Rattle.job.specs.declared.First.{First}
-use Rattle.job.specs.declared.First.TheVariants.{Passed, Refused}
 
 -- ---- the first tests
 
-clash : {A : Type 0} (a : JobAnswer) → Passed ≡ Refused a → A
+abbrev First : Type 0
+First = Result ⊤ JobRefusal
+
+clash : {A : Type 0} (a : JobRefusal) → ◌≡◌ {A = First} (Ok tt) (Err a) → A
 clash a e = absurd (nothing cc)
   where
     nothing : ◌≡◌ {A = ℕ} 0 1 → ⊥
     nothing z = omega arith
 
-same_answer : (a b : JobAnswer) → Refused a ≡ Refused b → a ≡ b
+same_answer : (a b : JobRefusal) → ◌≡◌ {A = First} (Err a) (Err b) → a ≡ b
 same_answer a b e = cc
 
 module _ (counter : ℕ) (t : Tables) (edits : ℕ) (area : Tables) where
-  pub many-refused : leb edits max_edits ≡ false → first_tests counter t edits area ≡ Refused TooManyEdits
+  pub many-refused : leb edits max_edits ≡ false → first_tests counter t edits area ≡ Err TooManyEdits
   many-refused h = rw h
 
   module _ (few : leb edits max_edits ≡ true) where
-    pub unsound_refused : sound_tables counter t ≡ false → first_tests counter t edits area ≡ Refused Unsound
+    pub unsound_refused : sound_tables counter t ≡ false → first_tests counter t edits area ≡ Err Unsound
     unsound_refused h = rw (few, h)
 
     module _ (sane : sound_tables counter t ≡ true) where
-      pub short-refused : area_fits t area ≡ false → first_tests counter t edits area ≡ Refused NoRoom
+      pub short-refused : area_fits t area ≡ false → first_tests counter t edits area ≡ Err NoRoom
       short-refused h = rw (few, sane, h)
 
-      pub all-passed : area_fits t area ≡ true → first_tests counter t edits area ≡ Passed
+      pub all-passed : area_fits t area ≡ true → first_tests counter t edits area ≡ Ok tt
       all-passed h = rw (few, sane, h)
 
 module _ (l : JobLent) (j : Job) where
@@ -56,21 +59,21 @@ module _ (l : JobLent) (j : Job) where
   abbrev t : Tables
   t = l.lent.tables
 
-  pub tests-refused : (tol : Tolerance) (x : First) (a : JobAnswer) → x ≡ first_tests k t j.count l.area → x ≡ Refused a
-      → job_step tol j l ≡ refusing l.lent l.area a
+  pub tests-refused : (tol : Tolerance) (x : First) (a : JobRefusal) → x ≡ first_tests k t j.count l.area → x ≡ Err a
+      → job_step tol j l ≡ refusing l.lent l.area (Err a)
   tests-refused tol x a e h = go (leb j.count max_edits) refl (sound_tables k t) refl (area_fits t l.area) refl
     where
-      told : (b : JobAnswer) → first_tests k t j.count l.area ≡ Refused b → refusing l.lent l.area b ≡ refusing l.lent l.area a
-      told b p = ap (refusing l.lent l.area) (same_answer b a (sym p ∙ (sym e ∙ h)))
+      told : (b : JobRefusal) → first_tests k t j.count l.area ≡ Err b → refusing l.lent l.area (Err b) ≡ refusing l.lent l.area (Err a)
+      told b p = ap (λ z. refusing l.lent l.area (Err z)) (same_answer b a (sym p ∙ (sym e ∙ h)))
 
       go : (few : Bool) → leb j.count max_edits ≡ few → (sane : Bool) → sound_tables k t ≡ sane → (fits : Bool) → area_fits t l.area ≡ fits
-          → job_step tol j l ≡ refusing l.lent l.area a
+          → job_step tol j l ≡ refusing l.lent l.area (Err a)
       go false p sane q fits r = job_too_many tol j l p ∙ told TooManyEdits (many-refused k t j.count l.area p)
       go true p false q fits r = job_unsound tol j l p q ∙ told Unsound (unsound_refused k t j.count l.area p q)
       go true p true q false r = job-short tol j l p q r ∙ told NoRoom (short-refused k t j.count l.area p q r)
       go true p true q true r = clash a (sym (all-passed k t j.count l.area p q r) ∙ (sym e ∙ h))
 
-  pub tests-passed : (x : First) → x ≡ first_tests k t j.count l.area → x ≡ Passed
+  pub tests-passed : (x : First) → x ≡ first_tests k t j.count l.area → x ≡ Ok tt
       → (leb j.count max_edits ≡ true) × ((sound_tables k t ≡ true) × (area_fits t l.area ≡ true))
   tests-passed x e h = go (leb j.count max_edits) refl (sound_tables k t) refl (area_fits t l.area) refl
     where

@@ -10,14 +10,7 @@ ghost use Rattle.job.specs.First.{first_tests};
 
 use entities::Tolerance;
 use job_decided::JobEnd;
-use jobs::{Job, JobAnswer, MAX_EDITS};
-
-// What the tests before the first edit come to.
-#[derive(Clone, Copy)]
-enum First {
-    Passed,
-    Refused(JobAnswer),
-}
+use jobs::{Job, JobRefusal, MAX_EDITS};
 
 // The tests before the first edit, in document 02's order: how many edits, the map, the area.
 fn first_tests(
@@ -39,11 +32,11 @@ fn first_tests(
     old_stop_lines: &[u64],
     old_crosswalks: &[u64],
     old_coordinates: &[f64],
-) -> First
+) -> Result<(), JobRefusal>
     ensures { result ≡ first_tests counter (tables_of lanes.now boundaries.now roads.now junctions.now rules.now stop_lines.now crosswalks.now coordinates.now) edits (tables_of old_lanes.now old_boundaries.now old_roads.now old_junctions.now old_rules.now old_stop_lines.now old_crosswalks.now old_coordinates.now) }
 {
     if MAX_EDITS < edits {
-        return First::Refused(JobAnswer::TooManyEdits);
+        return Err(JobRefusal::TooManyEdits);
     }
     if !sound_map::sound(
         counter,
@@ -56,7 +49,7 @@ fn first_tests(
         crosswalks,
         coordinates,
     ) {
-        return First::Refused(JobAnswer::Unsound);
+        return Err(JobRefusal::Unsound);
     }
     if !area::fits(
         lanes,
@@ -76,9 +69,9 @@ fn first_tests(
         old_crosswalks,
         old_coordinates,
     ) {
-        return First::Refused(JobAnswer::NoRoom);
+        return Err(JobRefusal::NoRoom);
     }
-    First::Passed
+    Ok(())
 }
 
 // Makes the job on the map that is lent, or refuses it: what it leaves of the counter, and its answer. The second area begins with the map's slices as they
@@ -130,8 +123,11 @@ pub fn apply(
         old_crosswalks,
         old_coordinates,
     );
-    if let First::Refused(answer) = first {
-        return JobEnd { counter, answer };
+    if let Err(refusal) = first {
+        return JobEnd {
+            counter,
+            answer: Err(refusal),
+        };
     }
     area::keep_copy(
         lanes,

@@ -5,8 +5,7 @@ ghost use Rattle.std.specs.Prelude.{◌≡◌, [], length};
 ghost use Rattle.tables.specs.View.{tables_of};
 ghost use Rattle.job_decided.specs.Decided as D;
 
-use job_run::Ran;
-use jobs::JobAnswer;
+use jobs::{Done, JobAnswer, JobRefusal, RefusedEdit};
 
 // What a job leaves of the counter, and its answer.
 #[derive(Clone, Copy)]
@@ -36,7 +35,7 @@ pub fn decided(
     all_created: &mut [u64],
     all_modified: &mut [u64],
     all_deleted: &mut [u64],
-    ran: Ran,
+    ran: Result<Done, RefusedEdit>,
     created: &[u64],
     modified: &[u64],
     deleted: &[u64],
@@ -46,14 +45,14 @@ pub fn decided(
     ensures { D.DecidedAs counter (tables_of lanes.now boundaries.now roads.now junctions.now rules.now stop_lines.now crosswalks.now []) (tables_of old_lanes.now old_boundaries.now old_roads.now old_junctions.now old_rules.now old_stop_lines.now old_crosswalks.now []) marks.now all_created.old all_modified.old all_deleted.old ran created.now modified.now deleted.now warnings.now result all_created.new all_modified.new all_deleted.new }
 {
     match ran {
-        Ran::Stopped { place, refusal } => JobEnd {
+        Err(stopped) => JobEnd {
             counter,
-            answer: JobAnswer::EditRefused { place, refusal },
+            answer: Err(JobRefusal::EditRefused {
+                place: stopped.place,
+                refusal: stopped.refusal,
+            }),
         },
-        Ran::Done {
-            counter: next,
-            warnings: told,
-        } => {
+        Ok(done) => {
             let n = job_net::net_lists(
                 lanes,
                 boundaries,
@@ -73,17 +72,17 @@ pub fn decided(
                 all_created,
                 all_modified,
                 all_deleted,
-                told,
+                done.warnings,
             );
             if !room::lists_fit(n, created, modified, deleted, warnings) {
                 return JobEnd {
                     counter,
-                    answer: JobAnswer::NoRoom,
+                    answer: Err(JobRefusal::NoRoom),
                 };
             }
             JobEnd {
-                counter: next,
-                answer: JobAnswer::Made(n),
+                counter: done.counter,
+                answer: Ok(n),
             }
         }
     }

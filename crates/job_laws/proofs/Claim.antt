@@ -1,4 +1,5 @@
 -- Demand 3 over every list in which edits and jobs stand side by side, from any sound map, with any tolerances and any room. Assumes nothing.
+use Rattle.std.specs.Prelude.{Ok, Err}
 use mathlib.Core.Path.{◌≡◌, refl, sym, ap, ◌∙◌, subst}
 use mathlib.Core.Bool.{Bool, true, false, cond}
 use mathlib.Core.List.{List, [], ◌∷◌, ◌++◌}
@@ -9,7 +10,7 @@ use Rattle.rules.specs.Ops.{State, Call, fits_lists, step_map, after}
 use Rattle.report.specs.Report.{counts}
 use Rattle.laws.proofs.Law.{step_kept}
 use Rattle.laws.proofs.Claim.{lawful, claim_3}
-use Rattle.jobs.specs.declared.JobAnswer.TheVariants.{Made, TooManyEdits, Unsound, NoRoom}
+use Rattle.jobs.specs.declared.JobRefusal.TheVariants.{TooManyEdits, Unsound, NoRoom}
 use Rattle.jobs.specs.Job.{JobCall, JobOutcome, Run, done, stopped, max_edits, commands, edits, net, refused_job, finish_job, job_map}
 use Rattle.job_laws.specs.Deeds.{Deed, an_edit, a_job, state_behind, after_all, job_calls, calls_for, written_out, JobTold, DeedTold, AllDeedsTold, DeedClaim3}
 use Rattle.job_laws.proofs.Edits.{edits-after}
@@ -33,7 +34,7 @@ module _ (tol : Tolerance) (room : Room) (s : State) (sane : sound s.counter s.m
   finished c (done t css) h = listed (fits_lists c.lists (net s.map t.map css))
     where
       listed : (b : Bool)
-          → JobEnds c (cond b (record { state = t; changes = net s.map t.map css; answer = Made (counts (net s.map t.map css)) }) (refused_job s NoRoom))
+          → JobEnds c (cond b (record { state = t; changes = net s.map t.map css; answer = Ok (counts (net s.map t.map css)) }) (refused_job s (Err NoRoom)))
       listed true = (edits-after tol room 1 (commands c.job) s t css sane h, (net-exact tol room 1 (commands c.job) s t css sane h, refl))
       listed false = (refl, refl)
 
@@ -42,7 +43,7 @@ module _ (tol : Tolerance) (room : Room) (s : State) (sane : sound s.counter s.m
   job-ends c = go (leb c.job.count max_edits) (sound s.counter s.map) c.area
     where
       go : (few sane area : Bool)
-          → JobEnds c (cond few (cond sane (cond area (finish_job c.lists s (edits tol room 1 (commands c.job) s)) (refused_job s NoRoom)) (refused_job s Unsound)) (refused_job s TooManyEdits))
+          → JobEnds c (cond few (cond sane (cond area (finish_job c.lists s (edits tol room 1 (commands c.job) s)) (refused_job s (Err NoRoom))) (refused_job s (Err Unsound))) (refused_job s (Err TooManyEdits)))
       go true true true = finished c (edits tol room 1 (commands c.job) s) refl
       go true true false = (refl, refl)
       go true false area = (refl, refl)

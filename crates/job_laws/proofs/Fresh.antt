@@ -1,8 +1,9 @@
 -- What an edit creates has ids from the next one on. Assumes nothing, of the map too.
+use Rattle.std.specs.Prelude.{Option, None, Some, Ok}
+use Rattle.entities.specs.declared.Neighbor.{Neighbor}
 use mathlib.Core.Path.{◌≡◌, refl, sym, ap, ◌∙◌, subst}
 use mathlib.Core.Bool.{Bool, true, not}
 use mathlib.Core.List.{List, [], ◌∷◌, ◌++◌, map}
-use mathlib.Core.Option.{Option, none, some}
 use Prim.Native.Nat.{ℕ, suc, ◌+◌, ◌≤◌}
 use native.Mathlib.Omega.{arith}
 use lib.Dec.{eqb, leb}
@@ -22,13 +23,11 @@ use Rattle.entities.specs.declared.BoundaryRef.{BoundaryRef}
 use Rattle.entities.specs.declared.EntityKind.{EntityKind}
 use Rattle.entities.specs.declared.EntityKind.TheVariants as K
 use Rattle.entities.specs.declared.EntityRef.{EntityRef}
-use Rattle.entities.specs.declared.OptionNeighbor.{OptionNeighbor}
 use Rattle.entities.specs.declared.Refusal.TheVariants as R
-use Rattle.entities.specs.Types.{neighbor_option}
 use Rattle.entities.specs.Records.{Lane, Boundary, Map}
 use Rattle.rules.specs.Map.{boundary, centerline, flat_point}
 use Rattle.rules.specs.Sound.{next_id}
-use Rattle.rules.specs.Edit.{yield, check, require, Edited, require_lane, require_neighbor, refs, connect, disconnect, set_neighbor}
+use Rattle.rules.specs.Edit.{check, require, Edited, require_lane, require_neighbor, refs, connect, disconnect, set_neighbor, Res}
 use Rattle.rules.specs.Lane.{remove_lane}
 use Rattle.rules.specs.Merge.{SidePlan, kept, in_place, fresh, side_plan, plan_ids, new_boundary, merged, merge_lanes}
 use Rattle.rules.specs.Split.{LanePlan, pieces_ids, new_pieces, halves, cut_station, cuttable, lane_plans, all_cross, cut, group_of, split_lane}
@@ -47,7 +46,7 @@ From next es = all (λ e. leb next e.id) es ≡ true
 abbrev CreatedFrom : ℕ → Edited → Type 0
 CreatedFrom next e = From next e.changes.created
 
-by-yield : (next : ℕ) {x e : Edited} → yield x ≡ yield e → CreatedFrom next x → CreatedFrom next e
+by-yield : (next : ℕ) {x e : Edited} → ◌≡◌ {A = Res Edited} (Ok x) (Ok e) → CreatedFrom next x → CreatedFrom next e
 by-yield next h t = subst (CreatedFrom next) (yields h) t
 
 refs-from : (next : ℕ) (k : EntityKind) (ids : List ℕ) → all (leb next) ids ≡ true → From next (refs k ids)
@@ -64,9 +63,9 @@ side-from m (in_place c) next i r h = all_nil (λ (x : Boundary). leb next x.id)
 side-from m (fresh c) next i r h = go (boundary m r.boundary)
   where
     go : (o : Option Boundary)
-        → all (λ (x : Boundary). leb next x.id) (elim o [ none ↦ [] | some b ↦ record { id = i; kind = b.kind; geometry = c; attributes = b.attributes } ∷ [] ]) ≡ true
-    go none = all_nil (λ (x : Boundary). leb next x.id)
-    go (some b) =
+        → all (λ (x : Boundary). leb next x.id) (elim o [ None ↦ [] | Some b ↦ record { id = i; kind = b.kind; geometry = c; attributes = b.attributes } ∷ [] ]) ≡ true
+    go None = all_nil (λ (x : Boundary). leb next x.id)
+    go (Some b) =
         all_cons (λ (x : Boundary). leb next x.id) (record { id = i; kind = b.kind; geometry = c; attributes = b.attributes }) [] (le-leb next i h)
         (all_nil (λ (x : Boundary). leb next x.id))
 
@@ -102,7 +101,7 @@ module _ (tol : Tolerance) (s : State) (e : Edited) where
   abbrev next : ℕ
   next = next_id s.counter
 
-  connect-from : (a b : ℕ) → edit tol (ConnectLanes a b) s ≡ yield e → CreatedFrom next e
+  connect-from : (a b : ℕ) → edit tol (ConnectLanes a b) s ≡ Ok e → CreatedFrom next e
   unfolding edit connect
   connect-from a b h =
       let m = s.map in
@@ -111,7 +110,7 @@ module _ (tol : Tolerance) (s : State) (e : Edited) where
       let (ok, e3, h3) = bound (check (not (eqb a b)) (R.OwnPartner a)) _ e h2 in
       by-yield next h3 (none_from next)
 
-  disconnect-from : (a b : ℕ) → edit tol (DisconnectLanes a b) s ≡ yield e → CreatedFrom next e
+  disconnect-from : (a b : ℕ) → edit tol (DisconnectLanes a b) s ≡ Ok e → CreatedFrom next e
   unfolding edit disconnect
   disconnect-from a b h =
       let m = s.map in
@@ -119,19 +118,19 @@ module _ (tol : Tolerance) (s : State) (e : Edited) where
       let (to, e2, h2) = bound (require_lane m b) _ e h1 in
       by-yield next h2 (none_from next)
 
-  set_neighbor_from : (a : ℕ) (side : Side) (new : OptionNeighbor) → edit tol (SetNeighbor a side new) s ≡ yield e → CreatedFrom next e
+  set_neighbor_from : (a : ℕ) (side : Side) (new : Option Neighbor) → edit tol (SetNeighbor a side new) s ≡ Ok e → CreatedFrom next e
   unfolding edit set_neighbor
   set_neighbor_from a side new h =
       let m = s.map in
       let (l, e1, h1) = bound (require_lane m a) _ e h in
-      let (ok, e2, h2) = bound (require_neighbor m a (neighbor_option new)) _ e h1 in
+      let (ok, e2, h2) = bound (require_neighbor m a new) _ e h1 in
       by-yield next h2 (none_from next)
 
-  remove-from : (a : ℕ) → edit tol (RemoveLane a) s ≡ yield e → CreatedFrom next e
+  remove-from : (a : ℕ) → edit tol (RemoveLane a) s ≡ Ok e → CreatedFrom next e
   unfolding edit remove_lane
   remove-from a h = let (gone, e1, h1) = bound (require_lane s.map a) _ e h in by-yield next h1 (none_from next)
 
-  merge-from : (a b : ℕ) → edit tol (MergeLanes a b) s ≡ yield e → CreatedFrom next e
+  merge-from : (a b : ℕ) → edit tol (MergeLanes a b) s ≡ Ok e → CreatedFrom next e
   unfolding edit merge_lanes
   merge-from a b h =
       let m = s.map in
@@ -144,7 +143,7 @@ module _ (tol : Tolerance) (s : State) (e : Edited) where
       let (pr, er, h7) = bound (side_plan tol m S.Right la lb) _ e h6 in
       by-yield next h7 (merged-from tol next m la lb pl pr)
 
-  split_from : (i : ℕ) (at : SplitAt) (neighbors : Bool) → edit tol (SplitLane i at neighbors) s ≡ yield e → CreatedFrom next e
+  split_from : (i : ℕ) (at : SplitAt) (neighbors : Bool) → edit tol (SplitLane i at neighbors) s ≡ Ok e → CreatedFrom next e
   unfolding edit split_lane
   split_from i at neighbors h =
       let m = s.map in
@@ -159,7 +158,7 @@ module _ (tol : Tolerance) (s : State) (e : Edited) where
       by-yield next h7 (cut-from tol next m i group p ps)
 
 -- every command, on every map
-pub created-from : (tol : Tolerance) (c : Command) (s : State) (e : Edited) → edit tol c s ≡ yield e → all (λ x. leb (next_id s.counter) x.id) e.changes.created ≡ true
+pub created-from : (tol : Tolerance) (c : Command) (s : State) (e : Edited) → edit tol c s ≡ Ok e → all (λ x. leb (next_id s.counter) x.id) e.changes.created ≡ true
 created-from tol (SplitLane i at neighbors) s e = split_from tol s e i at neighbors
 created-from tol (MergeLanes a b) s e = merge-from tol s e a b
 created-from tol (ConnectLanes a b) s e = connect-from tol s e a b

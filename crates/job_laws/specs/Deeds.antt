@@ -1,14 +1,13 @@
 -- Demand 3, as a statement, over lists in which edits and jobs stand side by side.
-use Rattle.std.specs.Prelude.{◌≡◌, true, List, [], ◌∷◌, ◌++◌, length}
+use Rattle.jobs.specs.Answers.{JobAnswer}
+use Rattle.std.specs.Prelude.{◌≡◌, true, List, [], ◌∷◌, ◌++◌, length, Err, Ok}
 use Rattle.entities.specs.Records.{ChangeSet}
 use Rattle.rules.specs.Names.{Tolerance}
 use Rattle.rules.specs.Sound.{sound, Room, Lists}
-use Rattle.rules.specs.Edit.{refuse, yield}
 use Rattle.rules.specs.Ops.{Command, State, Call, step_map, accepted_as, after}
 use Rattle.rules.specs.Demand.{Exact, Told, Demand3}
 use Rattle.report.specs.Report.{counts}
-use Rattle.jobs.specs.declared.JobAnswer.{JobAnswer}
-use Rattle.jobs.specs.declared.JobAnswer.TheVariants.{Made, TooManyEdits, Unsound, NoRoom, EditRefused}
+use Rattle.jobs.specs.declared.JobRefusal.TheVariants.{TooManyEdits, Unsound, NoRoom, EditRefused}
 use Rattle.jobs.specs.Job.{JobCall, JobOutcome, commands, edit_once, job_map}
 
 -- ---- edits and jobs
@@ -35,15 +34,15 @@ lengths cs = record { created = length cs.created; modified = length cs.modified
 unfoldable pub edit_calls : Tolerance → Room → List Command → State → List Call
 edit_calls tol room [] s = []
 edit_calls tol room (c ∷ cs) s =
-    elim (edit_once tol room c s) [ refuse r ↦ [] | yield e ↦ record { command = c; lists = lengths e.changes } ∷ edit_calls tol room cs (accepted_as s e).state ]
+    elim (edit_once tol room c s) [ Err r ↦ [] | Ok e ↦ record { command = c; lists = lengths e.changes } ∷ edit_calls tol room cs (accepted_as s e).state ]
 
 -- a refused call leaves the map, the counter and the link book, and so does no call
 abbrev pub job_calls : Tolerance → Room → JobCall → State → JobAnswer → List Call
-job_calls tol room c s (Made n) = edit_calls tol room (commands c.job) s
-job_calls tol room c s TooManyEdits = []
-job_calls tol room c s Unsound = []
-job_calls tol room c s NoRoom = []
-job_calls tol room c s (EditRefused place r) = []
+job_calls tol room c s (Ok n) = edit_calls tol room (commands c.job) s
+job_calls tol room c s (Err TooManyEdits) = []
+job_calls tol room c s (Err Unsound) = []
+job_calls tol room c s (Err NoRoom) = []
+job_calls tol room c s (Err (EditRefused place r)) = []
 
 abbrev pub calls_for : Tolerance → Room → Deed → State → List Call
 calls_for tol room (an_edit c) s = c ∷ []
@@ -57,11 +56,11 @@ written_out tol room (d ∷ ds) s = calls_for tol room d s ++ written_out tol ro
 
 -- a made job's net lists are exact between its two ends, and counted; a refused one leaves the state
 abbrev pub JobTold : State → JobOutcome → JobAnswer → Type 0
-JobTold s o (Made n) = Exact s.map o.changes o.state.map × (n ≡ counts o.changes)
-JobTold s o TooManyEdits = o.state ≡ s
-JobTold s o Unsound = o.state ≡ s
-JobTold s o NoRoom = o.state ≡ s
-JobTold s o (EditRefused place r) = o.state ≡ s
+JobTold s o (Ok n) = Exact s.map o.changes o.state.map × (n ≡ counts o.changes)
+JobTold s o (Err TooManyEdits) = o.state ≡ s
+JobTold s o (Err Unsound) = o.state ≡ s
+JobTold s o (Err NoRoom) = o.state ≡ s
+JobTold s o (Err (EditRefused place r)) = o.state ≡ s
 
 abbrev pub DeedTold : Tolerance → Room → Deed → State → Type 0
 DeedTold tol room (an_edit c) s = Told s (step_map tol room c s)

@@ -1,12 +1,14 @@
 -- A job behind its edits, by what they came to: what stands ready where it is made, and what it leaves, made or refused. Assumes nothing.
+use Rattle.jobs.specs.declared.Done.{Done}
+use Rattle.jobs.specs.declared.RefusedEdit.{RefusedEdit}
+use Rattle.std.specs.Prelude.{Ok, Err, Result}
+use Rattle.jobs.specs.Answers.{JobAnswer}
 use mathlib.Core.Path.{◌≡◌, refl, sym, ap, ◌∙◌, subst}
 use mathlib.Core.Bool.{Bool, true, false, cond}
 use mathlib.Core.List.{List, [], ◌∷◌}
 use Prim.Native.Nat.{ℕ, ◌*◌, ◌≤◌}
 use native.Mathlib.Omega.{arith}
 use lib.ListN.{length, take}
-use denote.Enum.Declared.{tag_of}
-use types.Run.{OneOf, miss}
 use Rattle.lists.specs.Rows.{over}
 use Rattle.entities.specs.declared.Tolerance.{Tolerance}
 use Rattle.entities.specs.Records.{ChangeSet}
@@ -20,10 +22,8 @@ use Rattle.room.specs.Room.{lists_fit}
 use Rattle.step.specs.Step.{Lent, lists_of}
 use Rattle.step.specs.Run.{Held, lengths_of}
 use Rattle.jobs.specs.declared.Job.{Job}
-use Rattle.jobs.specs.declared.JobAnswer.{JobAnswer}
-use Rattle.jobs.specs.declared.JobAnswer.TheVariants.{Made, NoRoom, EditRefused}
+use Rattle.jobs.specs.declared.JobRefusal.TheVariants.{NoRoom, EditRefused}
 use Rattle.jobs.specs.Job.{Run, done, stopped, commands, net}
-use Rattle.jobs.specs.contracts.JobAnswer.{the_type}
 use Rattle.job_step.specs.Job.{JobEnded, ending, job_ended, making, refusing, table_edits}
 use Rattle.job_step.proofs.Edits.{edits-done}
 use Rattle.job_marks.specs.Marks.{mark_all, sorted_tables}
@@ -31,7 +31,6 @@ use Rattle.job_net.specs.Net.{net_counts}
 use Rattle.job_net.proofs.Lists.{bare}
 use Rattle.job_turn.specs.Turn.{pairs_of}
 use Rattle.job_run.specs.Runs.{RanAs, all_modified, all_warnings}
-use Rattle.job_run.specs.declared.Ran.{Ran}
 use Rattle.job_decided.specs.declared.JobEnd.{JobEnd}
 use Rattle.job_decided.specs.Decided.{DecidedAs, Sorted, job_end}
 use Rattle.job_told.specs.Told.{Kept, MadeAll, ToldAs, kept_rows}
@@ -43,7 +42,7 @@ use Rattle.job_made.proofs.Net.{appears, changes, net-counted, vanishes}
 
 -- ---- behind the run
 
-module _ (tol : Tolerance) (j : Job) (counter : ℕ) (old t : Tables) (sane : sound_tables counter old ≡ true) (ms v ms' v' : List ℕ) (a : Ran) where
+module _ (tol : Tolerance) (j : Job) (counter : ℕ) (old t : Tables) (sane : sound_tables counter old ≡ true) (ms v ms' v' : List ℕ) (a : Result Done RefusedEdit) where
   abbrev run : Run Held
   run = table_edits tol 1 (commands j) (record { counter = counter; tables = old })
 
@@ -119,7 +118,7 @@ module _ (l : Lent) (counter : ℕ) (t : Tables) (n : Counts) (c m d kept : List
   pub ready-ends : (r : Run Held) → Ready l r counter t n c m d kept → (t' : Tables) (c' m' d' w' : List ℕ) → ToldAs l.warnings r t' w'
       → (c' ≡ over l.created 0 (take (n.created * 2) c))
       × ((m' ≡ over l.modified 0 (take (n.modified * 2) m)) × (d' ≡ over l.deleted 0 (take (n.deleted * 2) d)))
-      → job_ended (record { counter = counter; tables = t'; created = c'; modified = m'; deleted = d'; warnings = w' }) l.tables (Made n) ≡ ending l l.tables r
+      → job_ended (record { counter = counter; tables = t'; created = c'; modified = m'; deleted = d'; warnings = w' }) l.tables (Ok n) ≡ ending l l.tables r
   unfolding net
   ready-ends (stopped p x) h t' c' m' d' w' g f = absurd h
   ready-ends (done k css) h t' c' m' d' w' g f =
@@ -132,34 +131,30 @@ module _ (l : Lent) (counter : ℕ) (t : Tables) (n : Counts) (c m d kept : List
       let ed : d' ≡ listed l.deleted cs.deleted =
       f.1.1 ∙ fronts-copied cs.deleted n.deleted d (ap (λ (x : Counts). x.deleted) e) h.1.1.0.1.1 l.deleted in
       let fits : fits_lists (lists_of l) cs ≡ true = sym (ap (λ z. lists_fit z l.created l.modified l.deleted l.warnings) e) ∙ h.1.0.1 in
-      let same : job_ended (record { counter = counter; tables = t'; created = c'; modified = m'; deleted = d'; warnings = w' }) l.tables (Made n)
+      let same : job_ended (record { counter = counter; tables = t'; created = c'; modified = m'; deleted = d'; warnings = w' }) l.tables (Ok n)
       ≡ making l l.tables k cs =
       rw (h.0.0, g.0, ec, em, ed, g.1, e) in
-      same ∙ sym (ap (λ b. cond b (making l l.tables k cs) (refusing l l.tables NoRoom)) fits)
+      same ∙ sym (ap (λ b. cond b (making l l.tables k cs) (refusing l l.tables (Err NoRoom))) fits)
 
 -- ---- what was decided
 
-no-refusal : {A : Type 0} (p : ℕ) (x : Refusal) (n : Counts) → EditRefused p x ≡ Made n → A
+no-refusal : {A : Type 0} (p : ℕ) (x : Refusal) (n : Counts) → ◌≡◌ {A = JobAnswer} (Err (EditRefused p x)) (Ok n) → A
 no-refusal p x n e = absurd (nothing cc)
   where
     nothing : ◌≡◌ {A = ℕ} 0 1 → ⊥
     nothing z = omega arith
 
-no_room : {A : Type 0} (n : Counts) → NoRoom ≡ Made n → A
+no_room : {A : Type 0} (n : Counts) → ◌≡◌ {A = JobAnswer} (Err NoRoom) (Ok n) → A
 no_room n e = absurd (nothing cc)
   where
     nothing : ◌≡◌ {A = ℕ} 0 1 → ⊥
     nothing z = omega arith
 
--- an answer with the number of another variant
-pub not_made : (a : JobAnswer) → OneOf (1 ∷ 2 ∷ 3 ∷ 4 ∷ []) (tag_of the_type a) → (n : Counts) → a ≡ Made n → ⊥
-not_made a o n e = miss (1 ∷ 2 ∷ 3 ∷ 4 ∷ []) 0 tt (subst (λ z. OneOf (1 ∷ 2 ∷ 3 ∷ 4 ∷ []) (tag_of the_type z)) e o)
-
-module _ (l : Lent) (t : Tables) (ms v ms' v' : List ℕ) (a : Ran) (all-created all-modified all-deleted : List ℕ) (e : JobEnd) (c m d : List ℕ) where
+module _ (l : Lent) (t : Tables) (ms v ms' v' : List ℕ) (a : Result Done RefusedEdit) (all-created all-modified all-deleted : List ℕ) (e : JobEnd) (c m d : List ℕ) where
   abbrev Behind : Run Held → Type 0
   Behind r = RanAs (bare l.tables) ms kept_rows v l.tables r a t ms' v'
 
-  abbrev Decided : Ran → Type 0
+  abbrev Decided : Result Done RefusedEdit → Type 0
   Decided x =
       DecidedAs l.counter (bare t) (bare l.tables) ms' all-created all-modified all-deleted x l.created l.modified l.deleted l.warnings e c m d
 
@@ -174,8 +169,8 @@ module _ (l : Lent) (t : Tables) (ms v ms' v' : List ℕ) (a : Ran) (all-created
     marked k css h = h.1.1.0 ∙ ap (mark_all (bare l.tables) (pairs_of (all_modified css))) u
 
     -- made
-    module _ (from : v ≡ kept_from l.warnings) (n : Counts) (made : e.answer ≡ Made n) where
-      fitted : (x : Counts) (k : ℕ) (b : Bool) → fit x ≡ b → e ≡ cond b (job_end k (Made x)) (job_end l.counter NoRoom) → (fit x ≡ true) × (e ≡ job_end k (Made x))
+    module _ (from : v ≡ kept_from l.warnings) (n : Counts) (made : e.answer ≡ Ok n) where
+      fitted : (x : Counts) (k : ℕ) (b : Bool) → fit x ≡ b → e ≡ cond b (job_end k (Ok x)) (job_end l.counter (Err NoRoom)) → (fit x ≡ true) × (e ≡ job_end k (Ok x))
       fitted x k true f g = (f, g)
       fitted x k false f g = no_room n (sym (ap (λ (z : JobEnd). z.answer) g) ∙ made)
 
@@ -187,7 +182,7 @@ module _ (l : Lent) (t : Tables) (ms v ms' v' : List ℕ) (a : Ran) (all-created
           let cs = net_of old q css in
           let mk = marked q css h in
           let f = fitted (counted css) q.counter (fit (counted css)) refl g.0 in
-          let two : Made n ≡ Made (counted css) = sym made ∙ ap (λ (z : JobEnd). z.answer) f.1 in
+          let two : ◌≡◌ {A = JobAnswer} (Ok n) (Ok (counted css)) = sym made ∙ ap (λ (z : JobEnd). z.answer) f.1 in
           let one : n ≡ counted css = cc in (
             (ap (λ (z : JobEnd). z.counter) f.1, h.1.0),
             (
@@ -206,14 +201,14 @@ module _ (l : Lent) (t : Tables) (ms v ms' v' : List ℕ) (a : Ran) (all-created
           )
 
     -- refused: what was lent is as it was, once the map is put back
-    module _ (no : (n : Counts) → e.answer ≡ Made n → ⊥) where
+    module _ (no : (n : Counts) → e.answer ≡ Ok n → ⊥) where
       abbrev left : JobEnd → JobEnded
       left x =
           job_ended
           (record { counter = x.counter; tables = l.tables; created = l.created; modified = l.modified; deleted = l.deleted; warnings = l.warnings })
           l.tables x.answer
 
-      short : (x : Counts) (k : ℕ) (b : Bool) → fit x ≡ b → e ≡ cond b (job_end k (Made x)) (job_end l.counter NoRoom) → (fit x ≡ false) × (e ≡ job_end l.counter NoRoom)
+      short : (x : Counts) (k : ℕ) (b : Bool) → fit x ≡ b → e ≡ cond b (job_end k (Ok x)) (job_end l.counter (Err NoRoom)) → (fit x ≡ false) × (e ≡ job_end l.counter (Err NoRoom))
       short x k true f g = absurd (no x (ap (λ (z : JobEnd). z.answer) g))
       short x k false f g = (f, g)
 
@@ -224,4 +219,4 @@ module _ (l : Lent) (t : Tables) (ms v ms' v' : List ℕ) (a : Ran) (all-created
           let cs = net_of l.tables q css in
           let f = short (counted css) q.counter (fit (counted css)) refl g.0 in
           let fits : fits_lists (lists_of l) cs ≡ false = sym (ap fit (net-counted l.tables t q css ms' sorted h.1.0 (marked q css h))) ∙ f.0 in
-          ap left f.1 ∙ sym (ap (λ b. cond b (making l l.tables q cs) (refusing l l.tables NoRoom)) fits)
+          ap left f.1 ∙ sym (ap (λ b. cond b (making l l.tables q cs) (refusing l l.tables (Err NoRoom))) fits)

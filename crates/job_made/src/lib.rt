@@ -14,7 +14,7 @@ use job_decided::JobEnd;
 use job_marks::MARKS;
 use job_told::KEPT;
 use job_turn::{ENTITY_LIST, MOST_WARNINGS};
-use jobs::{Job, JobAnswer};
+use jobs::Job;
 use report::WARNING;
 
 // Rows of the job's own warnings: behind the last that is kept there is room for those of any edit.
@@ -107,7 +107,7 @@ fn make_with(
         warnings,
     );
     let answer = end.answer;
-    if let JobAnswer::Made(n) = answer {
+    if let Ok(n) = answer {
         job_told::tell_lists(
             all_created,
             all_modified,

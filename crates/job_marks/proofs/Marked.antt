@@ -1,4 +1,5 @@
 -- What the marks say: that of a row is set where some pair names the row's kind and id, and is what it was elsewhere. Assumes nothing.
+use Rattle.std.specs.Prelude.{Option, None, Some}
 use mathlib.Core.Path.{◌≡◌, refl, sym, ap, ◌∙◌}
 use mathlib.Core.Bool.{Bool, true, false, ◌&&◌, ◌||◌, cond}
 use mathlib.Core.List.{List, [], ◌∷◌}
@@ -11,8 +12,6 @@ use lib.Seq.{get_or-set_same, get_or-set_other}
 use borrow.Author.Tests.{eqb-true, eqb-false}
 use Rattle.lists.specs.Rows.{keys, row_with}
 use Rattle.lists.specs.Select.{any}
-use Rattle.lists.specs.declared.Found.{Found}
-use Rattle.lists.specs.declared.Found.TheVariants.{At, Nothing}
 use Rattle.lists.proofs.Rows.{length-keys, row-at, found-key}
 use Rattle.rules.specs.Limits.{max_lanes, max_boundaries, max_roads, max_junctions, max_rules, max_stop_lines, max_crosswalks}
 use Rattle.tables.specs.View.{Tables, word, lane_words, boundary_words, road_words, junction_words, rule_words, stop_line_words, crosswalk_words}
@@ -34,11 +33,11 @@ module _ (limit s first : ℕ) (t : List ℕ) (h : sorted_table limit s t ≡ tr
   unfolding mark_row
   row_apart place a = go (place_of s t id) (λ r e. place-within s t id r e)
     where
-      go : (f : Found) → ((r : ℕ) → f ≡ At r → r < word 0 t) → get_or (mark_at first f ms) place 0 ≡ get_or ms place 0
-      go (At r) g =
+      go : (f : Option ℕ) → ((r : ℕ) → f ≡ Some r → r < word 0 t) → get_or (mark_at first f ms) place 0 ≡ get_or ms place 0
+      go (Some r) g =
           let l : r < limit = omega (arith, g r refl, sorted-few limit s t h) in
           get_or-set_other ms (first + r) place 1 0 (λ e. ⊎_elim (λ p. omega arith) (λ p. omega arith) a)
-      go Nothing g = refl
+      go None g = refl
 
   -- that of a row is set where the row has the id
   row-own : (r : ℕ) → r < word 0 t → first + r < length ms → get_or (mark_row s first t id ms) (first + r) 0 ≡ cond (eqb id (get_or (keys s (word 0 t) (drop 1 t)) r 0)) 1 (get_or ms (first + r) 0)
@@ -51,10 +50,10 @@ module _ (limit s first : ℕ) (t : List ℕ) (h : sorted_table limit s t ≡ tr
       k : r < length ks
       k = omega (arith, length-keys s (word 0 t) (drop 1 t))
 
-      other : (id ≡ get_or ks r 0 → ⊥) → (f : Found) → row_with id ks ≡ f → get_or (mark_at first f ms) (first + r) 0 ≡ get_or ms (first + r) 0
-      other ne (At q) e =
+      other : (id ≡ get_or ks r 0 → ⊥) → (f : Option ℕ) → row_with id ks ≡ f → get_or (mark_at first f ms) (first + r) 0 ≡ get_or ms (first + r) 0
+      other ne (Some q) e =
           get_or-set_other ms (first + q) (first + r) 1 0 (λ z. let p : r ≡ q = omega arith in ne (sym (ap (λ i. get_or ks i 0) p ∙ found-key id ks q e)))
-      other ne Nothing e = refl
+      other ne None e = refl
 
       side : (b : Bool) → eqb id (get_or ks r 0) ≡ b → get_or (mark_at first (row_with id ks) ms) (first + r) 0 ≡ cond b 1 (get_or ms (first + r) 0)
       side true e =

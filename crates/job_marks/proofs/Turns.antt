@@ -1,4 +1,5 @@
 -- Marks set: of one row, of one entity, of a list. Assumes nothing.
+use Rattle.std.specs.Prelude.{Option, None, Some}
 use mathlib.Core.Path.{◌≡◌, refl, sym, ap, ◌∙◌}
 use mathlib.Core.Bool.{Bool, true, false, cond}
 use mathlib.Core.List.{List, [], ◌∷◌, ◌++◌}
@@ -10,8 +11,6 @@ use lib.ListN.{length, get_or, set, take, drop, length-set, drop_of_length-le}
 use lib.Seq.{drop-cons, get_or-take, get_or-drop}
 use borrow.Author.Tests.{ne_eqb}
 use Rattle.lists.proofs.Rows.{length-reads, get_d_reads}
-use Rattle.lists.specs.declared.Found.{Found}
-use Rattle.lists.specs.declared.Found.TheVariants.{At, Nothing}
 use Rattle.tables.specs.View.{Tables, word, lane_words, boundary_words, road_words, junction_words, rule_words, stop_line_words, crosswalk_words}
 use Rattle.lookup.specs.Lookup.{sorted_table, place_of}
 use Rattle.lookup.proofs.Laws.{sorted-few}
@@ -21,11 +20,11 @@ use Rattle.job_marks.specs.Marks.{lane_marks, boundary_marks, road_marks, juncti
 -- ---- one row
 
 module _ (s first id : ℕ) (t ms : List ℕ) where
-  pub mark-found : (r : ℕ) → place_of s t id ≡ At r → set ms (first + r) 1 ≡ mark_row s first t id ms
+  pub mark-found : (r : ℕ) → place_of s t id ≡ Some r → set ms (first + r) 1 ≡ mark_row s first t id ms
   unfolding mark_row
   mark-found r e = rw e
 
-  pub mark-nothing : place_of s t id ≡ Nothing → ms ≡ mark_row s first t id ms
+  pub mark-nothing : place_of s t id ≡ None → ms ≡ mark_row s first t id ms
   unfolding mark_row
   mark-nothing e = rw e
 
@@ -36,9 +35,9 @@ may-mark limit s first t ms p l m h n = (p, (sorted-wider limit 4096 s t l h, om
 
 -- ---- as many marks as before
 
-length_at : (first : ℕ) (f : Found) (ms : List ℕ) → length (mark_at first f ms) ≡ length ms
-length_at first (At r) ms = simp length-set
-length_at first Nothing ms = refl
+length_at : (first : ℕ) (f : Option ℕ) (ms : List ℕ) → length (mark_at first f ms) ≡ length ms
+length_at first (Some r) ms = simp length-set
+length_at first None ms = refl
 
 pub length-row : (s first : ℕ) (t : List ℕ) (id : ℕ) (ms : List ℕ) → length (mark_row s first t id ms) ≡ length ms
 unfolding mark_row

@@ -1,9 +1,7 @@
 -- Which entities of the old map some edit of a job lists as modified: a mark for each row that the old tables may have, table behind table in the order of
 -- kinds. Nothing that a host calls rests on these.
-use Rattle.std.specs.Prelude.{ℕ, ◌+◌, Bool, ◌&&◌, cond, List, [], ◌∷◌, eqb, get_or, set}
+use Rattle.std.specs.Prelude.{ℕ, ◌+◌, Bool, ◌&&◌, cond, List, [], ◌∷◌, eqb, get_or, set, Option, None, Some}
 use Rattle.lists.specs.Rows.{reads}
-use Rattle.lists.specs.declared.Found.{Found}
-use Rattle.lists.specs.declared.Found.TheVariants.{At, Nothing}
 use Rattle.rules.specs.Limits.{max_lanes, max_boundaries, max_roads, max_junctions, max_rules, max_stop_lines, max_crosswalks}
 use Rattle.tables.specs.View.{Tables, lane_words, boundary_words, road_words, junction_words, rule_words, stop_line_words, crosswalk_words}
 use Rattle.lookup.specs.Lookup.{sorted_table, place_of}
@@ -48,9 +46,9 @@ sorted_tables t =
 
 -- ---- marks set
 
-abbrev pub mark_at : ℕ → Found → List ℕ → List ℕ
-mark_at first (At r) ms = set ms (first + r) 1
-mark_at first Nothing ms = ms
+abbrev pub mark_at : ℕ → Option ℕ → List ℕ → List ℕ
+mark_at first (Some r) ms = set ms (first + r) 1
+mark_at first None ms = ms
 
 -- the mark of the row with an id; an id that no row has has no mark
 unfoldable pub mark_row : ℕ → ℕ → List ℕ → ℕ → List ℕ → List ℕ

@@ -6,7 +6,6 @@ ghost use Rattle.tables.specs.View.{tables_of, word};
 ghost use Rattle.lookup.specs.Lookup.{sorted_table};
 ghost use Rattle.job_marks.specs.Marks as M;
 
-use lists::Found;
 use report::ENTITY;
 use tables::{BOUNDARY, CROSSWALK, JUNCTION, LANE, ROAD, RULE, STOP_LINE};
 
@@ -51,10 +50,10 @@ fn mark_row(table: &[u64], words: usize, first: usize, id: u64, marks: &mut [u64
     let n = table[0] as usize;
     let found = find::find_row(&table[1..], words, n, id);
     match found {
-        Found::At(row) => {
+        Some(row) => {
             marks[first + row] = 1;
         }
-        Found::Nothing => {}
+        None => {}
     }
 }
 
@@ -113,13 +112,11 @@ pub fn mark_all(
     requires { (M.sorted_tables (tables_of lanes.now boundaries.now roads.now junctions.now rules.now stop_lines.now crosswalks.now []) ≡ true) × ((length marks.old ≡ 6784) × (n * 2 ≤ length modified.now)) }
     ensures { marks.new ≡ M.mark_all (tables_of lanes.now boundaries.now roads.now junctions.now rules.now stop_lines.now crosswalks.now []) (M.pairs_in n modified.now) marks.old }
 {
-    let mut i = 0;
-    while i < n {
+    for i in 0..n {
         let kind = modified[i * ENTITY];
         let id = modified[i * ENTITY + 1];
         mark_one(
             lanes, boundaries, roads, junctions, rules, stop_lines, crosswalks, kind, id, marks,
         );
-        i += 1;
     }
 }

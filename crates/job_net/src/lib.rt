@@ -23,14 +23,12 @@ fn skip(rows: &[u64], s: usize, n: usize, from: usize, id: u64) -> usize
     requires { (0 < s) × ((n * s ≤ length rows.now) × (from ≤ n)) }
     ensures { result ≡ from + N.below id (drop from (keys s n rows.now)) }
 {
-    let mut j = from;
-    while j < n {
+    for j in from..n {
         if id <= rows[j * s] {
             return j;
         }
-        j += 1;
     }
-    j
+    n
 }
 
 // Whether row j of n rows has this id; past them none has.
@@ -58,15 +56,13 @@ fn list_absent(
 {
     let n = table[0] as usize;
     let others = other[0] as usize;
-    let mut i = 0;
     let mut j = 0;
     let mut k = at;
-    while i < n {
+    for i in 0..n {
         let id = table[1 + i * s];
         j = skip(&other[1..], s, others, j, id);
         let stands = stands_at(&other[1..], s, others, j, id);
         k = mentions::put_where(!stands, kind, id, out, k);
-        i += 1;
     }
     k
 }
@@ -86,15 +82,13 @@ fn list_marked(
 {
     let n = table[0] as usize;
     let others = other[0] as usize;
-    let mut i = 0;
     let mut j = 0;
     let mut k = at;
-    while i < n {
+    for i in 0..n {
         let id = table[1 + i * s];
         j = skip(&other[1..], s, others, j, id);
         let stands = stands_at(&other[1..], s, others, j, id);
         k = mentions::put_where(lists::both(marks[i] == 1, stands), kind, id, out, k);
-        i += 1;
     }
     k
 }

@@ -1,4 +1,5 @@
 -- A job's edits one by one: those made so far, and those left on the memory as it is now, give the whole run. Assumes nothing.
+use Rattle.std.specs.Prelude.{Err, Ok}
 use mathlib.Core.Path.{◌≡◌, refl, sym, ap, ◌∙◌}
 use mathlib.Core.Bool.{true, false}
 use mathlib.Core.List.{List, [], ◌∷◌, ◌++◌, map, append-nil}
@@ -12,7 +13,7 @@ use Rattle.lists.specs.Select.{each}
 use Rattle.lists.proofs.Select.{each_append}
 use Rattle.entities.specs.Records.{ChangeSet}
 use Rattle.rules.specs.Names.{Tolerance, Refusal}
-use Rattle.rules.specs.Edit.{refuse, yield, Edited}
+use Rattle.rules.specs.Edit.{Edited}
 use Rattle.rules.specs.Ops.{Command}
 use Rattle.entities.specs.declared.Command.TheVariants.{SplitLane}
 use Rattle.entities.specs.declared.SplitAt.TheVariants.{Fraction}
@@ -62,7 +63,7 @@ held_as tol c h k n m t e = rw (m.counter-is, e)
 
 -- no edit has more warnings
 pub warnings-few : (tol : Tolerance) (c : Command) (h : Held) → sound_tables h.counter h.tables ≡ true → (e : Edited)
-    → once tol c h ≡ yield e → length e.changes.warnings ≤ 2048
+    → once tol c h ≡ Ok e → length e.changes.warnings ≤ 2048
 warnings-few tol c h sane e y =
     let l : Lent = record { counter = h.counter; tables = h.tables; created = []; modified = []; deleted = []; warnings = [] } in
     few-warnings tol c l sane e y
@@ -96,13 +97,13 @@ module _ (tol : Tolerance) (j : Job) (h₀ : Held) where
       on-next : table_edits tol 1 (commands j) h₀ ≡ preceded_by made (table_edits tol (suc i) (next ∷ drop (suc i) (commands j)) h)
       on-next = a.whole ∙ ap (λ cs. preceded_by made (table_edits tol (suc i) cs h)) next-first
 
-      pub along-refused : (r : Refusal) → once tol next h ≡ refuse r → table_edits tol 1 (commands j) h₀ ≡ stopped (i + 1) r
+      pub along-refused : (r : Refusal) → once tol next h ≡ Err r → table_edits tol 1 (commands j) h₀ ≡ stopped (i + 1) r
       along-refused r y =
           on-next
           ∙ (ap (preceded_by made) (edits-refused tol (suc i) next (drop (suc i) (commands j)) h r y)
           ∙ (preceded-stopped made (suc i) r ∙ ap (λ n. stopped n r) (sym (add-one i))))
 
-      module _ (e : Edited) (y : once tol next h ≡ yield e) where
+      module _ (e : Edited) (y : once tol next h ≡ Ok e) where
         pub along-turns : (k : Held) → k ≡ written next h e → Along tol j h₀ (made ++ (e.changes ∷ [])) k (i + 1)
         along-turns k w =
             let t = turn-keeps tol next h a.sane e y in

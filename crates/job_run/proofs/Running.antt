@@ -1,4 +1,6 @@
 -- The run, edit by edit. Assumes nothing.
+use Rattle.jobs.specs.declared.Done.{Done}
+use Rattle.std.specs.Prelude.{Err, Ok}
 use mathlib.Core.Path.{◌≡◌, refl, sym, ap, ◌∙◌, subst}
 use mathlib.Core.Bool.{Bool, true, false, cond}
 use mathlib.Core.List.{List, [], ◌∷◌, ◌++◌}
@@ -15,7 +17,7 @@ use Rattle.lists.proofs.Select.{each_append}
 use Rattle.entities.specs.Types.{kind_number}
 use Rattle.entities.specs.Records.{ChangeSet}
 use Rattle.rules.specs.Names.{Tolerance, Refusal, EntityRef}
-use Rattle.rules.specs.Edit.{Res, refuse, yield, Edited}
+use Rattle.rules.specs.Edit.{Res, Edited}
 use Rattle.rules.specs.Ops.{Command}
 use Rattle.tables.specs.View.{Tables}
 use Rattle.tables.specs.Formed.{sound_tables}
@@ -30,10 +32,7 @@ use Rattle.job_step.proofs.Prefix.{preceded_by, preceded-done, preceded-stopped}
 use Rattle.job_marks.specs.Marks.{mark_all}
 use Rattle.job_marks.proofs.Turns.{all_append as marks-append, length-all}
 use Rattle.job_turn.specs.Turn.{pairs_of, made as madeBy, turn_ends, Turned, warning_count}
-use Rattle.job_turn.specs.declared.Turn.{Turn}
-use Rattle.job_turn.specs.declared.Turn.TheVariants as T
 use Rattle.job_turn.proofs.Made.{once, Made, made-done, made-stopped, made-refused, made_yields}
-use Rattle.job_run.specs.declared.Ran.TheVariants as A
 use Rattle.job_run.specs.Runs.{all_warnings, all_modified, row_for, AllWithin, WarningRoom, RanAs}
 use Rattle.job_run.proofs.Short.{short-at}
 use Rattle.job_run.proofs.Along.{Along, no-edit, held_as, last-of, warnings-count, warnings-few, along-begins, along-ends, along-refused, along-turns}
@@ -101,11 +100,11 @@ module _ (tol : Tolerance) (old : Tables) (j : Job) (h₀ : Held) (ms₀ : List 
     marks-long = ap length a.marked ∙ length-all old (pairs_of (all_modified a.made)) ms₀
 
     pub running-ends : j.count ≤ length j.edits → j.count ≤ i
-        → RanAs old ms₀ rows w₀ h₀.tables (table_edits tol 1 (commands j) h₀) (A.Done h.counter told) h.tables ms w
+        → RanAs old ms₀ rows w₀ h₀.tables (table_edits tol 1 (commands j) h₀) (Ok (record { counter = h.counter; warnings = told })) h.tables ms w
     running-ends room past =
-        subst (λ (x : Run Held). RanAs old ms₀ rows w₀ h₀.tables x (A.Done h.counter told) h.tables ms w)
+        subst (λ (x : Run Held). RanAs old ms₀ rows w₀ h₀.tables x (Ok (record { counter = h.counter; warnings = told })) h.tables ms w)
         (sym (along-ends tol j h₀ a.made h i a.along room past))
-        (ap (A.Done h.counter) a.counted, (refl, (a.marked, λ n. (a.kept (omega (arith, n, a.counted))).1)))
+        (ap (λ (n : ℕ). Ok (record { counter = h.counter; warnings = n })) a.counted, (refl, (a.marked, λ n. (a.kept (omega (arith, n, a.counted))).1)))
 
     module _ (room : j.count ≤ length j.edits) (left : i < j.count) (enough : WarningRoom (table_edits tol 1 (commands j) h₀) rows (length w₀)) (at : ℕ)
         (row : at ≡ row_for told rows) where
@@ -116,7 +115,7 @@ module _ (tol : Tolerance) (old : Tables) (j : Job) (h₀ : Held) (ms₀ : List 
       rows_fit = ⊎_elim (λ n. omega (arith, n)) (λ n. n.1) enough
 
       -- room for the warnings of the next edit
-      more_room : (e : Edited) → once tol c h ≡ yield e → (at + length e.changes.warnings) * 10 ≤ length w
+      more_room : (e : Edited) → once tol c h ≡ Ok e → (at + length e.changes.warnings) * 10 ≤ length w
       more_room e y =
           let p = row-at told rows at row in
           ⊎_elim (λ n. omega (arith, n, p.within, warnings-few tol c h a.along.sane e y, a.long))
@@ -129,20 +128,20 @@ module _ (tol : Tolerance) (old : Tables) (j : Job) (h₀ : Held) (ms₀ : List 
       pub running-room : (at + warning_count tol c h) * 10 ≤ length w
       running-room = go (once tol c h) refl
         where
-          go : (x : Res Edited) → once tol c h ≡ x → (at + elim x [ refuse r ↦ 0 | yield e ↦ length e.changes.warnings ]) * 10 ≤ length w
-          go (refuse r) y = omega (arith, rows_fit, (row-at told rows at row).within, a.long)
-          go (yield e) y = more_room e y
+          go : (x : Res Edited) → once tol c h ≡ x → (at + elim x [ Err r ↦ 0 | Ok e ↦ length e.changes.warnings ]) * 10 ≤ length w
+          go (Err r) y = omega (arith, rows_fit, (row-at told rows at row).within, a.long)
+          go (Ok e) y = more_room e y
 
-      module _ (t : Tables) (ms' w' : List ℕ) (r : Turn) (q : turn_ends t ms' w' r ≡ madeBy tol old c h ms at w) where
-        pub running-stops : (x : Refusal) → r ≡ T.Stopped x
-            → RanAs old ms₀ rows w₀ h₀.tables (table_edits tol 1 (commands j) h₀) (A.Stopped (i + 1) x) t ms' w'
+      module _ (t : Tables) (ms' w' : List ℕ) (r : Res Done) (q : turn_ends t ms' w' r ≡ madeBy tol old c h ms at w) where
+        pub running-stops : (x : Refusal) → r ≡ Err x
+            → RanAs old ms₀ rows w₀ h₀.tables (table_edits tol 1 (commands j) h₀) (Err (record { place = (i + 1); refusal = x })) t ms' w'
         running-stops x e =
             let y = made-stopped tol c h old ms at w t ms' w' r q x e in
             let u = ap (λ (o : Turned). o.tables) (q ∙ made-refused tol c h x y old ms at w) in
-            subst (λ (z : Run Held). RanAs old ms₀ rows w₀ h₀.tables z (A.Stopped (i + 1) x) t ms' w')
+            subst (λ (z : Run Held). RanAs old ms₀ rows w₀ h₀.tables z (Err (record { place = (i + 1); refusal = x })) t ms' w')
             (sym (along-refused tol j h₀ a.made h i a.along room left x y)) (refl, ap lengths_of u ∙ a.along.long)
 
-        module _ (k n : ℕ) (e : r ≡ T.Done k n) where
+        module _ (k n : ℕ) (e : r ≡ Ok (record { counter = k; warnings = n })) where
           abbrev m : Made tol c h k n
           m = made-done tol c h old ms at w t ms' w' r q k n e
 

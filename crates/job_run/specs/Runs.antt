@@ -1,5 +1,7 @@
 -- A run through a job's edits. Nothing that a host calls rests on this page; `table_edits` (crate `job_step`) is what it makes.
-use Rattle.std.specs.Prelude.{◌≡◌, ℕ, ◌+◌, ◌*◌, ◌≤◌, cond, List, ◌⊎◌, ltb, length}
+use Rattle.jobs.specs.declared.Done.{Done}
+use Rattle.jobs.specs.declared.RefusedEdit.{RefusedEdit}
+use Rattle.std.specs.Prelude.{◌≡◌, ℕ, ◌+◌, ◌*◌, ◌≤◌, cond, List, ◌⊎◌, ltb, length, Ok, Result, Err}
 use Rattle.lists.specs.Select.{each}
 use Rattle.entities.specs.Records.{ChangeSet, Issue}
 use Rattle.rules.specs.Names.{EntityRef}
@@ -10,8 +12,6 @@ use Rattle.jobs.specs.Job as J
 use Rattle.jobs.specs.Job.{Run}
 use Rattle.job_marks.specs.Marks.{mark_all}
 use Rattle.job_turn.specs.Turn.{pairs_of}
-use Rattle.job_run.specs.declared.Ran.{Ran}
-use Rattle.job_run.specs.declared.Ran.TheVariants.{Stopped, Done}
 
 -- what edits warn of, one after the other, and what they list as modified
 abbrev pub all_warnings : List ChangeSet → List Issue
@@ -43,9 +43,9 @@ WarningRoom run rows n = ((rows + most_warnings) * 10 ≤ n) ⊎ (AllWithin rows
 
 -- Its answer, the tables that it leaves, the marks, and the warnings if they are no more than `rows`. Where an edit was refused only the tables' lengths are
 -- told: they are put back.
-abbrev pub RanAs : Tables → List ℕ → ℕ → List ℕ → Tables → Run Held → Ran → Tables → List ℕ → List ℕ → Type 0
-RanAs old ms rows w t (J.stopped place r) a t' ms' w' = (a ≡ Stopped place r) × (lengths_of t' ≡ lengths_of t)
+abbrev pub RanAs : Tables → List ℕ → ℕ → List ℕ → Tables → Run Held → Result Done RefusedEdit → Tables → List ℕ → List ℕ → Type 0
+RanAs old ms rows w t (J.stopped place r) a t' ms' w' = (a ≡ Err (record { place = place; refusal = r })) × (lengths_of t' ≡ lengths_of t)
 RanAs old ms rows w t (J.done k css) a t' ms' w' =
-    (a ≡ Done k.counter (length (all_warnings css)))
+    (a ≡ Ok (record { counter = k.counter; warnings = (length (all_warnings css)) }))
     × ((t' ≡ k.tables)
     × ((ms' ≡ mark_all old (pairs_of (all_modified css)) ms) × (length (all_warnings css) ≤ rows → w' ≡ warned w (all_warnings css))))

@@ -9,16 +9,8 @@ ghost use Rattle.job_step.specs.Job.{table_edits};
 ghost use Rattle.job_marks.specs.Marks.{sorted_tables};
 ghost use Rattle.job_run.specs.Runs as R;
 
-use entities::{Refusal, Tolerance};
-use job_turn::Turn;
-use jobs::Job;
-
-// What a run comes to: the edit that was refused, its place counted from 1, or the counter behind all edits and how many warnings there are.
-#[derive(Clone, Copy)]
-pub enum Ran {
-    Stopped { place: u64, refusal: Refusal },
-    Done { counter: u64, warnings: usize },
-}
+use entities::Tolerance;
+use jobs::{Done, Job, RefusedEdit};
 
 // The row from which an edit's warnings are written: behind those of the edits before it, as long as they are to be kept.
 fn row_for(told: usize, rows: usize) -> usize
@@ -57,14 +49,13 @@ pub fn make_edits(
     old_stop_lines: &[u64],
     old_crosswalks: &[u64],
     marks: &mut [u64],
-) -> Ran
+) -> Result<Done, RefusedEdit>
     requires { (sound_tables counter (tables_of lanes.old boundaries.old roads.old junctions.old rules.old stop_lines.old crosswalks.old coordinates.old) ≡ true) × ((job.count ≤ 64) × ((sorted_tables (tables_of old_lanes.now old_boundaries.now old_roads.now old_junctions.now old_rules.now old_stop_lines.now old_crosswalks.now []) ≡ true) × ((length marks.old ≡ 6784) × (R.WarningRoom (table_edits tolerance 1 (commands job) (record { counter = counter; tables = (tables_of lanes.old boundaries.old roads.old junctions.old rules.old stop_lines.old crosswalks.old coordinates.old) })) rows (length warnings.old) × ((length created.old ≡ 13568) × ((length modified.old ≡ 13568) × (length deleted.old ≡ 13568))))))) }
     ensures { R.RanAs (tables_of old_lanes.now old_boundaries.now old_roads.now old_junctions.now old_rules.now old_stop_lines.now old_crosswalks.now []) marks.old rows warnings.old (tables_of lanes.old boundaries.old roads.old junctions.old rules.old stop_lines.old crosswalks.old coordinates.old) (table_edits tolerance 1 (commands job) (record { counter = counter; tables = (tables_of lanes.old boundaries.old roads.old junctions.old rules.old stop_lines.old crosswalks.old coordinates.old) })) result (tables_of lanes.new boundaries.new roads.new junctions.new rules.new stop_lines.new crosswalks.new coordinates.new) marks.new warnings.new }
 {
     let mut next = counter;
     let mut told = 0;
-    let mut i = 0;
-    while i < job.count {
+    for i in 0..job.count {
         let edit = job.edits[i as usize];
         let command = edit.command;
         let at = row_for(told, rows);
@@ -95,24 +86,20 @@ pub fn make_edits(
             marks,
         );
         match turn {
-            Turn::Stopped(refusal) => {
-                return Ran::Stopped {
+            Err(refusal) => {
+                return Err(RefusedEdit {
                     place: i + 1,
                     refusal,
-                };
+                });
             }
-            Turn::Done {
-                counter,
-                warnings: n,
-            } => {
-                next = counter;
-                told = told + n;
+            Ok(done) => {
+                next = done.counter;
+                told = told + done.warnings;
             }
         }
-        i += 1;
     }
-    Ran::Done {
+    Ok(Done {
         counter: next,
         warnings: told,
-    }
+    })
 }

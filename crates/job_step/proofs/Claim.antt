@@ -1,5 +1,7 @@
 -- Demand 3 on lent memory, over every list in which edits and jobs stand side by side, from any sound memory, with any tolerances and anything lent. Assumes
 -- nothing.
+use Rattle.std.specs.Prelude.{Ok, Err}
+use Rattle.jobs.specs.Answers.{JobAnswer}
 use mathlib.Core.Path.{◌≡◌, refl, sym, ap, ◌∙◌, subst}
 use mathlib.Core.Bool.{Bool, true, false}
 use mathlib.Core.List.{List, [], ◌∷◌, map}
@@ -20,8 +22,7 @@ use Rattle.step.specs.Step.{lists_of}
 use Rattle.step.specs.Run.{Held, lend, held_in, lengths_of, map_in}
 use Rattle.step.proofs.Keeping.{closed, call_kept, room-same}
 use Rattle.step.proofs.Claim.{keeps}
-use Rattle.jobs.specs.declared.JobAnswer.{JobAnswer}
-use Rattle.jobs.specs.declared.JobAnswer.TheVariants.{Made, TooManyEdits, NoRoom, EditRefused}
+use Rattle.jobs.specs.declared.JobRefusal.TheVariants.{TooManyEdits, NoRoom, EditRefused}
 use Rattle.jobs.specs.Job.{JobOutcome, Run, done, stopped, max_edits, commands, edits, net, refused_job, finish_job, job_map}
 use Rattle.job_laws.specs.Deeds.{Deed, a_job, state_behind, after_all}
 use Rattle.job_laws.proofs.Claim.{deed-claim_3}
@@ -54,17 +55,17 @@ module _ (tol : Tolerance) (h : Held) (sane : sound_tables h.counter h.tables �
   )
 
   made_kept : (area : Tables) (k : Held) (cs : ChangeSet) → Stays h k
-      → JobKept h c (making (lend_job h c) area k cs) (record { state = map_in k; changes = cs; answer = Made (counts cs) })
+      → JobKept h c (making (lend_job h c) area k cs) (record { state = map_in k; changes = cs; answer = Ok (counts cs) })
   made_kept area k cs s = (record { state_is = refl; answer_is = refl; created_is = refl; modified_is = refl; deleted_is = refl; warnings_is = refl }, s)
 
   ending-kept : (area : Tables) (r : Run Held) → Left h r → JobKept h c (ending (lend_job h c) area r) (finish_job (lists_of (lend_job h c)) (map_in h) (on_maps r))
-  ending-kept area (stopped place r) left = refused-kept area (EditRefused place r)
+  ending-kept area (stopped place r) left = refused-kept area (Err (EditRefused place r))
   ending-kept area (done k css) left = lists (O.fits_lists (lists_of (lend_job h c)) (net (view h.tables) (view k.tables) css)) refl
     where
       lists : (fits : Bool) → O.fits_lists (lists_of (lend_job h c)) (net (view h.tables) (view k.tables) css) ≡ fits
           → JobKept h c (ending (lend_job h c) area (done k css)) (finish_job (lists_of (lend_job h c)) (map_in h) (on_maps (done k css)))
       lists true e = rw e (made_kept area k (net (view h.tables) (view k.tables) css) left)
-      lists false e = rw e (refused-kept area NoRoom)
+      lists false e = rw e (refused-kept area (Err NoRoom))
 
   runs-kept : (area : Tables)
       → JobKept h c (ending (lend_job h c) area (table_edits tol 1 (commands c.job) h))
@@ -87,8 +88,8 @@ module _ (tol : Tolerance) (h : Held) (sane : sound_tables h.counter h.tables �
 
       tests : (few : Bool) → leb c.job.count max_edits ≡ few → (area : Bool) → area_fits h.tables c.area ≡ area
           → JobKept h c (call_job tol h c) (job_map tol (room_of h.tables) (job_on h c) (map_in h))
-      tests false e area f = rw (job_too_many tol c.job l e, e) (refused-kept c.area TooManyEdits)
-      tests true e false f = rw (job-short tol c.job l e sane f, e, good, f) (refused-kept c.area NoRoom)
+      tests false e area f = rw (job_too_many tol c.job l e, e) (refused-kept c.area (Err TooManyEdits))
+      tests true e false f = rw (job-short tol c.job l e sane f, e, good, f) (refused-kept c.area (Err NoRoom))
       tests true e true f = rw (job-runs tol c.job l e sane f, e, good, f) (runs-kept (copied h.tables c.area))
 
 -- ---- one deed

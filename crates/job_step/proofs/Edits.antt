@@ -1,4 +1,5 @@
 -- The edits of a job on lent memory, beside the same edits on the map that it holds. Assumes nothing.
+use Rattle.std.specs.Prelude.{Err, Ok}
 use mathlib.Core.Path.{◌≡◌, refl, sym, ap, ◌∙◌, subst}
 use mathlib.Core.Bool.{true}
 use mathlib.Core.List.{List, [], ◌∷◌}
@@ -7,7 +8,7 @@ use Prim.Native.Nat.{ℕ, suc}
 use Rattle.entities.specs.declared.Refusal.{Refusal}
 use Rattle.entities.specs.Records.{ChangeSet}
 use Rattle.rules.specs.Names.{Tolerance}
-use Rattle.rules.specs.Edit.{Res, refuse, yield, Edited}
+use Rattle.rules.specs.Edit.{Res, Edited}
 use Rattle.rules.specs.Ops.{Command, State, accepted_as}
 use Rattle.tables.specs.Formed.{sound_tables}
 use Rattle.store.specs.Store.{room_of}
@@ -20,11 +21,11 @@ use Rattle.job_step.proofs.Turn.{Turned, turn-keeps}
 -- ---- one edit of them
 
 module _ (tol : Tolerance) (place : ℕ) (c : Command) (cs : List Command) (h : Held) where
-  pub edits-refused : (r : Refusal) → edit_once tol (room_of h.tables) c (map_in h) ≡ refuse r → table_edits tol place (c ∷ cs) h ≡ stopped place r
+  pub edits-refused : (r : Refusal) → edit_once tol (room_of h.tables) c (map_in h) ≡ Err r → table_edits tol place (c ∷ cs) h ≡ stopped place r
   unfolding table_edits
   edits-refused r y = rw (y, table_edits)
 
-  pub edits-yield : (e : Edited) → edit_once tol (room_of h.tables) c (map_in h) ≡ yield e
+  pub edits-yield : (e : Edited) → edit_once tol (room_of h.tables) c (map_in h) ≡ Ok e
       → table_edits tol place (c ∷ cs) h ≡ preceded e.changes (table_edits tol (suc place) cs (written c h e))
   unfolding table_edits
   edits-yield e y = rw (y, table_edits)
@@ -78,8 +79,8 @@ module _ (tol : Tolerance) where
     where
       go : (x : Res Edited) → edit_once tol (room_of h.tables) c (map_in h) ≡ x → ((k : Held) → sound_tables k.counter k.tables ≡ true → Beside (suc place) cs k)
           → Beside place (c ∷ cs) h
-      go (refuse r) y rest = rw (edits-refused tol place c cs h r y, y, edits) (refl, tt)
-      go (yield e) y rest = let t = turn-keeps tol c h sane e y in rw (edits-yield tol place c cs h e y, y, edits) (behind (suc place) c cs h e t (rest (written c h e) t.stays_sound))
+      go (Err r) y rest = rw (edits-refused tol place c cs h r y, y, edits) (refl, tt)
+      go (Ok e) y rest = let t = turn-keeps tol c h sane e y in rw (edits-yield tol place c cs h e y, y, edits) (behind (suc place) c cs h e t (rest (written c h e) t.stays_sound))
 
   module _ (place : ℕ) (cs : List Command) (h : Held) (sane : sound_tables h.counter h.tables ≡ true) where
     pub edits-stopped : (p : ℕ) (r : Refusal) → table_edits tol place cs h ≡ stopped p r → edits tol (room_of h.tables) place cs (map_in h) ≡ stopped p r

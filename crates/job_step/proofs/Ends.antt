@@ -1,10 +1,10 @@
 -- One call of a job, by how it ends: 13, 9, the area's own 10, or its edits; what it leaves in the area, and that a refused one leaves all else. Assumes nothing.
+use Rattle.std.specs.Prelude.{Err}
 use mathlib.Core.Path.{◌≡◌, refl, ap, ◌∙◌}
 use mathlib.Core.List.{List, ◌∷◌}
 use mathlib.Core.Bool.{Bool, true, false}
 use lib.Dec.{leb}
 use Rattle.rules.specs.Names.{Tolerance, Refusal}
-use Rattle.rules.specs.Edit.{refuse}
 use Rattle.rules.specs.Ops.{Command, fits_lists}
 use Rattle.tables.specs.View.{Tables, view}
 use Rattle.tables.specs.Formed.{sound_tables}
@@ -12,7 +12,7 @@ use Rattle.step.specs.Step.{Lent, lists_of}
 use Rattle.store.specs.Store.{room_of}
 use Rattle.step.specs.Run.{Held, held_in, map_in}
 use Rattle.jobs.specs.declared.Job.{Job}
-use Rattle.jobs.specs.declared.JobAnswer.TheVariants.{TooManyEdits, Unsound, NoRoom, EditRefused}
+use Rattle.jobs.specs.declared.JobRefusal.TheVariants.{TooManyEdits, Unsound, NoRoom, EditRefused}
 use Rattle.jobs.specs.Answers.{job_number}
 use Rattle.jobs.specs.Job.{Run, done, stopped, max_edits, commands, edit_once, net}
 use Rattle.area.specs.Area.{area_fits, copied, put_back}
@@ -33,17 +33,17 @@ ending-area l area (done h css) = tests (fits_lists (lists_of l) (net (view l.ta
 -- ---- the tests, one by one
 
 module _ (tol : Tolerance) (j : Job) (l : JobLent) where
-  pub job_too_many : leb j.count max_edits ≡ false → job_step tol j l ≡ refusing l.lent l.area TooManyEdits
+  pub job_too_many : leb j.count max_edits ≡ false → job_step tol j l ≡ refusing l.lent l.area (Err TooManyEdits)
   unfolding job_step
   job_too_many h = rw h
 
   module _ (few : leb j.count max_edits ≡ true) where
-    pub job_unsound : sound_tables l.lent.counter l.lent.tables ≡ false → job_step tol j l ≡ refusing l.lent l.area Unsound
+    pub job_unsound : sound_tables l.lent.counter l.lent.tables ≡ false → job_step tol j l ≡ refusing l.lent l.area (Err Unsound)
     unfolding job_step
     job_unsound h = rw (few, h)
 
     module _ (sane : sound_tables l.lent.counter l.lent.tables ≡ true) where
-      pub job-short : area_fits l.lent.tables l.area ≡ false → job_step tol j l ≡ refusing l.lent l.area NoRoom
+      pub job-short : area_fits l.lent.tables l.area ≡ false → job_step tol j l ≡ refusing l.lent l.area (Err NoRoom)
       unfolding job_step
       job-short h = rw (few, sane, h)
 
@@ -62,8 +62,8 @@ module _ (tol : Tolerance) (j : Job) (l : JobLent) where
 
         -- "12 with its place counted from 1": the first edit's place
         pub job-first-refused : (c : Command) (cs : List Command) → commands j ≡ c ∷ cs → (r : Refusal)
-            → edit_once tol (room_of l.lent.tables) c (map_in (held_in l.lent)) ≡ refuse r
-            → (job_step tol j l).answer ≡ EditRefused 1 r
+            → edit_once tol (room_of l.lent.tables) c (map_in (held_in l.lent)) ≡ Err r
+            → (job_step tol j l).answer ≡ Err (EditRefused 1 r)
         unfolding job_step
         job-first-refused c cs e r y =
             let area = copied l.lent.tables l.area in

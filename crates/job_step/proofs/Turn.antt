@@ -1,4 +1,5 @@
 -- One edit of a job on lent memory, beside the call that makes it: refused as the call is, written as the call writes, and what it keeps. Assumes nothing.
+use Rattle.std.specs.Prelude.{Err, Ok}
 use mathlib.Core.Path.{◌≡◌, ap, ◌∙◌, subst}
 use mathlib.Core.Bool.{true, ◌&&◌}
 use Prim.Native.Nat.{ℕ, ◌*◌, ◌/◌, ◌≤◌}
@@ -11,7 +12,7 @@ use Rattle.entities.specs.declared.Refusal.{Refusal}
 use Rattle.entities.specs.Records.{ChangeSet}
 use Rattle.rules.specs.Names.{Tolerance}
 use Rattle.rules.specs.Sound.{Lists, sound, last_counter}
-use Rattle.rules.specs.Edit.{refuse, yield, Edited}
+use Rattle.rules.specs.Edit.{Edited}
 use Rattle.rules.specs.Ops.{Command, fits_lists, accepted_as}
 use Rattle.rules.proofs.Facts.{sound-facts}
 use Rattle.laws.proofs.Claim.{lawful}
@@ -76,10 +77,10 @@ module _ (tol : Tolerance) (c : Command) (l : Lent) (sane : sound_tables l.count
   map-sound : sound l.counter (state_of l).map ≡ true
   map-sound = sound-map l.counter l.tables sane
 
-  pub turn-refused : (r : Refusal) → edit_once tol (room_of l.tables) c (state_of l) ≡ refuse r → step tol c l ≡ refusing l r
+  pub turn-refused : (r : Refusal) → edit_once tol (room_of l.tables) c (state_of l) ≡ Err r → step tol c l ≡ refusing l r
   turn-refused r h = closed tol c l sane ∙ ap (λ o. closing c l o.state o.answer) (once-refused tol (room_of l.tables) c (state_of l) map-sound (lists_of l) r h)
 
-  module _ (e : Edited) (h : edit_once tol (room_of l.tables) c (state_of l) ≡ yield e) where
+  module _ (e : Edited) (h : edit_once tol (room_of l.tables) c (state_of l) ≡ Ok e) where
     pub turn-yields : fits_lists (lists_of l) e.changes ≡ true → step tol c l ≡ changing c l (accepted_as (state_of l) e).state e.changes e.second
     turn-yields fits =
         closed tol c l sane ∙ ap (λ o. closing c l o.state o.answer) (once-listed tol (room_of l.tables) c (state_of l) map-sound (lists_of l) e h fits)
@@ -110,7 +111,7 @@ pub record Turned (c : Command) (h : Held) (e : Edited) : Type 0 where
   pub counter-fits : (written c h e).counter ≤ last_counter
 
 pub turn-keeps : (tol : Tolerance) (c : Command) (h : Held) → sound_tables h.counter h.tables ≡ true → (e : Edited)
-    → edit_once tol (room_of h.tables) c (map_in h) ≡ yield e → Turned c h e
+    → edit_once tol (room_of h.tables) c (map_in h) ≡ Ok e → Turned c h e
 turn-keeps tol c h sane e y =
     let l = roomy h e.changes in
     let fits = roomy-fits h e.changes in

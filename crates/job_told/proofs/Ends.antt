@@ -1,4 +1,7 @@
 -- The way back from tables that made edits left, and the warnings: kept ones copied, or told by another run. Assumes nothing.
+use Rattle.jobs.specs.declared.Done.{Done}
+use Rattle.std.specs.Prelude.{Result}
+use Rattle.jobs.specs.declared.RefusedEdit.{RefusedEdit}
 use mathlib.Core.Path.{◌≡◌, refl, ap, ◌∙◌, subst}
 use mathlib.Core.Bool.{true}
 use mathlib.Core.List.{List}
@@ -18,7 +21,6 @@ use Rattle.area.specs.Area.{area_fits, put_back}
 use Rattle.job_step.specs.Job.{table_edits}
 use Rattle.job_step.proofs.Area.{area_same}
 use Rattle.job_step.proofs.Edits.{edits-done}
-use Rattle.job_run.specs.declared.Ran.{Ran}
 use Rattle.job_run.specs.Runs.{AllWithin, RanAs}
 use Rattle.job_told.specs.Told.{Kept, MadeAll, ToldAs, kept_rows}
 
@@ -94,7 +96,7 @@ module _ (t : Tables) (n : ℕ) where
       (l.0, e ∙ (ap (λ m. over w 0 (take (m * 10) kept)) l.1 ∙ k (subst (λ m. m ≤ kept_rows) l.1 few) (subst (λ m. m * 10 ≤ length w) l.1 room)))
 
   -- the edits were made again, on tables that are the old ones
-  module _ (old before t' : Tables) (ms ms' w w' : List ℕ) (x : Ran) where
+  module _ (old before t' : Tables) (ms ms' w w' : List ℕ) (x : Result Done RefusedEdit) where
     told-again : (r : Run Held) → MadeAll r t n → RanAs old ms n w before r x t' ms' w' → ToldAs w r t' w'
     told-again (stopped p y) l h = refl
     told-again (done q css) l h = (h.1.0, h.1.1.1 (omega (arith, l.1)))

@@ -1,8 +1,9 @@
 -- What a call with long enough lists leaves and answers, read off as what the edit comes to. Assumes nothing.
+use Rattle.jobs.specs.declared.Done.{Done}
+use Rattle.std.specs.Prelude.{Option, None, Some, Err, Ok}
 use mathlib.Core.Path.{◌≡◌, refl, sym, ap, ◌∙◌, subst}
 use mathlib.Core.Bool.{true, ◌&&◌}
 use mathlib.Core.List.{List, [], ◌++◌, append-nil}
-use mathlib.Core.Option.{Option, none, some}
 use Prim.Native.Nat.{ℕ, ◌+◌, ◌*◌, ◌-◌, ◌/◌, ◌≤◌}
 use native.Mathlib.Omega.{arith}
 use lib.Dec.{leb}
@@ -14,14 +15,12 @@ use Rattle.lists.proofs.Booleans.{and-fst, and-snd}
 use Rattle.entities.specs.declared.Refusal.{Refusal}
 use Rattle.entities.specs.Records.{ChangeSet}
 use Rattle.rules.specs.Names.{Tolerance}
-use Rattle.rules.specs.Edit.{Res, refuse, yield, Edited}
+use Rattle.rules.specs.Edit.{Res, Edited}
 use Rattle.rules.specs.Ops.{Command, fits_lists, accepted_as}
 use Rattle.tables.specs.View.{Tables}
 use Rattle.tables.specs.Formed.{sound_tables}
 use Rattle.store.specs.Store.{room_of}
-use Rattle.report.specs.Report.{listed, warned, warned_at, accepting, answer_counts, counter_behind}
-use Rattle.report.specs.declared.Answer.{Answer}
-use Rattle.report.specs.declared.Answer.TheVariants.{Refused}
+use Rattle.report.specs.Report.{listed, warned, warned_at, accepting, answer_counts, counter_behind, Answer}
 use Rattle.report.specs.declared.Counts.{Counts}
 use Rattle.report.proofs.Warnings.{room}
 use Rattle.step.specs.Step.{Lent, Ended, ended, step, changing, lists_of, state_of}
@@ -33,8 +32,6 @@ use Rattle.job_step.proofs.Turn.{turn-refused, turn-yields, enough-entities}
 use Rattle.job_marks.specs.Marks.{mark_all, pairs_in}
 use Rattle.job_marks.proofs.Pairs.{pairs_of}
 use Rattle.job_turn.specs.Turn as T
-use Rattle.job_turn.specs.declared.Turn.{Turn}
-use Rattle.job_turn.specs.declared.Turn.TheVariants.{Done}
 
 -- what the edit comes to
 abbrev pub outcome : Tolerance → Command → Lent → Res Edited
@@ -42,7 +39,7 @@ outcome tol c l = edit_once tol (room_of l.tables) c (map_in (held_in l))
 
 -- the lists have places for what it changes
 abbrev pub Fits : Tolerance → Command → Lent → Type 0
-Fits tol c l = (e : Edited) → outcome tol c l ≡ yield e → fits_lists (lists_of l) e.changes ≡ true
+Fits tol c l = (e : Edited) → outcome tol c l ≡ Ok e → fits_lists (lists_of l) e.changes ≡ true
 
 -- ---- what a call leaves, by what the edit comes to
 
@@ -53,7 +50,7 @@ pub record Left (c : Command) (l after : Lent) (a : Answer) (r : Res Edited) : T
   pub marks-left : (old : Tables) (ms : List ℕ) → mark_all old (pairs_in (answer_counts a).modified after.modified) ms ≡ T.marks_behind old ms r
   pub warnings-left : (at : ℕ) (w : List ℕ) → l.warnings ≡ drop (at * 10) w → take (at * 10) w ++ after.warnings ≡ T.warnings_behind at w r
 
-left-refused : (c : Command) (l : Lent) (r : Refusal) → Left c l l (Refused r) (refuse r)
+left-refused : (c : Command) (l : Lent) (r : Refusal) → Left c l l (Err r) (Err r)
 unfolding mark_all pairs_in reads
 left-refused c l r =
     record {
@@ -65,13 +62,13 @@ left-refused c l r =
     }
 
 counts-are : (cs : ChangeSet) (second : Option ℕ) → (answer_counts (accepting cs second)).modified ≡ length cs.modified
-counts-are cs none = refl
-counts-are cs (some second) = refl
+counts-are cs None = refl
+counts-are cs (Some second) = refl
 
 done_as : (k n : ℕ) (cs : ChangeSet) (second : Option ℕ) → counter_behind k (accepting cs second) ≡ n
-    → T.answered k (accepting cs second) ≡ Done n (length cs.warnings)
-done_as k n cs none p = ap (λ m. Done m (length cs.warnings)) p
-done_as k n cs (some second) p = ap (λ m. Done m (length cs.warnings)) p
+    → T.answered k (accepting cs second) ≡ Ok (record { counter = n; warnings = (length cs.warnings) })
+done_as k n cs None p = ap (λ m. Ok (record { counter = m; warnings = (length cs.warnings) })) p
+done_as k n cs (Some second) p = ap (λ m. Ok (record { counter = m; warnings = (length cs.warnings) })) p
 
 modified_room : (l : Lent) (cs : ChangeSet) → fits_lists (lists_of l) cs ≡ true → length cs.modified * 2 ≤ length l.modified
 modified_room l cs h =
@@ -86,7 +83,7 @@ abbrev accepted : Command → Lent → Edited → Ended
 accepted c l e = changing c l (accepted_as (state_of l) e).state e.changes e.second
 
 left-accepted : (c : Command) (l : Lent) (e : Edited) → fits_lists (lists_of l) e.changes ≡ true
-    → (accepted c l e).lent.counter ≡ counter_behind l.counter (accepted c l e).answer → Left c l (accepted c l e).lent (accepted c l e).answer (yield e)
+    → (accepted c l e).lent.counter ≡ counter_behind l.counter (accepted c l e).answer → Left c l (accepted c l e).lent (accepted c l e).answer (Ok e)
 left-accepted c l e fits counted =
     let n = counts-are e.changes e.second in
     record {
@@ -111,13 +108,13 @@ part-put w v a h = let t : post_of a (length w - a) w ≡ [] = Post-is a (length
 module _ (tol : Tolerance) (c : Command) (l after : Lent) (a : Answer) (ends : ended after a ≡ step tol c l) where
   module _ (sane : sound_tables l.counter l.tables ≡ true) (fits : Fits tol c l) where
     by-outcome : (r : Res Edited) → outcome tol c l ≡ r → Left c l after a r
-    by-outcome (refuse r) y = subst (λ n. Left c l n.lent n.answer (refuse r)) (sym (ends ∙ turn-refused tol c l sane r y)) (left-refused c l r)
-    by-outcome (yield e) y =
+    by-outcome (Err r) y = subst (λ n. Left c l n.lent n.answer (Err r)) (sym (ends ∙ turn-refused tol c l sane r y)) (left-refused c l r)
+    by-outcome (Ok e) y =
         let f = fits e y in
         let g = turn-yields tol c l sane e y f in
         let k : (accepted c l e).lent.counter ≡ counter_behind l.counter (accepted c l e).answer =
         subst (λ n. n.lent.counter ≡ counter_behind l.counter n.answer) g (step-counter tol c l) in
-        subst (λ n. Left c l n.lent n.answer (yield e)) (sym (ends ∙ g)) (left-accepted c l e f k)
+        subst (λ n. Left c l n.lent n.answer (Ok e)) (sym (ends ∙ g)) (left-accepted c l e f k)
 
     left : Left c l after a (outcome tol c l)
     left = by-outcome (outcome tol c l) refl
@@ -126,7 +123,7 @@ module _ (tol : Tolerance) (c : Command) (l after : Lent) (a : Answer) (ends : e
     may-mark n p q = rw (p, q) left.modified-fits
 
     -- the warnings were lent as the part that begins at row `at`
-    pub made_as : (old : Tables) (ms ms' : List ℕ) (at : ℕ) (w w' : List ℕ) (n : Counts) (t : Turn) → n ≡ answer_counts a
+    pub made_as : (old : Tables) (ms ms' : List ℕ) (at : ℕ) (w w' : List ℕ) (n : Counts) (t : Res Done) → n ≡ answer_counts a
         → ms' ≡ mark_all old (pairs_in n.modified after.modified) ms → at * 10 ≤ length w → l.warnings ≡ mid_of (at * 10) (length w - at * 10) w
         → w' ≡ put_mid (at * 10) (length w - at * 10) w after.warnings → t ≡ T.answered l.counter a
         → T.turn_ends after.tables ms' w' t ≡ T.made tol old c (held_in l) ms at w
@@ -145,6 +142,6 @@ module _ (tol : Tolerance) (c : Command) (l : Lent) (sane : sound_tables l.count
   pub room_fits : (at : ℕ) (w : List ℕ) → l.warnings ≡ mid_of (at * 10) (length w - at * 10) w → (at + T.warning_count tol c (held_in l)) * 10 ≤ length w → Fits tol c l
   room_fits at w p h e y =
       let n : (at + length e.changes.warnings) * 10 ≤ length w =
-      subst (λ r. (at + elim r [ refuse x ↦ 0 | yield x ↦ length x.changes.warnings ]) * 10 ≤ length w) y h in
+      subst (λ r. (at + elim r [ Err x ↦ 0 | Ok x ↦ length x.changes.warnings ]) * 10 ≤ length w) y h in
       let m : length l.warnings ≡ length w - at * 10 = ap length (p ∙ part-lent w (at * 10)) ∙ length-drop (at * 10) w in
       enough-entities tol c l sane e y (omega arith) (omega arith) (omega arith) (omega arith)

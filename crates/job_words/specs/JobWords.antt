@@ -3,8 +3,7 @@ use Rattle.std.specs.Prelude.{ℕ, zero, suc, ◌+◌, ◌/◌, List, [], ◌∷
 use Rattle.words.specs.Words.{command_of, kind_word, id_word}
 use Rattle.jobs.specs.declared.Job.{Job}
 use Rattle.jobs.specs.declared.Edit.{Edit}
-use Rattle.jobs.specs.declared.JobAnswer.{JobAnswer}
-use Rattle.jobs.specs.Answers.{job_number, job_place, job_own_number, job_entity, job_counts}
+use Rattle.jobs.specs.Answers.{job_number, job_place, job_own_number, job_entity, job_counts, JobAnswer}
 use Rattle.job_words.specs.declared.ToldJob.{ToldJob}
 
 -- n commands, one behind the other; past the end all words are 0

@@ -48,12 +48,10 @@ pub fn job_of(rows: &[u64]) -> Job
     let mut edits = [Edit {
         command: Command::RemoveLane { lane: 0 },
     }; 64];
-    let mut i = 0;
-    while i < EDITS {
+    for i in 0..EDITS {
         edits[i] = Edit {
             command: command_at(rows, i),
         };
-        i += 1;
     }
     Job {
         count: ((rows.len() + (COMMAND - 1)) / COMMAND) as u64,
@@ -65,12 +63,12 @@ pub fn job_of(rows: &[u64]) -> Job
 pub fn tell(counter: u64, answer: JobAnswer) -> ToldJob
     ensures { result ≡ W.told_job counter answer }
 {
-    let entity = answer.entity();
-    let n = answer.counts();
+    let entity = jobs::job_entity(answer);
+    let n = jobs::job_counts(answer);
     ToldJob {
-        number: answer.number(),
-        place: answer.place(),
-        own: answer.own_number(),
+        number: jobs::job_number(answer),
+        place: jobs::job_place(answer),
+        own: jobs::job_own_number(answer),
         kind: words::kind_word(entity),
         id: words::id_word(entity),
         created: n.created as u64,

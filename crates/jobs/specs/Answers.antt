@@ -1,47 +1,47 @@
 -- What a job answers, in document 02's numbers. "Numbers above 12 carry no entity", and 9 and 10 have none.
-use Rattle.std.specs.Prelude.{ℕ}
+use Rattle.entities.specs.declared.EntityRef.{EntityRef}
+use Rattle.std.specs.Prelude.{ℕ, Option, None, Result, Ok, Err}
 use Rattle.entities.specs.Types.{refusal_number, refusal_entity}
-use Rattle.entities.specs.declared.OptionEntity.{OptionEntity}
-use Rattle.entities.specs.declared.OptionEntity.TheVariants.{None as NoEntity}
 use Rattle.report.specs.declared.Counts.{Counts}
-use Rattle.jobs.specs.declared.JobAnswer.{JobAnswer}
-use Rattle.jobs.specs.declared.JobAnswer.TheVariants.{Made, TooManyEdits, Unsound, NoRoom, EditRefused}
+use Rattle.jobs.specs.declared.JobRefusal.{JobRefusal}
+use Rattle.jobs.specs.declared.JobRefusal.TheVariants.{TooManyEdits, Unsound, NoRoom, EditRefused}
+
+-- What a job answers: the counts of its net lists, or why it was not made.
+abbrev pub JobAnswer : Type 0
+JobAnswer = Result Counts JobRefusal
 
 abbrev pub job_number : JobAnswer → ℕ
-job_number (Made n) = 0
-job_number TooManyEdits = 13
-job_number Unsound = 9
-job_number NoRoom = 10
-job_number (EditRefused place r) = 12
+job_number (Ok n) = 0
+job_number (Err TooManyEdits) = 13
+job_number (Err Unsound) = 9
+job_number (Err NoRoom) = 10
+job_number (Err (EditRefused place r)) = 12
 
 -- "12 with its place counted from 1, its own number and its entity"
 abbrev pub job_place : JobAnswer → ℕ
-job_place (Made n) = 0
-job_place TooManyEdits = 0
-job_place Unsound = 0
-job_place NoRoom = 0
-job_place (EditRefused place r) = place
+job_place (Ok n) = 0
+job_place (Err TooManyEdits) = 0
+job_place (Err Unsound) = 0
+job_place (Err NoRoom) = 0
+job_place (Err (EditRefused place r)) = place
 
 abbrev pub job_own_number : JobAnswer → ℕ
-job_own_number (Made n) = 0
-job_own_number TooManyEdits = 0
-job_own_number Unsound = 0
-job_own_number NoRoom = 0
-job_own_number (EditRefused place r) = refusal_number r
+job_own_number (Ok n) = 0
+job_own_number (Err TooManyEdits) = 0
+job_own_number (Err Unsound) = 0
+job_own_number (Err NoRoom) = 0
+job_own_number (Err (EditRefused place r)) = refusal_number r
 
-abbrev pub job_entity : JobAnswer → OptionEntity
-job_entity (Made n) = NoEntity
-job_entity TooManyEdits = NoEntity
-job_entity Unsound = NoEntity
-job_entity NoRoom = NoEntity
-job_entity (EditRefused place r) = refusal_entity r
+abbrev pub job_entity : JobAnswer → Option EntityRef
+job_entity (Ok n) = None
+job_entity (Err TooManyEdits) = None
+job_entity (Err Unsound) = None
+job_entity (Err NoRoom) = None
+job_entity (Err (EditRefused place r)) = refusal_entity r
 
 abbrev pub no_counts : Counts
 no_counts = record { created = 0; modified = 0; deleted = 0; warnings = 0 }
 
 abbrev pub job_counts : JobAnswer → Counts
-job_counts (Made n) = n
-job_counts TooManyEdits = no_counts
-job_counts Unsound = no_counts
-job_counts NoRoom = no_counts
-job_counts (EditRefused place r) = no_counts
+job_counts (Ok n) = n
+job_counts (Err refusal) = no_counts

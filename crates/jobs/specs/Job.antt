@@ -1,16 +1,16 @@
 -- Document 02 (a), on maps: "Take up to 64 edits as one job, each working on the map the last one left. Either all are made or the map stays as it was."
-use Rattle.std.specs.Prelude.{ℕ, suc, Bool, ◌&&◌, cond, List, [], ◌∷◌, map, leb, take}
+use Rattle.jobs.specs.Answers.{JobAnswer}
+use Rattle.std.specs.Prelude.{ℕ, suc, Bool, ◌&&◌, cond, List, [], ◌∷◌, map, leb, take, Err, Ok}
 use Rattle.lists.specs.Select.{any, each, keep}
 use Rattle.entities.specs.Records.{Map, ChangeSet}
 use Rattle.rules.specs.Names.{Tolerance, Refusal, EntityRef}
 use Rattle.rules.specs.Sound.{sound, Room, Lists}
-use Rattle.rules.specs.Edit.{Res, refuse, yield, Edited}
+use Rattle.rules.specs.Edit.{Res, Edited}
 use Rattle.rules.specs.Ops.{Command, State, edit, settled, accepted_as, fits_lists}
 use Rattle.rules.specs.Demand.{entities, among, appeared, vanished}
 use Rattle.report.specs.Report.{counts}
 use Rattle.jobs.specs.declared.Job.{Job}
-use Rattle.jobs.specs.declared.JobAnswer.{JobAnswer}
-use Rattle.jobs.specs.declared.JobAnswer.TheVariants.{Made, TooManyEdits, Unsound, NoRoom, EditRefused}
+use Rattle.jobs.specs.declared.JobRefusal.TheVariants.{TooManyEdits, Unsound, NoRoom, EditRefused}
 
 -- ---- a job
 
@@ -41,7 +41,7 @@ preceded cs (stopped place r) = stopped place r
 unfoldable pub edits : Tolerance → Room → ℕ → List Command → State → Run State
 edits tol room place [] s = done s []
 edits tol room place (c ∷ cs) s =
-    elim (edit_once tol room c s) [ refuse r ↦ stopped place r | yield e ↦ preceded e.changes (edits tol room (suc place) cs (accepted_as s e).state) ]
+    elim (edit_once tol room c s) [ Err r ↦ stopped place r | Ok e ↦ preceded e.changes (edits tol room (suc place) cs (accepted_as s e).state) ]
 
 -- ---- the net change set
 
@@ -81,16 +81,16 @@ refused_job s a = record { state = s; changes = nothing; answer = a }
 
 -- "a net list or the warnings too long for their slice is 10 at the end"
 abbrev pub finish_job : Lists → State → Run State → JobOutcome
-finish_job ls s (stopped place r) = refused_job s (EditRefused place r)
+finish_job ls s (stopped place r) = refused_job s (Err (EditRefused place r))
 finish_job ls s (done t css) =
     let cs = net s.map t.map css in
-    cond (fits_lists ls cs) (record { state = t; changes = cs; answer = Made (counts cs) }) (refused_job s NoRoom)
+    cond (fits_lists ls cs) (record { state = t; changes = cs; answer = Ok (counts cs) }) (refused_job s (Err NoRoom))
 
 -- "Checks: more than 64 edits is 13, before all else, an area with a slice shorter than the map's is 10 after 9, an edit refused is 12", then the lists.
 unfoldable pub job_map : Tolerance → Room → JobCall → State → JobOutcome
 job_map tol room c s =
     cond (leb c.job.count max_edits)
     (cond (sound s.counter s.map)
-    (cond c.area (finish_job c.lists s (edits tol room 1 (commands c.job) s)) (refused_job s NoRoom))
-    (refused_job s Unsound))
-    (refused_job s TooManyEdits)
+    (cond c.area (finish_job c.lists s (edits tol room 1 (commands c.job) s)) (refused_job s (Err NoRoom)))
+    (refused_job s (Err Unsound)))
+    (refused_job s (Err TooManyEdits))

@@ -6,7 +6,7 @@ ghost use Rattle.lists.specs.Rows.{over};
 ghost use Rattle.polyline.specs.Polyline as L;
 ghost use Rattle.polyline.specs.Polyline.{points, flat};
 
-use polyline::OptionPoint3;
+use geometry::Point3;
 
 // The points of a line from number `from` on, written from place k on.
 fn copy_points(line: &[f64], from: usize, out: &mut [f64], k: usize)
@@ -14,12 +14,8 @@ fn copy_points(line: &[f64], from: usize, out: &mut [f64], k: usize)
     ensures { out.new ≡ over out.old (k * 3) (flat (drop from (points line.now))) }
 {
     let n = polyline::count(line);
-    let mut i = from;
-    let mut to = k;
-    while i < n {
-        polyline::put_point(out, to, polyline::point(line, i));
-        i += 1;
-        to += 1;
+    for i in from..n {
+        polyline::put_point(out, k + (i - from), polyline::point(line, i));
     }
 }
 
@@ -28,22 +24,20 @@ pub fn reversed(line: &[f64], out: &mut [f64]) -> usize
     ensures { (result ≡ length (points line.now)) × (out.new ≡ over out.old 0 (flat (reverse (points line.now)))) }
 {
     let n = polyline::count(line);
-    let mut i = 0;
-    while i < n {
+    for i in 0..n {
         polyline::put_point(out, i, polyline::point(line, n - 1 - i));
-        i += 1;
     }
     n
 }
 
 // How many points a line that begins at `start` loses behind one that ends at `end`: 1 where both are there and nearer than `join`, else 0.
-pub fn meeting(join: f64, end: OptionPoint3, start: OptionPoint3) -> usize
+pub fn meeting(join: f64, end: Option<Point3>, start: Option<Point3>) -> usize
     ensures { result ≡ L.meeting join end start }
 {
-    let OptionPoint3::Some(p) = end else {
+    let Some(p) = end else {
         return 0;
     };
-    let OptionPoint3::Some(q) = start else {
+    let Some(q) = start else {
         return 0;
     };
     if p.distance(q) < join { 1 } else { 0 }

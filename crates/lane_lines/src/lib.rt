@@ -10,9 +10,7 @@ ghost use Rattle.tables.specs.View.{word};
 ghost use Rattle.lookup.specs.Lookup as K;
 
 use entities::Side;
-use lists::Found;
-use lookup::{OptionCount, OptionLength};
-use polyline::OptionPoint3;
+use geometry::Point3;
 use tables::{LANE, LANE_CENTERLINE, POINT};
 
 // Floats in the longest line, of 256 points.
@@ -25,15 +23,12 @@ pub fn oriented_first(
     side: Side,
     boundaries: &[u64],
     coordinates: &[f64],
-) -> OptionPoint3
+) -> Option<Point3>
     requires { (K.sorted_table 1024 52 lanes.now ≡ true) × ((i < word 0 lanes.now) × ((K.sorted_table 4096 5 boundaries.now ≡ true) × (K.all_stored 5 2 coordinates.now boundaries.now ≡ true))) }
     ensures { result ≡ first_of (K.side_line coordinates.now lanes.now boundaries.now i side) }
 {
     let r = lookup::boundary_ref(lanes, i, side);
-    let found = lookup::boundary(boundaries, r.boundary);
-    let Found::At(j) = found else {
-        return OptionPoint3::None;
-    };
+    let j = lookup::boundary(boundaries, r.boundary)?;
     let line = lookup::boundary_line(boundaries, j, coordinates);
     if r.reversed {
         return polyline::last(line);
@@ -48,15 +43,12 @@ pub fn oriented_last(
     side: Side,
     boundaries: &[u64],
     coordinates: &[f64],
-) -> OptionPoint3
+) -> Option<Point3>
     requires { (K.sorted_table 1024 52 lanes.now ≡ true) × ((i < word 0 lanes.now) × ((K.sorted_table 4096 5 boundaries.now ≡ true) × (K.all_stored 5 2 coordinates.now boundaries.now ≡ true))) }
     ensures { result ≡ last_of (K.side_line coordinates.now lanes.now boundaries.now i side) }
 {
     let r = lookup::boundary_ref(lanes, i, side);
-    let found = lookup::boundary(boundaries, r.boundary);
-    let Found::At(j) = found else {
-        return OptionPoint3::None;
-    };
+    let j = lookup::boundary(boundaries, r.boundary)?;
     let line = lookup::boundary_line(boundaries, j, coordinates);
     if r.reversed {
         return polyline::first(line);
@@ -70,10 +62,8 @@ fn copied(line: &[f64], out: &mut [f64]) -> usize
     ensures { (result ≡ length (points line.now)) × (out.new ≡ over out.old 0 (flat (points line.now))) }
 {
     let n = polyline::count(line);
-    let mut i = 0;
-    while i < n {
+    for i in 0..n {
         polyline::put_point(out, i, polyline::point(line, i));
-        i += 1;
     }
     n
 }
@@ -97,17 +87,14 @@ pub fn oriented_boundary(
     boundaries: &[u64],
     coordinates: &[f64],
     out: &mut [f64],
-) -> OptionCount
+) -> Option<usize>
     requires { (K.sorted_table 1024 52 lanes.now ≡ true) × ((i < word 0 lanes.now) × ((K.sorted_table 4096 5 boundaries.now ≡ true) × ((K.all_stored 5 2 coordinates.now boundaries.now ≡ true) × ((K.all_short 5 2 boundaries.now ≡ true) × (768 ≤ length out.old))))) }
     ensures { (result ≡ K.count_of (K.side_line coordinates.now lanes.now boundaries.now i side)) × (out.new ≡ over out.old 0 (flat (K.points_or (K.side_line coordinates.now lanes.now boundaries.now i side)))) }
 {
     let r = lookup::boundary_ref(lanes, i, side);
-    let found = lookup::boundary(boundaries, r.boundary);
-    let Found::At(j) = found else {
-        return OptionCount::None;
-    };
+    let j = lookup::boundary(boundaries, r.boundary)?;
     let line = lookup::boundary_line(boundaries, j, coordinates);
-    OptionCount::Some(put_line(line, r.reversed, out))
+    Some(put_line(line, r.reversed, out))
 }
 
 // The line between both boundaries along the lane, which are written to `left` and `right`.
@@ -119,25 +106,21 @@ fn between_sides(
     left: &mut [f64],
     right: &mut [f64],
     out: &mut [f64],
-) -> OptionCount
+) -> Option<usize>
     requires { (K.Drawable lanes.now boundaries.now coordinates.now) × ((i < word 0 lanes.now) × ((768 ≤ length left.old) × ((768 ≤ length right.old) × (768 ≤ length out.old)))) }
     ensures { (result ≡ K.count_of (derived (K.side_line coordinates.now lanes.now boundaries.now i Left) (K.side_line coordinates.now lanes.now boundaries.now i Right))) × ((out.new ≡ over out.old 0 (flat (K.points_or (derived (K.side_line coordinates.now lanes.now boundaries.now i Left) (K.side_line coordinates.now lanes.now boundaries.now i Right))))) × ((left.new ≡ over left.old 0 (flat (K.points_or (K.side_line coordinates.now lanes.now boundaries.now i Left)))) × (right.new ≡ over right.old 0 (flat (K.points_or (K.side_line coordinates.now lanes.now boundaries.now i Right)))))) }
 {
     let l = oriented_boundary(lanes, i, Side::Left, boundaries, coordinates, left);
     let r = oriented_boundary(lanes, i, Side::Right, boundaries, coordinates, right);
-    let OptionCount::Some(a) = l else {
-        return OptionCount::None;
-    };
-    let OptionCount::Some(b) = r else {
-        return OptionCount::None;
-    };
+    let a = l?;
+    let b = r?;
     let left_end = a * POINT;
     let right_end = b * POINT;
     let n = stations::centerline(&left[..left_end], &right[..right_end], out);
     if n == 0 {
-        return OptionCount::None;
+        return None;
     }
-    OptionCount::Some(n)
+    Some(n)
 }
 
 // That line; both sides are kept in local arrays.
@@ -147,7 +130,7 @@ fn derived(
     boundaries: &[u64],
     coordinates: &[f64],
     out: &mut [f64],
-) -> OptionCount
+) -> Option<usize>
     requires { (K.Drawable lanes.now boundaries.now coordinates.now) × ((i < word 0 lanes.now) × (768 ≤ length out.old)) }
     ensures { (result ≡ K.count_of (derived (K.side_line coordinates.now lanes.now boundaries.now i Left) (K.side_line coordinates.now lanes.now boundaries.now i Right))) × (out.new ≡ over out.old 0 (flat (K.points_or (derived (K.side_line coordinates.now lanes.now boundaries.now i Left) (K.side_line coordinates.now lanes.now boundaries.now i Right))))) }
 {
@@ -171,7 +154,7 @@ pub fn centerline(
     boundaries: &[u64],
     coordinates: &[f64],
     out: &mut [f64],
-) -> OptionCount
+) -> Option<usize>
     requires { (K.Drawable lanes.now boundaries.now coordinates.now) × ((i < word 0 lanes.now) × (768 ≤ length out.old)) }
     ensures { (result ≡ K.count_of (K.center_line coordinates.now lanes.now boundaries.now i)) × (out.new ≡ over out.old 0 (flat (K.points_or (K.center_line coordinates.now lanes.now boundaries.now i)))) }
 {
@@ -179,7 +162,7 @@ pub fn centerline(
     if lanes[at] == 0 {
         return derived(lanes, i, boundaries, coordinates, out);
     }
-    OptionCount::Some(copied(lookup::line_of(lanes, at + 1, coordinates), out))
+    Some(copied(lookup::line_of(lanes, at + 1, coordinates), out))
 }
 
 // The length of the centreline, which is written to `line`.
@@ -189,19 +172,16 @@ fn length_in(
     boundaries: &[u64],
     coordinates: &[f64],
     line: &mut [f64],
-) -> OptionLength
+) -> Option<f64>
     requires { (K.Drawable lanes.now boundaries.now coordinates.now) × ((i < word 0 lanes.now) × (768 ≤ length line.old)) }
     ensures { (result ≡ K.length_of (K.center_line coordinates.now lanes.now boundaries.now i)) × (line.new ≡ over line.old 0 (flat (K.points_or (K.center_line coordinates.now lanes.now boundaries.now i)))) }
 {
-    let found = centerline(lanes, i, boundaries, coordinates, line);
-    let OptionCount::Some(n) = found else {
-        return OptionLength::None;
-    };
+    let n = centerline(lanes, i, boundaries, coordinates, line)?;
     let end = n * POINT;
-    OptionLength::Some(polyline::length(&line[..end]))
+    Some(polyline::length(&line[..end]))
 }
 
-pub fn lane_length(lanes: &[u64], i: usize, boundaries: &[u64], coordinates: &[f64]) -> OptionLength
+pub fn lane_length(lanes: &[u64], i: usize, boundaries: &[u64], coordinates: &[f64]) -> Option<f64>
     requires { (K.Drawable lanes.now boundaries.now coordinates.now) × (i < word 0 lanes.now) }
     ensures { result ≡ K.length_of (K.center_line coordinates.now lanes.now boundaries.now i) }
 {

@@ -22,9 +22,9 @@ pub fn list_gone(lane: u64, gone: Gone, deleted: &mut [u64])
     requires { length (P.leaving lane (P.gone_ids gone)) * 2 ≤ length deleted.old }
     ensures { deleted.new ≡ listed deleted.old (P.leaving lane (P.gone_ids gone)) }
 {
-    let boundary = EntityKind::Boundary.number();
+    let boundary = u64::from(EntityKind::Boundary);
     let n = gone.count;
-    let one = mentions::put_where(true, EntityKind::Lane.number(), lane, deleted, 0);
+    let one = mentions::put_where(true, u64::from(EntityKind::Lane), lane, deleted, 0);
     let two = mentions::put_where(0 < n, boundary, gone.first, deleted, one);
     mentions::put_where(1 < n, boundary, gone.second, deleted, two);
 }
@@ -83,14 +83,12 @@ pub fn warn(rules: &[u64], lane: u64, warnings: &mut [u64])
     ensures { warnings.new ≡ warned warnings.old (map orphan_rule (N.naming Orphans lane rules.now)) }
 {
     let n = rules[0] as usize;
-    let mut i = 0;
     let mut place = 0;
-    while i < n {
+    for i in 0..n {
         let row = 1 + i * RULE;
         let end = row + RULE;
         let on = mentions::names_lane(&rules[row..end], Rows::Orphans, lane);
         place = warn_where(on, rules[row], warnings, place);
-        i += 1;
     }
 }
 

@@ -1,8 +1,9 @@
 -- Every created entity has one of the ids that its edit allocated: as many ids are allocated as entities are created. Assumes nothing, of the map too.
+use Rattle.std.specs.Prelude.{Option, None, Some, Ok}
+use Rattle.entities.specs.declared.Neighbor.{Neighbor}
 use mathlib.Core.Path.{◌≡◌, refl, sym, ap, ◌∙◌, subst}
 use mathlib.Core.Bool.{Bool, true, false, not, ◌&&◌, cond}
 use mathlib.Core.List.{List, [], ◌∷◌, ◌++◌, map}
-use mathlib.Core.Option.{Option, none, some}
 use Prim.Native.Nat.{ℕ, suc, ◌+◌}
 use native.Mathlib.Nat.{add_comm}
 use lib.Dec.{eqb}
@@ -17,13 +18,11 @@ use Rattle.entities.specs.declared.Side.TheVariants as S
 use Rattle.entities.specs.declared.BoundaryRef.{BoundaryRef}
 use Rattle.entities.specs.declared.EntityKind.{EntityKind}
 use Rattle.entities.specs.declared.EntityKind.TheVariants as K
-use Rattle.entities.specs.declared.OptionNeighbor.{OptionNeighbor}
 use Rattle.entities.specs.declared.Refusal.TheVariants as R
-use Rattle.entities.specs.Types.{neighbor_option}
 use Rattle.entities.specs.Records.{Lane, Boundary, Map}
 use Rattle.rules.specs.Map.{boundary, boundary_on, oriented_in, oriented, oriented_boundary, lanes_using_boundary, centerline, flat_point}
 use Rattle.rules.specs.Sound.{next_id}
-use Rattle.rules.specs.Edit.{yield, check, require, Edited, require_lane, require_neighbor, refs, connect, disconnect, set_neighbor}
+use Rattle.rules.specs.Edit.{check, require, Edited, require_lane, require_neighbor, refs, connect, disconnect, set_neighbor, Res}
 use Rattle.rules.specs.Lane.{remove_lane}
 use Rattle.rules.specs.Merge.{SidePlan, kept, joined, joined_lines, side_plan, plan_ids, new_boundary, merged, merge_lanes}
 use Rattle.rules.specs.Split.{LanePlan, Piece, piece_ids, pieces_ids, new_piece, new_pieces, halves, cut_station, cuttable, lane_plans, all_cross, cut, group_of, split_lane}
@@ -41,7 +40,7 @@ use Rattle.laws.proofs.SplitYield.{cut_of, pieces_of, cut-yields}
 abbrev Counted : Edited → Type 0
 Counted e = length e.changes.created ≡ e.ids
 
-by-yield : {x e : Edited} → yield x ≡ yield e → Counted x → Counted e
+by-yield : {x e : Edited} → ◌≡◌ {A = Res Edited} (Ok x) (Ok e) → Counted x → Counted e
 by-yield h t = subst Counted (yields h) t
 
 named : {A : Type 0} (k : EntityKind) (id : A → ℕ) (xs : List A) → length (refs k (map id xs)) ≡ length xs
@@ -55,16 +54,16 @@ module _ (m : Map) (i : ℕ) where
 
   -- a new boundary takes after the first lane's, which is there
   joined-makes : (join : Float) (alone : Bool) (ra rb : BoundaryRef) (oa ob : Option Boundary) → boundary m ra.boundary ≡ oa → (p : SidePlan)
-      → joined_lines join alone ra.boundary rb.boundary (oriented_in ra oa) (oriented_in rb ob) ≡ yield p → Makes ra p
-  joined-makes join alone ra rb none ob ea p h = absurd (no-yield (R.BoundaryAbsent ra.boundary) p h)
-  joined-makes join alone ra rb (some x) none ea p h = absurd (no-yield (R.BoundaryAbsent rb.boundary) p h)
-  joined-makes join alone ra rb (some x) (some y) ea p h = subst (Makes ra) (yields h) (go alone)
+      → joined_lines join alone ra.boundary rb.boundary (oriented_in ra oa) (oriented_in rb ob) ≡ Ok p → Makes ra p
+  joined-makes join alone ra rb None ob ea p h = absurd (no-yield (R.BoundaryAbsent ra.boundary) p h)
+  joined-makes join alone ra rb (Some x) None ea p h = absurd (no-yield (R.BoundaryAbsent rb.boundary) p h)
+  joined-makes join alone ra rb (Some x) (Some y) ea p h = subst (Makes ra) (yields h) (go alone)
     where
       go : (c : Bool) → Makes ra (joined c (concat join (oriented ra x) (oriented rb y)))
       go true = refl
       go false = ap length (new-one m i ra (concat join (oriented ra x) (oriented rb y)) x ea)
 
-  side-makes : (tol : Tolerance) (side : Side) (a b : Lane) (p : SidePlan) → side_plan tol m side a b ≡ yield p → Makes (boundary_on side a) p
+  side-makes : (tol : Tolerance) (side : Side) (a b : Lane) (p : SidePlan) → side_plan tol m side a b ≡ Ok p → Makes (boundary_on side a) p
   unfolding side_plan oriented_boundary
   side-makes tol side a b p h =
       let ra = (boundary_on side a).boundary in
@@ -72,14 +71,14 @@ module _ (m : Map) (i : ℕ) where
       go (eqb ra rb) (same_numbers (lanes_using_boundary m.lanes ra) (a.id ∷ []) && same_numbers (lanes_using_boundary m.lanes rb) (b.id ∷ [])) h
     where
       go : (c alone : Bool)
-          → cond c (yield kept) (joined_lines tol.join alone (boundary_on side a).boundary (boundary_on side b).boundary
+          → cond c (Ok kept) (joined_lines tol.join alone (boundary_on side a).boundary (boundary_on side b).boundary
           (oriented_in (boundary_on side a) (boundary m (boundary_on side a).boundary)) (oriented_in (boundary_on side b) (boundary m (boundary_on side b).boundary)))
-          ≡ yield p → Makes (boundary_on side a) p
+          ≡ Ok p → Makes (boundary_on side a) p
       go true alone h = subst (Makes (boundary_on side a)) (yields h) refl
       go false alone h =
           joined-makes tol.join alone (boundary_on side a) (boundary_on side b) (boundary m (boundary_on side a).boundary) (boundary m (boundary_on side b).boundary) refl p h
 
-merged-counted : (tol : Tolerance) (next : ℕ) (m : Map) (a b : Lane) (pl pr : SidePlan) → side_plan tol m S.Left a b ≡ yield pl → side_plan tol m S.Right a b ≡ yield pr
+merged-counted : (tol : Tolerance) (next : ℕ) (m : Map) (a b : Lane) (pl pr : SidePlan) → side_plan tol m S.Left a b ≡ Ok pl → side_plan tol m S.Right a b ≡ Ok pr
     → Counted (merged tol next m a b pl pr)
 unfolding merged
 merged-counted tol next m a b pl pr el er =
@@ -121,7 +120,7 @@ cut-counted tol start m i group ps xs e is =
 -- ---- the six commands
 
 module _ (tol : Tolerance) (s : State) (e : Edited) where
-  connect-counted : (a b : ℕ) → edit tol (ConnectLanes a b) s ≡ yield e → Counted e
+  connect-counted : (a b : ℕ) → edit tol (ConnectLanes a b) s ≡ Ok e → Counted e
   unfolding edit connect
   connect-counted a b h =
       let m = s.map in
@@ -130,7 +129,7 @@ module _ (tol : Tolerance) (s : State) (e : Edited) where
       let (ok, e3, h3) = bound (check (not (eqb a b)) (R.OwnPartner a)) _ e h2 in
       by-yield h3 refl
 
-  disconnect-counted : (a b : ℕ) → edit tol (DisconnectLanes a b) s ≡ yield e → Counted e
+  disconnect-counted : (a b : ℕ) → edit tol (DisconnectLanes a b) s ≡ Ok e → Counted e
   unfolding edit disconnect
   disconnect-counted a b h =
       let m = s.map in
@@ -138,19 +137,19 @@ module _ (tol : Tolerance) (s : State) (e : Edited) where
       let (to, e2, h2) = bound (require_lane m b) _ e h1 in
       by-yield h2 refl
 
-  set_neighbor_counted : (a : ℕ) (side : Side) (new : OptionNeighbor) → edit tol (SetNeighbor a side new) s ≡ yield e → Counted e
+  set_neighbor_counted : (a : ℕ) (side : Side) (new : Option Neighbor) → edit tol (SetNeighbor a side new) s ≡ Ok e → Counted e
   unfolding edit set_neighbor
   set_neighbor_counted a side new h =
       let m = s.map in
       let (l, e1, h1) = bound (require_lane m a) _ e h in
-      let (ok, e2, h2) = bound (require_neighbor m a (neighbor_option new)) _ e h1 in
+      let (ok, e2, h2) = bound (require_neighbor m a new) _ e h1 in
       by-yield h2 refl
 
-  remove-counted : (a : ℕ) → edit tol (RemoveLane a) s ≡ yield e → Counted e
+  remove-counted : (a : ℕ) → edit tol (RemoveLane a) s ≡ Ok e → Counted e
   unfolding edit remove_lane
   remove-counted a h = let (gone, e1, h1) = bound (require_lane s.map a) _ e h in by-yield h1 refl
 
-  merge-counted : (a b : ℕ) → edit tol (MergeLanes a b) s ≡ yield e → Counted e
+  merge-counted : (a b : ℕ) → edit tol (MergeLanes a b) s ≡ Ok e → Counted e
   unfolding edit merge_lanes
   merge-counted a b h =
       let m = s.map in
@@ -163,7 +162,7 @@ module _ (tol : Tolerance) (s : State) (e : Edited) where
       let (pr, er, h7) = bound (side_plan tol m S.Right la lb) _ e h6 in
       by-yield h7 (merged-counted tol (next_id s.counter) m la lb pl pr el er)
 
-  split-counted : (i : ℕ) (at : SplitAt) (neighbors : Bool) → edit tol (SplitLane i at neighbors) s ≡ yield e → Counted e
+  split-counted : (i : ℕ) (at : SplitAt) (neighbors : Bool) → edit tol (SplitLane i at neighbors) s ≡ Ok e → Counted e
   unfolding edit split_lane
   split-counted i at neighbors h =
       let m = s.map in
@@ -179,7 +178,7 @@ module _ (tol : Tolerance) (s : State) (e : Edited) where
       cut-counted tol start m i group ps (pieces_of m group p start) e (yields h7)
 
 -- every command, on every map
-pub allocated : (tol : Tolerance) (c : Command) (s : State) (e : Edited) → edit tol c s ≡ yield e → length e.changes.created ≡ e.ids
+pub allocated : (tol : Tolerance) (c : Command) (s : State) (e : Edited) → edit tol c s ≡ Ok e → length e.changes.created ≡ e.ids
 allocated tol (SplitLane i at neighbors) s e = split-counted tol s e i at neighbors
 allocated tol (MergeLanes a b) s e = merge-counted tol s e a b
 allocated tol (ConnectLanes a b) s e = connect-counted tol s e a b

@@ -1,8 +1,8 @@
 -- The lists of an edit that takes away and adds: what appears and what vanishes, kind by kind, and that the lists are exact. Assumes nothing.
+use Rattle.std.specs.Prelude.{Some}
 use mathlib.Core.Path.{◌≡◌, refl, sym, ap, ◌∙◌, subst}
 use mathlib.Core.Bool.{Bool, true, false, not, ◌&&◌, cond, true≢false}
 use mathlib.Core.List.{List, [], ◌∷◌, ◌++◌, map}
-use mathlib.Core.Option.{some}
 use Prim.Native.Nat.{ℕ}
 use lib.Dec.{eqb}
 use Rattle.lists.specs.Every.{all}
@@ -51,7 +51,7 @@ found_before key i [] ys h = absurd (true≢false (sym h))
 found_before key i (x ∷ xs) ys h = go (eqb (key x) i) (eqb_swap i (key x)) (found_before key i xs ys)
   where
     go : (c : Bool) → eqb i (key x) ≡ c → (has i (map key xs) ≡ true → find (λ x. eqb (key x) i) xs ≡ find (λ x. eqb (key x) i) (xs ++ ys))
-        → cond c (some x) (find (λ x. eqb (key x) i) xs) ≡ cond c (some x) (find (λ x. eqb (key x) i) (xs ++ ys))
+        → cond c (Some x) (find (λ x. eqb (key x) i) xs) ≡ cond c (Some x) (find (λ x. eqb (key x) i) (xs ++ ys))
     go true e r = refl
     go false e r = r (rw e at h)
 

@@ -1,8 +1,8 @@
 -- connect and disconnect keep soundness.
+use Rattle.std.specs.Prelude.{Some}
 use mathlib.Core.Path.{◌≡◌, refl, sym, ap, ◌∙◌}
 use mathlib.Core.Bool.{Bool, true, false, not, ◌&&◌, ◌||◌, cond}
 use mathlib.Core.List.{List, [], ◌∷◌, ◌++◌, map}
-use mathlib.Core.Option.{some}
 use Prim.Native.Nat.{ℕ}
 use native.Mathlib.Omega.{arith}
 use lib.Dec.{eqb, ltb}
@@ -28,7 +28,7 @@ use Rattle.laws.proofs.Keeps.{all-place, other_names, relink-sound}
 -- ---- what every relinking wants
 
 -- a test that every lane's names pass, passes the id of a lane that is there
-pub found_all : {A : Type 0} (p q : A → Bool) (xs : List A) (x : A) → find p xs ≡ some x → all q xs ≡ true → q x ≡ true
+pub found_all : {A : Type 0} (p q : A → Bool) (xs : List A) (x : A) → find p xs ≡ Some x → all q xs ≡ true → q x ≡ true
 unfolding find all
 found_all p q [] x e a = let z : ◌≡◌ {A = ℕ} 0 1 = cc in absurd (nothing z)
   where
@@ -36,9 +36,9 @@ found_all p q [] x e a = let z : ◌≡◌ {A = ℕ} 0 1 = cc in absurd (nothing
     nothing z = omega arith
 found_all p q (y ∷ ys) x e a = go (p y) refl (λ r. found_all p q ys x r (and-snd (q y) (all q ys) a))
   where
-    go : (b : Bool) → p y ≡ b → (find p ys ≡ some x → q x ≡ true) → q x ≡ true
+    go : (b : Bool) → p y ≡ b → (find p ys ≡ Some x → q x ≡ true) → q x ≡ true
     go true h r =
-        let s : some y ≡ some x = rw h at e in
+        let s : Some y ≡ Some x = rw h at e in
         let u : y ≡ x = cc in
         rw (sym u) (and-fst (q y) (all q ys) a)
     go false h r = r (rw h at e)
@@ -54,7 +54,7 @@ own-passes : (below : ℕ → Bool) (l : Lane) → all below (lane_names l) ≡ 
 unfolding all
 own-passes below l t = and-fst (below l.id) (all below (behind l)) t
 
-pub present-passes : (m : Map) (below : ℕ → Bool) (i : ℕ) (l : Lane) → lane m i ≡ some l → all below (ids_named m) ≡ true → below i ≡ true
+pub present-passes : (m : Map) (below : ℕ → Bool) (i : ℕ) (l : Lane) → lane m i ≡ Some l → all below (ids_named m) ≡ true → below i ≡ true
 unfolding ids_named lane
 present-passes m below i l e t =
     let u = sym (all_split below (each lane_names m.lanes) (other_names m)) ∙ t in
@@ -133,7 +133,7 @@ same-slots l ps ss S.Right = refl
 
 -- ---- connect, disconnect
 
-pub connect-sound : (counter : ℕ) (m : Map) (a b : ℕ) (la lb : Lane) → lane m a ≡ some la → lane m b ≡ some lb → sound counter m ≡ true
+pub connect-sound : (counter : ℕ) (m : Map) (a b : ℕ) (la lb : Lane) → lane m a ≡ Some la → lane m b ≡ Some lb → sound counter m ≡ true
     → within_limits (with_lanes (map (link_in a b) m.lanes) m) ≡ true → sound counter (with_lanes (map (link_in a b) m.lanes) m) ≡ true
 connect-sound counter m a b la lb ea eb h limits =
     let s = sound-facts counter m h in

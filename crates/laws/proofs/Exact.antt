@@ -1,8 +1,8 @@
 -- The lists of an edit that changes lanes' links and neighbours alone: nothing appears, nothing vanishes, and what differs is in modified.
+use Rattle.std.specs.Prelude.{Option, None, Some}
 use mathlib.Core.Path.{◌≡◌, refl, sym, ap, ◌∙◌}
 use mathlib.Core.Bool.{Bool, true, false, not, ◌&&◌, ◌||◌, cond}
 use mathlib.Core.List.{List, [], ◌∷◌, ◌++◌, map}
-use mathlib.Core.Option.{Option, none, some}
 use Prim.Native.Nat.{ℕ}
 use lib.Dec.{eqb, ltb}
 use borrow.Author.Tests.{eqb-true, eq-eqb}
@@ -68,8 +68,8 @@ sorted-refs k (i ∷ ids) h = sorted-refs-after k i ids h
 -- ---- rows
 
 abbrev pub changed_by : {A : Type 0} → (A → A) → Option A → Option A
-changed_by f none = none
-changed_by f (some x) = some (f x)
+changed_by f None = None
+changed_by f (Some x) = Some (f x)
 
 -- the found row after a change that keeps keys
 pub found_map : {A : Type 0} (key : A → ℕ) (f : A → A) → ((x : A) → key (f x) ≡ key x) → (i : ℕ) (xs : List A)
@@ -79,7 +79,7 @@ found_map key f h i [] = refl
 found_map key f h i (x ∷ xs) = rw (h x) (go (eqb (key x) i) (found_map key f h i xs))
   where
     go : (b : Bool) → find (λ y. eqb (key y) i) (map f xs) ≡ changed_by f (find (λ y. eqb (key y) i) xs)
-        → cond b (some (f x)) (find (λ y. eqb (key y) i) (map f xs)) ≡ changed_by f (cond b (some x) (find (λ y. eqb (key y) i) xs))
+        → cond b (Some (f x)) (find (λ y. eqb (key y) i) (map f xs)) ≡ changed_by f (cond b (Some x) (find (λ y. eqb (key y) i) xs))
     go true r = refl
     go false r = r
 
@@ -130,7 +130,7 @@ any-weaken p q (x ∷ xs) h t = go (p x) refl (any-weaken p q xs h)
 
 -- The lists of a change f of the lanes that keeps their ids: modified is the lanes that pass p, and every other lane is as it was.
 module _ (m : Map) (f : Lane → Lane) (ids : (l : Lane) → (f l).id ≡ l.id) (p : Lane → Bool) (up : ascending (lane_ids m) ≡ true)
-    (still : (i : ℕ) (l : Lane) → lane m i ≡ some l → p l ≡ false → f l ≡ l) where
+    (still : (i : ℕ) (l : Lane) → lane m i ≡ Some l → p l ≡ false → f l ≡ l) where
   abbrev after : Map
   after = with_lanes (map f m.lanes) m
 
@@ -152,7 +152,7 @@ module _ (m : Map) (f : Lane → Lane) (ids : (l : Lane) → (f l).id ≡ l.id) 
       any_append (same_entity e) (refs K.Lane (lane_ids m)) (rest m) ∙ or_left (any (same_entity e) (refs K.Lane (lane_ids m))) (any (same_entity e) (rest m)) x
 
   -- a lane that is found and not in modified does not pass
-  not-passed : (i : ℕ) (l : Lane) → lane m i ≡ some l → has i (map (λ l. l.id) (keep p m.lanes)) ≡ false → p l ≡ false
+  not-passed : (i : ℕ) (l : Lane) → lane m i ≡ Some l → has i (map (λ l. l.id) (keep p m.lanes)) ≡ false → p l ≡ false
   unfolding lane
   not-passed i l e h = go (p l) refl
     where
@@ -168,10 +168,10 @@ module _ (m : Map) (f : Lane → Lane) (ids : (l : Lane) → (f l).id ≡ l.id) 
   lane-still i h = rw (found_map (λ l. l.id) f ids i m.lanes) (go (find (λ l. eqb l.id i) m.lanes) refl)
     where
       go : (o : Option Lane) → find (λ l. eqb l.id i) m.lanes ≡ o → row_of lane_row o ≡ row_of lane_row (changed_by f o)
-      go none e = refl
-      go (some l) e =
-          let found : lane m i ≡ some l = unfold lane in e in
-          ap (λ k. some (lane_row k)) (sym (still i l found (not-passed i l found h)))
+      go None e = refl
+      go (Some l) e =
+          let found : lane m i ≡ Some l = unfold lane in e in
+          ap (λ k. Some (lane_row k)) (sym (still i l found (not-passed i l found h)))
 
   abbrev pub listed : List Issue → ChangeSet
   listed ws = record { created = []; modified = lanes_where p m.lanes; deleted = []; warnings = ws }

@@ -1,8 +1,8 @@
 -- Finding a row: in changed and joined lists, by another key, and in a numbered list. Assumes nothing.
+use Rattle.std.specs.Prelude.{Option, None, Some}
 use mathlib.Core.Path.{◌≡◌, refl, sym, ap, ◌∙◌}
 use mathlib.Core.Bool.{Bool, true, false, cond}
 use mathlib.Core.List.{List, [], ◌∷◌, ◌++◌, map}
-use mathlib.Core.Option.{Option, none, some}
 use Prim.Native.Nat.{ℕ, suc, ◌+◌, ◌<◌, ◌≤◌}
 use native.Mathlib.Omega.{arith}
 use lib.Dec.{eqb, ltb, leb}
@@ -17,20 +17,20 @@ use Rattle.laws.proofs.Connect.{found_all}
 -- ---- general
 
 abbrev pub mapped : {A B : Type 0} → (A → B) → Option A → Option B
-mapped f none = none
-mapped f (some x) = some (f x)
+mapped f None = None
+mapped f (Some x) = Some (f x)
 
 abbrev pub or_else : {A : Type 0} → Option A → Option A → Option A
-or_else none o = o
-or_else (some x) o = some x
+or_else None o = o
+or_else (Some x) o = Some x
 
-pub no-some : {A : Type 0} (x : A) → none ≡ some x → ⊥
+pub no-some : {A : Type 0} (x : A) → None ≡ Some x → ⊥
 no-some x e = let z : ◌≡◌ {A = ℕ} 0 1 = cc in nothing z
   where
     nothing : ◌≡◌ {A = ℕ} 0 1 → ⊥
     nothing z = omega arith
 
-pub some_is : {A : Type 0} {x y : A} → some x ≡ some y → x ≡ y
+pub some_is : {A : Type 0} {x y : A} → Some x ≡ Some y → x ≡ y
 some_is e = cc
 
 pub find-mapped : {A B : Type 0} (p : B → Bool) (f : A → B) (xs : List A) → find p (map f xs) ≡ mapped f (find (λ x. p (f x)) xs)
@@ -39,7 +39,7 @@ find-mapped p f [] = refl
 find-mapped p f (x ∷ xs) = go (p (f x)) (find-mapped p f xs)
   where
     go : (b : Bool) → find p (map f xs) ≡ mapped f (find (λ y. p (f y)) xs)
-        → cond b (some (f x)) (find p (map f xs)) ≡ mapped f (cond b (some x) (find (λ y. p (f y)) xs))
+        → cond b (Some (f x)) (find p (map f xs)) ≡ mapped f (cond b (Some x) (find (λ y. p (f y)) xs))
     go true r = refl
     go false r = r
 
@@ -49,31 +49,31 @@ find-append p [] ys = refl
 find-append p (x ∷ xs) ys = go (p x) (find-append p xs ys)
   where
     go : (b : Bool) → find p (xs ++ ys) ≡ or_else (find p xs) (find p ys)
-        → cond b (some x) (find p (xs ++ ys)) ≡ or_else (cond b (some x) (find p xs)) (find p ys)
+        → cond b (Some x) (find p (xs ++ ys)) ≡ or_else (cond b (Some x) (find p xs)) (find p ys)
     go true r = refl
     go false r = r
 
 -- nothing is found where nothing passes
-pub find_none : {A : Type 0} (p q : A → Bool) (xs : List A) → all q xs ≡ true → ((x : A) → q x ≡ true → p x ≡ false) → find p xs ≡ none
+pub find_none : {A : Type 0} (p q : A → Bool) (xs : List A) → all q xs ≡ true → ((x : A) → q x ≡ true → p x ≡ false) → find p xs ≡ None
 unfolding find all
 find_none p q [] a h = refl
 find_none p q (x ∷ xs) a h = rw (h x (and-fst (q x) (all q xs) a)) (find_none p q xs (and-snd (q x) (all q xs) a) h)
 
 -- what is found is found by its key, where keys ascend
-pub found-by : {A : Type 0} (key : A → ℕ) (p : A → Bool) (xs : List A) (x : A) → ascending (map key xs) ≡ true → find p xs ≡ some x
-    → find (λ y. eqb (key y) (key x)) xs ≡ some x
+pub found-by : {A : Type 0} (key : A → ℕ) (p : A → Bool) (xs : List A) (x : A) → ascending (map key xs) ≡ true → find p xs ≡ Some x
+    → find (λ y. eqb (key y) (key x)) xs ≡ Some x
 unfolding find ascending
 found-by key p [] x up e = e
 found-by key p (y ∷ ys) x up e = go (p y) refl (found-by key p ys x (ascending-tail (key y) (map key ys) up))
   where
-    go : (b : Bool) → p y ≡ b → (find p ys ≡ some x → find (λ z. eqb (key z) (key x)) ys ≡ some x)
-        → cond (eqb (key y) (key x)) (some y) (find (λ z. eqb (key z) (key x)) ys) ≡ some x
+    go : (b : Bool) → p y ≡ b → (find p ys ≡ Some x → find (λ z. eqb (key z) (key x)) ys ≡ Some x)
+        → cond (eqb (key y) (key x)) (Some y) (find (λ z. eqb (key z) (key x)) ys) ≡ Some x
     go true h r =
-        let s : some y ≡ some x = rw h at e in
+        let s : Some y ≡ Some x = rw h at e in
         let u : y ≡ x = some_is s in
         rw (eq-eqb (key y) (key x) (ap key u)) s
     go false h r =
-        let s : find p ys ≡ some x = rw h at e in
+        let s : find p ys ≡ Some x = rw h at e in
         let later : all (λ z. ltb (key y) (key z)) ys ≡ true = sym (all_map (ltb (key y)) key ys) ∙ above-all (key y) (map key ys) up in
         let l : key y < key x = ltb-true (key y) (key x) (found_all p (λ z. ltb (key y) (key z)) ys x s later) in
         rw (ne_eqb (key y) (key x) (λ q. omega arith)) (r s)

@@ -1,8 +1,8 @@
 -- A lane is forgotten: what does not name it is as it was. Assumes nothing.
+use Rattle.std.specs.Prelude.{Option, None, Some}
 use mathlib.Core.Path.{◌≡◌, refl, ap, ◌∙◌}
 use mathlib.Core.Bool.{false, ◌||◌, cond}
 use mathlib.Core.List.{List}
-use mathlib.Core.Option.{Option, none, some}
 use Prim.Native.Nat.{ℕ}
 use Rattle.lists.specs.Select.{has, without}
 use Rattle.lists.proofs.Place.{without-absent}
@@ -16,8 +16,8 @@ use Rattle.rules.specs.Lane.{mentions, freed, forgetting, road_lanes, junction_l
 -- ---- what does not name the lane is as it was
 
 freed-still : (a : ℕ) (o : Option Neighbor) → names o a ≡ false → freed a o ≡ o
-freed-still a none t = refl
-freed-still a (some n) t = ap (λ b. cond b none (some n)) t
+freed-still a None t = refl
+freed-still a (Some n) t = ap (λ b. cond b None (Some n)) t
 
 pub forgetting-still : (a : ℕ) (l : Lane) → mentions a l ≡ false → forgetting a l ≡ l
 forgetting-still a l t =

@@ -1,8 +1,8 @@
 -- A table whose keys ascend, with some rows left out: which keys go, and which rows are found as before. Assumes nothing.
+use Rattle.std.specs.Prelude.{Option, None, Some}
 use mathlib.Core.Path.{◌≡◌, refl, sym, ap, subst, ◌∙◌}
 use mathlib.Core.Bool.{Bool, true, false, not, ◌&&◌, ◌||◌, cond, true≢false}
 use mathlib.Core.List.{List, [], ◌∷◌, map}
-use mathlib.Core.Option.{Option, none, some}
 use Prim.Native.Nat.{ℕ, ◌<◌}
 use native.Mathlib.Omega.{arith}
 use lib.Dec.{eqb, ltb}
@@ -31,15 +31,15 @@ below_none i (x ∷ xs) a =
     rw (ne_eqb i x (λ e. omega arith)) (below_none i xs (and-snd (ltb i x) (all (ltb i) xs) a))
 
 -- what is found and passes is found among those that pass
-pub found-keep : {A : Type 0} (p q : A → Bool) (x : A) (xs : List A) → find q xs ≡ some x → p x ≡ true → find q (keep p xs) ≡ some x
+pub found-keep : {A : Type 0} (p q : A → Bool) (x : A) (xs : List A) → find q xs ≡ Some x → p x ≡ true → find q (keep p xs) ≡ Some x
 unfolding find keep
 found-keep p q x [] e t = e
 found-keep p q x (y ∷ ys) e t = go (q y) (p y) refl refl (λ r. found-keep p q x ys r t)
   where
-    go : (b c : Bool) → q y ≡ b → p y ≡ c → (find q ys ≡ some x → find q (keep p ys) ≡ some x) → find q (cond c (y ∷ keep p ys) (keep p ys)) ≡ some x
+    go : (b c : Bool) → q y ≡ b → p y ≡ c → (find q ys ≡ Some x → find q (keep p ys) ≡ Some x) → find q (cond c (y ∷ keep p ys) (keep p ys)) ≡ Some x
     go true true u v r = rw u (rw u at e)
     go true false u v r =
-        let s : some y ≡ some x = rw u at e in
+        let s : Some y ≡ Some x = rw u at e in
         let w : y ≡ x = cc in
         absurd (true≢false (sym t ∙ (ap p (sym w) ∙ v)))
     go false true u v r = rw u (r (rw u at e))
@@ -77,7 +77,7 @@ module _ {A : Type 0} (key : A → ℕ) where
           ∙ ap (λ zs. key y ∷ zs) r
 
   -- the row with a key, alone
-  pub keep_one : (i : ℕ) (xs : List A) (x : A) → ascending (map key xs) ≡ true → find (λ y. eqb (key y) i) xs ≡ some x → map key (keep (λ y. eqb (key y) i) xs) ≡ i ∷ []
+  pub keep_one : (i : ℕ) (xs : List A) (x : A) → ascending (map key xs) ≡ true → find (λ y. eqb (key y) i) xs ≡ Some x → map key (keep (λ y. eqb (key y) i) xs) ≡ i ∷ []
   unfolding find keep ascending
   keep_one i [] x h e = let z : ◌≡◌ {A = ℕ} 0 1 = cc in absurd (nothing z)
     where
@@ -95,7 +95,7 @@ module _ {A : Type 0} (key : A → ℕ) where
           nil [] = refl
           nil (z ∷ zs) = nil zs
 
-      go : (b : Bool) → eqb (key y) i ≡ b → (find (λ z. eqb (key z) i) ys ≡ some x → map key (keep (λ z. eqb (key z) i) ys) ≡ i ∷ [])
+      go : (b : Bool) → eqb (key y) i ≡ b → (find (λ z. eqb (key z) i) ys ≡ Some x → map key (keep (λ z. eqb (key z) i) ys) ≡ i ∷ [])
           → map key (cond b (y ∷ keep (λ z. eqb (key z) i) ys) (keep (λ z. eqb (key z) i) ys)) ≡ i ∷ []
       go true t r =
           let u : key y ≡ i = eqb-true (key y) i t in
@@ -118,8 +118,8 @@ module _ {A : Type 0} (key : A → ℕ) where
       u = sym (has-found p i xs h) ∙ t
 
       go : (o : Option A) → find (λ x. eqb (key x) i) xs ≡ o → o ≡ find (λ x. eqb (key x) i) (keep p xs)
-      go none e = absurd (true≢false (sym (sym (ap (on_found p) e) ∙ u)))
-      go (some x) e = sym (found-keep p (λ x. eqb (key x) i) x xs e (sym (ap (on_found p) e) ∙ u))
+      go None e = absurd (true≢false (sym (sym (ap (on_found p) e) ∙ u)))
+      go (Some x) e = sym (found-keep p (λ x. eqb (key x) i) x xs e (sym (ap (on_found p) e) ∙ u))
 
   -- a change that leaves the rows that do not pass r: a row whose key is not one of those that pass is found as before
   pub still-row : (f : A → A) → ((x : A) → key (f x) ≡ key x) → (r : A → Bool) → ((x : A) → r x ≡ false → f x ≡ x) → (i : ℕ) (xs : List A)
@@ -127,5 +127,5 @@ module _ {A : Type 0} (key : A → ℕ) where
   still-row f ids r same i xs h t = go (find (λ x. eqb (key x) i) xs) refl ∙ sym (found_map key f ids i xs)
     where
       go : (o : Option A) → find (λ x. eqb (key x) i) xs ≡ o → o ≡ changed_by f (find (λ x. eqb (key x) i) xs)
-      go none e = rw e
-      go (some x) e = rw e (ap some (sym (same x (ap (on_found r) (sym e) ∙ (sym (has-found r i xs h) ∙ t)))))
+      go None e = rw e
+      go (Some x) e = rw e (ap Some (sym (same x (ap (on_found r) (sym e) ∙ (sym (has-found r i xs h) ∙ t)))))

@@ -1,9 +1,9 @@
 -- Why the law's exact lists want the counter to have the ids: at the largest counter a map may hold that very id, and a merge's new boundary would bear it.
 -- The call is refused then (11). Assumes nothing.
+use Rattle.std.specs.Prelude.{None, Ok}
 use mathlib.Core.Path.{◌≡◌, refl, sym, ◌∙◌}
 use mathlib.Core.Bool.{true, false}
 use mathlib.Core.List.{List, [], ◌∷◌}
-use mathlib.Core.Option.{none}
 use Prim.Native.Nat.{ℕ}
 use native.Mathlib.Omega.{arith}
 use lib.Dec.{leb}
@@ -11,7 +11,7 @@ use Rattle.entities.specs.Types.{forward, preset, boundary_entity}
 use Rattle.entities.specs.declared.EntityRef.{EntityRef}
 use Rattle.entities.specs.Records.{Lane, Boundary}
 use Rattle.rules.specs.Sound.{sound, last_counter}
-use Rattle.rules.specs.Edit.{yield, Edited}
+use Rattle.rules.specs.Edit.{Edited}
 use Rattle.rules.specs.Ops.{MergeLanes, State, edit, counter_after}
 use Rattle.rules.specs.Merge.{kept, fresh, merged}
 use Rattle.rules.specs.Demand.{appeared, Exact}
@@ -24,13 +24,13 @@ lane_with i left ps ss =
       kind = 0;
       left = forward left;
       right = forward 1;
-      centerline = none;
-      speed_limit = none;
+      centerline = None;
+      speed_limit = None;
       one_way = true;
       turn_direction = 0;
       attributes = 0;
-      left_neighbor = none;
-      right_neighbor = none;
+      left_neighbor = None;
+      right_neighbor = None;
       predecessors = ps;
       successors = ss;
     }
@@ -60,7 +60,7 @@ crowded-sound = refl
 abbrev pub outcome : Edited
 outcome = merged preset last_counter crowded.map first second (fresh []) kept
 
-pub crowded-yields : edit preset (MergeLanes 1 2) crowded ≡ yield outcome
+pub crowded-yields : edit preset (MergeLanes 1 2) crowded ≡ Ok outcome
 unfolding opened
 crowded-yields = refl
 

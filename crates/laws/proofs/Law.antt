@@ -1,4 +1,5 @@
 -- The law of one accepted call, and demand 3 over every list of calls whose commands obey it.
+use Rattle.std.specs.Prelude.{Err, Ok}
 use mathlib.Core.Path.{◌≡◌, refl, sym, ap, ◌∙◌, subst}
 use mathlib.Core.Bool.{Bool, true, false, ◌&&◌, cond}
 use mathlib.Core.List.{List, [], ◌∷◌}
@@ -12,7 +13,7 @@ use Rattle.entities.specs.declared.Refusal.TheVariants as R
 use Rattle.entities.specs.Records.{Map}
 use Rattle.rules.specs.Map.{leads_to}
 use Rattle.rules.specs.Sound.{sound, Room, fits_room, within_limits, last_counter, point_count}
-use Rattle.rules.specs.Edit.{Res, refuse, yield, ◌>>=◌, check, Edited}
+use Rattle.rules.specs.Edit.{Res, ◌>>=◌, check, Edited}
 use Rattle.rules.specs.Ops.{Command, State, Call, Outcome, edit, counter_after, fits_lists, refused_as, accepted_as, listable, outcome_of, finish, step_map, after}
 use Rattle.rules.specs.Book.{Book, entry, booked, book_after}
 use Rattle.rules.specs.Demand.{Exact, Told, AllTold, Demand3}
@@ -30,7 +31,7 @@ pub record Law (c : Command) (s : State) (e : Edited) : Type 0 where
 
 -- A command obeys the law on every sound map.
 abbrev pub Lawful : Tolerance → Command → Type 0
-Lawful tol c = (s : State) → sound s.counter s.map ≡ true → (e : Edited) → edit tol c s ≡ yield e → Law c s e
+Lawful tol c = (s : State) → sound s.counter s.map ≡ true → (e : Edited) → edit tol c s ≡ Ok e → Law c s e
 
 -- ---- one call, refused or not
 
@@ -52,7 +53,7 @@ module _ (tol : Tolerance) (room : Room) (c : Call) (s : State) (sane : sound s.
   refused-kept : (r : Refusal) → Kept tol room c s (refused_as s r)
   refused-kept r = record { sound-left = sane; book-left = λ x y. refl; told = refl }
 
-  accepted-kept : (e : Edited) → edit tol c.command s ≡ yield e → leb (counter_after s.counter e.ids) last_counter ≡ true
+  accepted-kept : (e : Edited) → edit tol c.command s ≡ Ok e → leb (counter_after s.counter e.ids) last_counter ≡ true
       → fits_room room e.result ≡ true → Kept tol room c s (accepted_as s e)
   accepted-kept e h ids fits =
       let l = law s sane e h in
@@ -64,16 +65,16 @@ module _ (tol : Tolerance) (room : Room) (c : Call) (s : State) (sane : sound s.
 
   -- the three tests, one after the other
   finish-kept : (r : Res Edited) → edit tol c.command s ≡ r → Kept tol room c s (finish room c.lists s r)
-  finish-kept (refuse r) h = refused-kept r
-  finish-kept (yield e) h = settles (leb (counter_after s.counter e.ids) last_counter) (fits_room room e.result) refl refl
+  finish-kept (Err r) h = refused-kept r
+  finish-kept (Ok e) h = settles (leb (counter_after s.counter e.ids) last_counter) (fits_room room e.result) refl refl
     where
       lists : leb (counter_after s.counter e.ids) last_counter ≡ true → fits_room room e.result ≡ true → (l : Bool)
-          → Kept tol room c s (outcome_of s (check l R.NoRoom >>= (λ _. yield e)))
+          → Kept tol room c s (outcome_of s (check l R.NoRoom >>= (λ _. Ok e)))
       lists a b false = refused-kept R.NoRoom
       lists a b true = accepted-kept e h a b
 
       settles : (p q : Bool) → leb (counter_after s.counter e.ids) last_counter ≡ p → fits_room room e.result ≡ q
-          → Kept tol room c s (outcome_of s (listable c.lists (check p R.NoIds >>= (λ _. (check q R.NoRoom >>= (λ _. yield e))))))
+          → Kept tol room c s (outcome_of s (listable c.lists (check p R.NoIds >>= (λ _. (check q R.NoRoom >>= (λ _. Ok e))))))
       settles false q a b = refused-kept R.NoIds
       settles true false a b = refused-kept R.NoRoom
       settles true true a b = lists a b (fits_lists c.lists e.changes)

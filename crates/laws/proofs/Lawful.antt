@@ -1,8 +1,8 @@
 -- connect, disconnect and set_neighbor obey the law of an accepted call. Assumes nothing.
+use Rattle.std.specs.Prelude.{Option, None, Some, Err, Ok}
 use mathlib.Core.Path.{◌≡◌, refl, sym, ap, ◌∙◌, subst}
 use mathlib.Core.Bool.{Bool, true, false, not, ◌&&◌, ◌||◌, cond, true≢false}
 use mathlib.Core.List.{List, [], ◌∷◌, ◌++◌, map}
-use mathlib.Core.Option.{Option, none, some}
 use Prim.Native.Nat.{ℕ}
 use native.Mathlib.Omega.{arith}
 use lib.Dec.{eqb}
@@ -17,9 +17,7 @@ use Rattle.entities.specs.declared.IssueCode.TheVariants as C
 use Rattle.entities.specs.Records.{Lane, Map, Issue}
 use Rattle.rules.specs.Map.{lane, leads_to, neighbor_on, names}
 use Rattle.rules.specs.Sound.{sound}
-use Rattle.rules.specs.Edit.{Res, refuse, yield, ◌>>=◌, Passed, passed, check, require, Edited, require_lane, relinking, with_lanes, lanes_where, either, link_in, link_out, gapped, warning, no_op, when, connect, disconnect, set_neighbor, require_neighbor, same_slot, slot_in, slot_after, reslotted, unshared}
-use Rattle.entities.specs.declared.OptionNeighbor.{OptionNeighbor}
-use Rattle.entities.specs.Types.{neighbor_option}
+use Rattle.rules.specs.Edit.{Res, ◌>>=◌, Passed, passed, check, require, Edited, require_lane, relinking, with_lanes, lanes_where, either, link_in, link_out, gapped, warning, no_op, when, connect, disconnect, set_neighbor, require_neighbor, same_slot, slot_in, slot_after, reslotted, unshared}
 use Rattle.rules.specs.Ops.{ConnectLanes, DisconnectLanes, SetNeighbor, State, edit}
 use Rattle.laws.proofs.Links.{connect-leads, disconnect-leads}
 use Rattle.laws.proofs.Connect.{connect-sound, disconnect-sound}
@@ -33,25 +31,25 @@ use Rattle.lists.proofs.Select.{map-itself}
 
 -- ---- what a yielding step yields
 
-pub yields : {A : Type 0} {x y : A} → yield x ≡ yield y → x ≡ y
+pub yields : {A : Type 0} {x y : A} → ◌≡◌ {A = Res A} (Ok x) (Ok y) → x ≡ y
 yields e = cc
 
-pub no-yield : {A : Type 0} (r : Refusal) (y : A) → refuse r ≡ yield y → ⊥
+pub no-yield : {A : Type 0} (r : Refusal) (y : A) → ◌≡◌ {A = Res A} (Err r) (Ok y) → ⊥
 no-yield r y e = let z : ◌≡◌ {A = ℕ} 0 1 = cc in nothing z
   where
     nothing : ◌≡◌ {A = ℕ} 0 1 → ⊥
     nothing z = omega arith
 
 -- a lane that is required and found
-pub required : {B : Type 0} (m : Map) (i : ℕ) (k : Lane → Res B) (e : B) → (require_lane m i >>= k) ≡ yield e → (l : Lane) × (lane m i ≡ some l) × (k l ≡ yield e)
+pub required : {B : Type 0} (m : Map) (i : ℕ) (k : Lane → Res B) (e : B) → (require_lane m i >>= k) ≡ Ok e → (l : Lane) × (lane m i ≡ Some l) × (k l ≡ Ok e)
 required m i k e h = go (lane m i) refl
   where
-    go : (o : Option Lane) → lane m i ≡ o → (l : Lane) × (lane m i ≡ some l) × (k l ≡ yield e)
-    go none q = absurd (no-yield (R.LaneAbsent i) e (ap (λ o. require o (R.LaneAbsent i) >>= k) (sym q) ∙ h))
-    go (some l) q = (l, q, ap (λ o. require o (R.LaneAbsent i) >>= k) (sym q) ∙ h)
+    go : (o : Option Lane) → lane m i ≡ o → (l : Lane) × (lane m i ≡ Some l) × (k l ≡ Ok e)
+    go None q = absurd (no-yield (R.LaneAbsent i) e (ap (λ o. require o (R.LaneAbsent i) >>= k) (sym q) ∙ h))
+    go (Some l) q = (l, q, ap (λ o. require o (R.LaneAbsent i) >>= k) (sym q) ∙ h)
 
 -- a test that is passed
-pub checked : {B : Type 0} (b : Bool) (r : Refusal) (k : Passed → Res B) (e : B) → (check b r >>= k) ≡ yield e → (b ≡ true) × (k passed ≡ yield e)
+pub checked : {B : Type 0} (b : Bool) (r : Refusal) (k : Passed → Res B) (e : B) → (check b r >>= k) ≡ Ok e → (b ≡ true) × (k passed ≡ Ok e)
 checked true r k e h = (refl, h)
 checked false r k e h = absurd (no-yield r e h)
 
@@ -78,7 +76,7 @@ module _ (tol : Tolerance) (a b : ℕ) where
 
       outcome : Map → Lane → Lane → Res Edited
       outcome m from to =
-          yield (relinking (with_lanes (map (link_in a b) m.lanes) m) (lanes_where (λ l. not (leads_to m a b) && either a b l) m.lanes) (warnings m from to))
+          Ok (relinking (with_lanes (map (link_in a b) m.lanes) m) (lanes_where (λ l. not (leads_to m a b) && either a b l) m.lanes) (warnings m from to))
 
   -- ---- disconnect
 
@@ -97,31 +95,31 @@ module _ (tol : Tolerance) (a b : ℕ) where
     where
       outcome : Map → Res Edited
       outcome m =
-          yield (relinking (with_lanes (map (link_out a b) m.lanes) m) (lanes_where (λ l. leads_to m a b && either a b l) m.lanes) (when (not (leads_to m a b)) (no_op a)))
+          Ok (relinking (with_lanes (map (link_out a b) m.lanes) m) (lanes_where (λ l. leads_to m a b && either a b l) m.lanes) (when (not (leads_to m a b)) (no_op a)))
 
 -- ---- set_neighbor
 
 -- what the definition reads of the map is its slots
-old-slot : (m : Map) (a : ℕ) (l : Lane) → lane m a ≡ some l → (side : Side) → slots_of m a side ≡ neighbor_on side l
+old-slot : (m : Map) (a : ℕ) (l : Lane) → lane m a ≡ Some l → (side : Side) → slots_of m a side ≡ neighbor_on side l
 unfolding slots_of
 old-slot m a l e side = ap (λ o. slot_found o side) e
 
 other-slot : (m : Map) (side : Side) (new : Option Neighbor) → held_at (slots_of m) side new ≡ slot_in m side new
 unfolding slots_of
-other-slot m side none = refl
-other-slot m side (some n) = go (lane m n.lane)
+other-slot m side None = refl
+other-slot m side (Some n) = go (lane m n.lane)
   where
-    go : (o : Option Lane) → slot_found o (reciprocal_side side n.direction) ≡ elim o [ none ↦ none | some l ↦ neighbor_on (reciprocal_side side n.direction) l ]
-    go none = refl
-    go (some l) = refl
+    go : (o : Option Lane) → slot_found o (reciprocal_side side n.direction) ≡ elim o [ None ↦ None | Some l ↦ neighbor_on (reciprocal_side side n.direction) l ]
+    go None = refl
+    go (Some l) = refl
 
-named : (m : Map) (a : ℕ) (new : Option Neighbor) {B : Type 0} (k : Passed → Res B) (e : B) → (require_neighbor m a new >>= k) ≡ yield e → Named m a new × (k passed ≡ yield e)
-named m a none k e h = (tt, h)
-named m a (some n) k e h = go (lane m n.lane) refl
+named : (m : Map) (a : ℕ) (new : Option Neighbor) {B : Type 0} (k : Passed → Res B) (e : B) → (require_neighbor m a new >>= k) ≡ Ok e → Named m a new × (k passed ≡ Ok e)
+named m a None k e h = (tt, h)
+named m a (Some n) k e h = go (lane m n.lane) refl
   where
-    go : (o : Option Lane) → lane m n.lane ≡ o → Named m a (some n) × (k passed ≡ yield e)
-    go none q = absurd (no-yield (R.LaneAbsent n.lane) e (ap (λ o. require o (R.LaneAbsent n.lane) >>= (λ l. check (not (eqb n.lane a)) (R.OwnPartner a)) >>= k) (sym q) ∙ h))
-    go (some l) q =
+    go : (o : Option Lane) → lane m n.lane ≡ o → Named m a (Some n) × (k passed ≡ Ok e)
+    go None q = absurd (no-yield (R.LaneAbsent n.lane) e (ap (λ o. require o (R.LaneAbsent n.lane) >>= (λ l. check (not (eqb n.lane a)) (R.OwnPartner a)) >>= k) (sym q) ∙ h))
+    go (Some l) q =
         let h1 = ap (λ o. require o (R.LaneAbsent n.lane) >>= (λ l. check (not (eqb n.lane a)) (R.OwnPartner a)) >>= k) (sym q) ∙ h in
         let (t, h2) = checked (not (eqb n.lane a)) (R.OwnPartner a) k e h1 in
         ((l, q, (λ u. true≢false (sym t ∙ ap not (eq-eqb n.lane a u)))), h2)
@@ -130,9 +128,9 @@ named m a (some n) k e h = go (lane m n.lane) refl
 same-lanes : (m : Map) → with_lanes (map (reslotted (λ i s was. was)) m.lanes) m ≡ m
 same-lanes m = ap (λ ls. with_lanes ls m) (map-itself m.lanes)
 
-module _ (tol : Tolerance) (a : ℕ) (side : Side) (value : OptionNeighbor) where
+module _ (tol : Tolerance) (a : ℕ) (side : Side) (value : Option Neighbor) where
   abbrev new : Option Neighbor
-  new = neighbor_option value
+  new = value
 
   -- the definition's outcome, by what the slots held and whether they are the same
   abbrev outcome_of : Map → Lane → Option Neighbor → Option Neighbor → Bool → Edited
@@ -141,7 +139,7 @@ module _ (tol : Tolerance) (a : ℕ) (side : Side) (value : OptionNeighbor) wher
       (lanes_where (λ x. not same && (eqb x.id a || names old x.id || names new x.id || names other x.id)) m.lanes)
       (when same (no_op a) ++ unshared m l side new)
 
-  law-of : (s : State) → sound s.counter s.map ≡ true → (l : Lane) → lane s.map a ≡ some l → Named s.map a new → (same : Bool)
+  law-of : (s : State) → sound s.counter s.map ≡ true → (l : Lane) → lane s.map a ≡ Some l → Named s.map a new → (same : Bool)
       → Law (SetNeighbor a side value) s (outcome_of s.map l (slots_of s.map a side) (held_at (slots_of s.map) side new) same)
   law-of s sane l ea nm true =
       record {
@@ -170,4 +168,4 @@ module _ (tol : Tolerance) (a : ℕ) (side : Side) (value : OptionNeighbor) wher
       (law-of s sane l ea nm (same_slot (neighbor_on side l) new))
     where
       outcome : Map → Lane → Res Edited
-      outcome m l = yield (outcome_of m l (neighbor_on side l) (slot_in m side new) (same_slot (neighbor_on side l) new))
+      outcome m l = Ok (outcome_of m l (neighbor_on side l) (slot_in m side new) (same_slot (neighbor_on side l) new))

@@ -1,9 +1,9 @@
 -- A lane leaves: of a map with some lanes and boundaries left out and one lane's name taken from every list, each clause of soundness but reciprocity.
 -- Assumes nothing.
+use Rattle.std.specs.Prelude.{Option, None, Some}
 use mathlib.Core.Path.{◌≡◌, refl}
 use mathlib.Core.Bool.{Bool, true, false, not, ◌&&◌, ◌||◌, cond}
 use mathlib.Core.List.{List, [], ◌∷◌, ◌++◌, map}
-use mathlib.Core.Option.{Option, none, some}
 use Prim.Native.Nat.{ℕ, ◌≤◌}
 use native.Mathlib.Omega.{arith}
 use lib.Dec.{eqb, ltb, leb}
@@ -37,10 +37,10 @@ empty-without a xs =
     record { so = λ t. let u : length xs ≡ 0 = eqb-true (length xs) 0 t in let v = length_without a xs in eq-eqb (length (without a xs)) 0 (omega arith) }
 
 part-freed : (a : ℕ) (o : Option Neighbor) → Part (slot_id (freed a o)) (slot_id o)
-part-freed a none = done
-part-freed a (some n) = go (eqb n.lane a)
+part-freed a None = done
+part-freed a (Some n) = go (eqb n.lane a)
   where
-    go : (b : Bool) → Part (slot_id (cond b none (some n))) (n.lane ∷ [])
+    go : (b : Bool) → Part (slot_id (cond b None (Some n))) (n.lane ∷ [])
     go true = less done
     go false = also done
 

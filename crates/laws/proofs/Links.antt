@@ -1,8 +1,8 @@
 -- What connect and disconnect do to the links: exactly the link book's entry, and the mirror image of the predecessors.
+use Rattle.std.specs.Prelude.{Some}
 use mathlib.Core.Path.{◌≡◌, refl, sym, ap, ◌∙◌}
 use mathlib.Core.Bool.{Bool, true, false, not, ◌&&◌, ◌||◌, cond}
 use mathlib.Core.List.{List, [], ◌∷◌, map}
-use mathlib.Core.Option.{some}
 use Prim.Native.Nat.{ℕ}
 use native.Mathlib.Omega.{arith}
 use lib.Dec.{eqb}
@@ -32,7 +32,7 @@ and-swap false false = refl
 
 -- ---- a lane that is found stands in the table
 
-pub found-any : {A : Type 0} (p : A → Bool) (xs : List A) (x : A) → find p xs ≡ some x → (q : A → Bool) → q x ≡ true → any q xs ≡ true
+pub found-any : {A : Type 0} (p : A → Bool) (xs : List A) (x : A) → find p xs ≡ Some x → (q : A → Bool) → q x ≡ true → any q xs ≡ true
 unfolding find any
 found-any p [] x e q t = let z : ◌≡◌ {A = ℕ} 0 1 = cc in absurd (nothing z)
   where
@@ -40,9 +40,9 @@ found-any p [] x e q t = let z : ◌≡◌ {A = ℕ} 0 1 = cc in absurd (nothing
     nothing z = omega arith
 found-any p (y ∷ ys) x e q t = go (p y) refl (λ r. found-any p ys x r q t)
   where
-    go : (b : Bool) → p y ≡ b → (find p ys ≡ some x → any q ys ≡ true) → (q y || any q ys) ≡ true
+    go : (b : Bool) → p y ≡ b → (find p ys ≡ Some x → any q ys ≡ true) → (q y || any q ys) ≡ true
     go true h r =
-        let s : some y ≡ some x = rw h at e in
+        let s : Some y ≡ Some x = rw h at e in
         let u : y ≡ x = cc in
         rw (u, t)
     go false h r = or_right (q y) (any q ys) (r (rw h at e))
@@ -52,7 +52,7 @@ found-any p (y ∷ ys) x e q t = go (p y) refl (λ r. found-any p ys x r q t)
         or_right false b t = t
 
 -- what is found passes
-pub found-passes : {A : Type 0} (p : A → Bool) (xs : List A) (x : A) → find p xs ≡ some x → p x ≡ true
+pub found-passes : {A : Type 0} (p : A → Bool) (xs : List A) (x : A) → find p xs ≡ Some x → p x ≡ true
 unfolding find
 found-passes p [] x e = let z : ◌≡◌ {A = ℕ} 0 1 = cc in absurd (nothing z)
   where
@@ -60,22 +60,22 @@ found-passes p [] x e = let z : ◌≡◌ {A = ℕ} 0 1 = cc in absurd (nothing 
     nothing z = omega arith
 found-passes p (y ∷ ys) x e = go (p y) refl (found-passes p ys x)
   where
-    go : (b : Bool) → p y ≡ b → (find p ys ≡ some x → p x ≡ true) → p x ≡ true
+    go : (b : Bool) → p y ≡ b → (find p ys ≡ Some x → p x ≡ true) → p x ≡ true
     go true h r =
-        let s : some y ≡ some x = rw h at e in
+        let s : Some y ≡ Some x = rw h at e in
         let u : y ≡ x = cc in
         rw u at h
     go false h r = r (rw h at e)
 
 -- the lane with an id has that id
-pub lane-id : (m : Map) (i : ℕ) (l : Lane) → lane m i ≡ some l → l.id ≡ i
+pub lane-id : (m : Map) (i : ℕ) (l : Lane) → lane m i ≡ Some l → l.id ≡ i
 unfolding lane
 lane-id m i l e = eqb-true l.id i (found-passes (λ x. eqb x.id i) m.lanes l e)
 
 -- ---- one pair
 
 -- the test of one pair over a table that has the pair's lane
-one-pair : (m : Map) (a : ℕ) (l : Lane) → lane m a ≡ some l → (x : ℕ) (c : Bool) → any (λ k. eqb k.id x && eqb k.id a && c) m.lanes ≡ (eqb x a && c)
+one-pair : (m : Map) (a : ℕ) (l : Lane) → lane m a ≡ Some l → (x : ℕ) (c : Bool) → any (λ k. eqb k.id x && eqb k.id a && c) m.lanes ≡ (eqb x a && c)
 unfolding lane
 one-pair m a l e x c =
     same_test (any (λ k. eqb k.id x && eqb k.id a && c) m.lanes) (eqb x a && c)
@@ -106,7 +106,7 @@ has-linked false b y s = sym (or-false (has y s))
     or-false false = refl
 
 -- Connecting a to b adds the pair (a, b).
-pub connect-leads : (m : Map) (a b : ℕ) (l : Lane) → lane m a ≡ some l → (x y : ℕ)
+pub connect-leads : (m : Map) (a b : ℕ) (l : Lane) → lane m a ≡ Some l → (x y : ℕ)
     → leads_to (with_lanes (map (link_in a b) m.lanes) m) x y ≡ (leads_to m x y || is_pair a b x y)
 unfolding leads_to
 connect-leads m a b l e x y =
@@ -117,7 +117,7 @@ connect-leads m a b l e x y =
     ∙ ap (λ t. any (λ k. eqb k.id x && has y k.successors) m.lanes || t) (one-pair m a l e x (eqb y b))
 
 -- and so do the predecessors
-pub connect-comes : (m : Map) (a b : ℕ) (l : Lane) → lane m b ≡ some l → (x y : ℕ)
+pub connect-comes : (m : Map) (a b : ℕ) (l : Lane) → lane m b ≡ Some l → (x y : ℕ)
     → comes_from (with_lanes (map (link_in a b) m.lanes) m) x y ≡ (comes_from m x y || is_pair a b x y)
 unfolding comes_from
 connect-comes m a b l e x y =

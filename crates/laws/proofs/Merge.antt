@@ -1,8 +1,8 @@
 -- What merge-lanes yields, written out, and the fields of a lane after a merge. Assumes nothing.
+use Rattle.std.specs.Prelude.{Option, None, Some}
 use mathlib.Core.Path.{◌≡◌, refl, ap, ◌∙◌, sym}
 use mathlib.Core.Bool.{Bool, true, false, not, cond}
 use mathlib.Core.List.{List, [], ◌∷◌, ◌++◌, map}
-use mathlib.Core.Option.{Option, none, some}
 use Prim.Native.Nat.{ℕ, ◌+◌}
 use lib.Dec.{eqb}
 use borrow.Author.Tests.{eqb-true, eq-eqb}
@@ -44,17 +44,17 @@ merged_map tol next m a b pl pr =
 -- ---- general
 
 -- a row that is found, where the rows with one key are left out
-pub find-other : (i x : ℕ) (ls : List Lane) → find (λ l. eqb l.id x) (keep (other i) ls) ≡ cond (eqb x i) none (find (λ l. eqb l.id x) ls)
+pub find-other : (i x : ℕ) (ls : List Lane) → find (λ l. eqb l.id x) (keep (other i) ls) ≡ cond (eqb x i) None (find (λ l. eqb l.id x) ls)
 unfolding find keep
 find-other i x [] = go (eqb x i)
   where
-    go : (b : Bool) → ◌≡◌ {A = Option Lane} none (cond b none none)
+    go : (b : Bool) → ◌≡◌ {A = Option Lane} None (cond b None None)
     go true = refl
     go false = refl
 find-other i x (l ∷ ls) = go (eqb l.id i) (eqb l.id x) refl refl (find-other i x ls)
   where
-    go : (p q : Bool) → eqb l.id i ≡ p → eqb l.id x ≡ q → find (λ k. eqb k.id x) (keep (other i) ls) ≡ cond (eqb x i) none (find (λ k. eqb k.id x) ls)
-        → find (λ k. eqb k.id x) (cond (not p) (l ∷ keep (other i) ls) (keep (other i) ls)) ≡ cond (eqb x i) none (cond q (some l) (find (λ k. eqb k.id x) ls))
+    go : (p q : Bool) → eqb l.id i ≡ p → eqb l.id x ≡ q → find (λ k. eqb k.id x) (keep (other i) ls) ≡ cond (eqb x i) None (find (λ k. eqb k.id x) ls)
+        → find (λ k. eqb k.id x) (cond (not p) (l ∷ keep (other i) ls) (keep (other i) ls)) ≡ cond (eqb x i) None (cond q (Some l) (find (λ k. eqb k.id x) ls))
     go true true e f r =
         let u : x ≡ i = sym (eqb-true l.id x f) ∙ eqb-true l.id i e in
         r ∙ rw (eq-eqb x i u)
@@ -107,14 +107,14 @@ module _ (tol : Tolerance) (next : ℕ) (a b : Lane) (pl pr : SidePlan) where
   after_succs = after-field (λ k. k.successors) succs_after (λ l. refl) (λ l. refl)
 
   -- the lane with an id, after a merge
-  pub lane-after : (m : Map) (x : ℕ) → lane (merged_map tol next m a b pl pr) x ≡ cond (eqb x b.id) none (changed_by (after_merge tol next a b pl pr) (lane m x))
+  pub lane-after : (m : Map) (x : ℕ) → lane (merged_map tol next m a b pl pr) x ≡ cond (eqb x b.id) None (changed_by (after_merge tol next a b pl pr) (lane m x))
   unfolding lane
   lane-after m x =
       found_map (λ l. l.id) (after_merge tol next a b pl pr) after-id x (keep (other b.id) m.lanes)
       ∙ (ap (changed_by (after_merge tol next a b pl pr)) (find-other b.id x m.lanes) ∙ go (eqb x b.id))
     where
-      go : (c : Bool) → changed_by (after_merge tol next a b pl pr) (cond c none (find (λ l. eqb l.id x) m.lanes))
-          ≡ cond c none (changed_by (after_merge tol next a b pl pr) (find (λ l. eqb l.id x) m.lanes))
+      go : (c : Bool) → changed_by (after_merge tol next a b pl pr) (cond c None (find (λ l. eqb l.id x) m.lanes))
+          ≡ cond c None (changed_by (after_merge tol next a b pl pr) (find (λ l. eqb l.id x) m.lanes))
       go true = refl
       go false = refl
 

@@ -1,7 +1,7 @@
 -- merge_lanes: the counter after it is above every id. Assumes nothing.
+use Rattle.std.specs.Prelude.{Some}
 use mathlib.Core.Path.{◌≡◌, refl, sym, ap, ◌∙◌, subst}
 use mathlib.Core.Bool.{Bool, true, false, ◌||◌, cond}
-use mathlib.Core.Option.{some}
 use Prim.Native.Nat.{ℕ, ◌+◌, ◌<◌, ◌≤◌, max}
 use native.Mathlib.Omega.{arith}
 use native.Mathlib.Nat.{le-max_left}
@@ -39,7 +39,7 @@ below_more : (i k : ℕ) → i < k → ltb i (next_id k) ≡ true
 below_more i k h = let u : k ≤ max k 1 = le-max_left k 1 in lt-ltb i (max k 1) (omega arith)
 
 -- The counter after a merge is above every id.
-pub merged-counter : (tol : Tolerance) (counter : ℕ) (m : Map) (a b : Lane) (pl pr : SidePlan) → lane m a.id ≡ some a → lane m b.id ≡ some b
+pub merged-counter : (tol : Tolerance) (counter : ℕ) (m : Map) (a b : Lane) (pl pr : SidePlan) → lane m a.id ≡ Some a → lane m b.id ≡ Some b
     → Planned m a.left.boundary pl → Planned m a.right.boundary pr → counter_above counter m ≡ true
     → leb (counter_after counter (plan_ids pl + plan_ids pr)) last_counter ≡ true
     → counter_above (counter_after counter (plan_ids pl + plan_ids pr)) (merged_map tol (next_id counter) m a b pl pr) ≡ true

@@ -1,8 +1,8 @@
 -- merge_lanes: its change set is exact. Assumes nothing.
+use Rattle.std.specs.Prelude.{Some}
 use mathlib.Core.Path.{◌≡◌, refl, sym, ap, ◌∙◌, subst}
 use mathlib.Core.Bool.{Bool, true, false, ◌&&◌, ◌||◌}
 use mathlib.Core.List.{List, [], ◌++◌, map}
-use mathlib.Core.Option.{some}
 use Prim.Native.Nat.{ℕ}
 use lib.Dec.{eqb}
 use Rattle.lists.specs.Select.{keep, find, has, without, ascending}
@@ -33,7 +33,7 @@ use Rattle.laws.proofs.MergeIds.{Free, kept-joined, boundary-ids, old-not-new, m
 use Rattle.laws.proofs.MergeStill.{takes_part, joined_here, lane-still, boundary-still, rule-unread, joined-stays}
 use Rattle.laws.proofs.MergeLists.{entities-now, made, came, gone, went}
 
-module _ (tol : Tolerance) (next : ℕ) (m : Map) (a b : Lane) (pl pr : SidePlan) (ea : lane m a.id ≡ some a) (eb : lane m b.id ≡ some b)
+module _ (tol : Tolerance) (next : ℕ) (m : Map) (a b : Lane) (pl pr : SidePlan) (ea : lane m a.id ≡ Some a) (eb : lane m b.id ≡ Some b)
     (apart : eqb a.id b.id ≡ false) (fl : Planned m a.left.boundary pl) (fr : Planned m a.right.boundary pr) (free : Free next m pl pr) where
   abbrev n : Map
   n = merged_map tol next m a b pl pr

@@ -1,8 +1,8 @@
 -- merge_lanes obeys the law of one accepted call. Assumes nothing.
+use Rattle.std.specs.Prelude.{Some, Err, Ok}
 use mathlib.Core.Path.{◌≡◌, refl, sym, ap, ◌∙◌, subst}
 use mathlib.Core.Bool.{true, false, not, true≢false}
 use mathlib.Core.List.{List, [], ◌∷◌}
-use mathlib.Core.Option.{some}
 use Prim.Native.Nat.{ℕ, ◌+◌}
 use lib.Dec.{eqb, leb}
 use borrow.Author.Tests.{eqb-true, not-true}
@@ -14,7 +14,7 @@ use Rattle.entities.specs.declared.Refusal.TheVariants as R
 use Rattle.entities.specs.Records.{Lane}
 use Rattle.rules.specs.Map.{lane}
 use Rattle.rules.specs.Sound.{sound, next_id, last_counter}
-use Rattle.rules.specs.Edit.{Res, refuse, yield, ◌>>=◌, check, Edited, require_lane}
+use Rattle.rules.specs.Edit.{Res, ◌>>=◌, check, Edited, require_lane}
 use Rattle.rules.specs.Merge.{SidePlan, side_plan, plan_ids, merged, merge_lanes}
 use Rattle.rules.specs.Ops.{MergeLanes, State, edit, counter_after}
 use Rattle.rules.specs.Demand.{Exact}
@@ -32,9 +32,9 @@ use Rattle.laws.proofs.MergeExact.{merge-exact}
 -- ---- general
 
 -- what a step yields, where the whole yields
-bound : {A B : Type 0} (r : Res A) (k : A → Res B) (e : B) → (r >>= k) ≡ yield e → (x : A) × (r ≡ yield x) × (k x ≡ yield e)
-bound (refuse r) k e h = absurd (no-yield r e h)
-bound (yield x) k e h = (x, refl, h)
+bound : {A B : Type 0} (r : Res A) (k : A → Res B) (e : B) → (r >>= k) ≡ Ok e → (x : A) × (r ≡ Ok x) × (k x ≡ Ok e)
+bound (Err r) k e h = absurd (no-yield r e h)
+bound (Ok x) k e h = (x, refl, h)
 
 same-numbers : (xs ys : List ℕ) → same_numbers xs ys ≡ true → xs ≡ ys
 unfolding same_numbers
@@ -48,7 +48,7 @@ same-numbers (x ∷ xs) (y ∷ ys) h =
 -- ---- an accepted merge
 
 -- The law of the finished map, once both lanes are found and both sides planned.
-module _ (tol : Tolerance) (s : State) (sane : sound s.counter s.map ≡ true) (a b : Lane) (ea : lane s.map a.id ≡ some a) (eb : lane s.map b.id ≡ some b)
+module _ (tol : Tolerance) (s : State) (sane : sound s.counter s.map ≡ true) (a b : Lane) (ea : lane s.map a.id ≡ Some a) (eb : lane s.map b.id ≡ Some b)
     (apart : eqb a.id b.id ≡ false) (out : a.successors ≡ b.id ∷ []) (into : b.predecessors ≡ a.id ∷ []) (pl pr : SidePlan)
     (fl : Planned s.map a.left.boundary pl) (fr : Planned s.map a.right.boundary pr) where
   abbrev e : Edited
@@ -75,10 +75,10 @@ module _ (tol : Tolerance) (s : State) (sane : sound s.counter s.map ≡ true) (
       }
 
 -- the same by the ids that were named, of what the definition yields
-named-law : (tol : Tolerance) (a b : ℕ) (s : State) → sound s.counter s.map ≡ true → (la lb : Lane) → lane s.map a ≡ some la → lane s.map b ≡ some lb
+named-law : (tol : Tolerance) (a b : ℕ) (s : State) → sound s.counter s.map ≡ true → (la lb : Lane) → lane s.map a ≡ Some la → lane s.map b ≡ Some lb
     → not (eqb a b) ≡ true → same_numbers la.successors (b ∷ []) ≡ true → same_numbers lb.predecessors (a ∷ []) ≡ true → (pl pr : SidePlan)
-    → side_plan tol s.map S.Left la lb ≡ yield pl → side_plan tol s.map S.Right la lb ≡ yield pr → (e : Edited)
-    → yield (merged tol (next_id s.counter) s.map la lb pl pr) ≡ yield e → Law (MergeLanes a b) s e
+    → side_plan tol s.map S.Left la lb ≡ Ok pl → side_plan tol s.map S.Right la lb ≡ Ok pr → (e : Edited)
+    → ◌≡◌ {A = Res Edited} (Ok (merged tol (next_id s.counter) s.map la lb pl pr)) (Ok e) → Law (MergeLanes a b) s e
 named-law tol a b s sane la lb ea eb apart out into pl pr el er e h =
     let m = s.map in
     let ia : la.id ≡ a = lane-id m a la ea in
@@ -108,7 +108,7 @@ module _ (tol : Tolerance) (a b : ℕ) where
       named-law tol a b s sane la lb ea eb apart out into pl pr el er e h7
     where
       finished : State → Lane → Lane → SidePlan → SidePlan → Res Edited
-      finished s la lb pl pr = yield (merged tol (next_id s.counter) s.map la lb pl pr)
+      finished s la lb pl pr = Ok (merged tol (next_id s.counter) s.map la lb pl pr)
 
       sides : State → Lane → Lane → Res Edited
       sides s la lb = side_plan tol s.map S.Left la lb >>= (λ pl. side_plan tol s.map S.Right la lb >>= (λ pr. finished s la lb pl pr))

@@ -1,8 +1,8 @@
 -- merge_lanes: the links after it are the link book's entry, and links and neighbours stay reciprocal. Assumes nothing.
+use Rattle.std.specs.Prelude.{Option, None, Some}
 use mathlib.Core.Path.{◌≡◌, refl, sym, ap, ◌∙◌}
 use mathlib.Core.Bool.{Bool, true, false, not, ◌&&◌, ◌||◌, cond, true≢false}
 use mathlib.Core.List.{[], ◌∷◌}
-use mathlib.Core.Option.{Option, none, some}
 use Prim.Native.Nat.{ℕ}
 use lib.Dec.{eqb}
 use borrow.Author.Tests.{eqb-true, eq-eqb}
@@ -111,7 +111,7 @@ module _ (a b : ℕ) (k : Book) (apart : eqb b a ≡ false) (out : (y : ℕ) →
 
 -- ---- the links after a merge
 
-module _ (tol : Tolerance) (next : ℕ) (m : Map) (a b : Lane) (pl pr : SidePlan) (ea : lane m a.id ≡ some a) (eb : lane m b.id ≡ some b)
+module _ (tol : Tolerance) (next : ℕ) (m : Map) (a b : Lane) (pl pr : SidePlan) (ea : lane m a.id ≡ Some a) (eb : lane m b.id ≡ Some b)
     (apart : eqb b.id a.id ≡ false) (up : ascending (lane_ids m) ≡ true) (links : links_reciprocal m ≡ true) (out : a.successors ≡ b.id ∷ [])
     (into : b.predecessors ≡ a.id ∷ []) where
   abbrev n : Map
@@ -144,12 +144,12 @@ module _ (tol : Tolerance) (next : ℕ) (m : Map) (a b : Lane) (pl pr : SidePlan
           ∙ (has-without y b.id l.successors ∙ ap (λ t. has y l.successors && not t) (eqb_swap b.id y))
 
       go : (xb : Bool) (o : Option Lane) (xa : Bool) → lane m x ≡ o → eqb x a.id ≡ xa
-          → on_found (λ l. has y l.successors) (cond xb none (changed_by (after_merge tol next a b pl pr) o))
+          → on_found (λ l. has y l.successors) (cond xb None (changed_by (after_merge tol next a b pl pr) o))
           ≡ cond xb false (cond xa (leads_to m b.id y) (leads_to m x y && not (eqb y b.id)))
       go true o xa e q = refl
-      go false none true e q = absurd (true≢false (ap (on_found (λ l. true)) (sym ea ∙ (ap (lane m) (sym (eqb-true x a.id q)) ∙ e))))
-      go false none false e q = ap (λ t. t && not (eqb y b.id)) (sym (leads-found m x y up ∙ ap (on_found (λ l. has y l.successors)) e))
-      go false (some l) xa e q =
+      go false None true e q = absurd (true≢false (ap (on_found (λ l. true)) (sym ea ∙ (ap (lane m) (sym (eqb-true x a.id q)) ∙ e))))
+      go false None false e q = ap (λ t. t && not (eqb y b.id)) (sym (leads-found m x y up ∙ ap (on_found (λ l. has y l.successors)) e))
+      go false (Some l) xa e q =
           ap (has y) (after_succs tol next a b pl pr l)
           ∙ (of-lane xa l (ap (λ i. eqb i a.id) (lane-id m x l e) ∙ q)
           ∙ (ap (λ t. cond xa t (has y l.successors && not (eqb y b.id))) (sym (leads-found m b.id y up ∙ ap (on_found (λ k. has y k.successors)) eb))
@@ -170,15 +170,15 @@ module _ (tol : Tolerance) (next : ℕ) (m : Map) (a b : Lane) (pl pr : SidePlan
       both o e z = sym (comes-found m z y up ∙ ap (on_found (λ l. has z l.predecessors)) e)
 
       go : (yb : Bool) (o : Option Lane) → lane m y ≡ o
-          → on_found (λ l. has x l.predecessors) (cond yb none (changed_by (after_merge tol next a b pl pr) o))
+          → on_found (λ l. has x l.predecessors) (cond yb None (changed_by (after_merge tol next a b pl pr) o))
           ≡ cond yb false (comes_from m x y && not (eqb x b.id) || (comes_from m b.id y && eqb x a.id))
       go true o e = refl
-      go false none e = rw (sym (both none e x), sym (both none e b.id))
-      go false (some l) e =
+      go false None e = rw (sym (both None e x), sym (both None e b.id))
+      go false (Some l) e =
           ap (has x) (after_preds tol next a b pl pr l)
           ∙ (of-lane l
-          ∙ (ap (λ t. t && not (eqb x b.id) || (has b.id l.predecessors && eqb x a.id)) (both (some l) e x)
-          ∙ ap (λ t. comes_from m x y && not (eqb x b.id) || (t && eqb x a.id)) (both (some l) e b.id)))
+          ∙ (ap (λ t. t && not (eqb x b.id) || (has b.id l.predecessors && eqb x a.id)) (both (Some l) e x)
+          ∙ ap (λ t. comes_from m x y && not (eqb x b.id) || (t && eqb x a.id)) (both (Some l) e b.id)))
 
   -- The link book's entry: (a, b) is dropped, then b reads a in every pair.
   pub merge-leads : (x y : ℕ) → leads_to n x y ≡ book_merge a.id b.id (leads_to m) x y

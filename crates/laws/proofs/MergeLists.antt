@@ -1,8 +1,8 @@
 -- merge_lanes: what it creates is what appeared, and what it deletes is what vanished. Assumes nothing.
+use Rattle.std.specs.Prelude.{Some}
 use mathlib.Core.Path.{◌≡◌, refl, sym, ap, ◌∙◌}
 use mathlib.Core.Bool.{Bool, true, false, not, ◌||◌}
 use mathlib.Core.List.{List, [], ◌∷◌, ◌++◌, map, append-nil}
-use mathlib.Core.Option.{some}
 use Prim.Native.Nat.{ℕ}
 use lib.Dec.{eqb}
 use Rattle.lists.specs.Select.{keep, has, without}
@@ -63,7 +63,7 @@ made next m a pl pr = refs K.Boundary (map (λ x. x.id) (new_ones next m a pl pr
 abbrev pub gone : Tolerance → ℕ → Map → Lane → Lane → SidePlan → SidePlan → List EntityRef
 gone tol next m a b pl pr = refs K.Lane (b.id ∷ []) ++ boundaries_where (unused (a ∷ b ∷ []) (merged_lanes tol next m a b pl pr)) m.boundaries
 
-module _ (tol : Tolerance) (next : ℕ) (m : Map) (a b : Lane) (pl pr : SidePlan) (ea : lane m a.id ≡ some a) (eb : lane m b.id ≡ some b)
+module _ (tol : Tolerance) (next : ℕ) (m : Map) (a b : Lane) (pl pr : SidePlan) (ea : lane m a.id ≡ Some a) (eb : lane m b.id ≡ Some b)
     (apart : eqb a.id b.id ≡ false) (fl : Planned m a.left.boundary pl) (fr : Planned m a.right.boundary pr) (free : Free next m pl pr) where
   abbrev n : Map
   n = merged_map tol next m a b pl pr

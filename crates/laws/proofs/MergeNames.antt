@@ -1,8 +1,8 @@
 -- merge_lanes: every id named after it was named before, or is given by it. Assumes nothing.
+use Rattle.std.specs.Prelude.{Some}
 use mathlib.Core.Path.{◌≡◌, sym, ap, ◌∙◌}
 use mathlib.Core.Bool.{Bool, true, false, cond}
 use mathlib.Core.List.{List, [], ◌∷◌, ◌++◌, map}
-use mathlib.Core.Option.{some}
 use Prim.Native.Nat.{ℕ, ◌+◌}
 use lib.Dec.{eqb}
 use Rattle.lists.specs.Every.{all}
@@ -108,7 +108,7 @@ module _ (t : ℕ → Bool) where
 
 -- ---- the names after a merge
 
-module _ (tol : Tolerance) (next : ℕ) (m : Map) (a b : Lane) (pl pr : SidePlan) (ea : lane m a.id ≡ some a) (eb : lane m b.id ≡ some b)
+module _ (tol : Tolerance) (next : ℕ) (m : Map) (a b : Lane) (pl pr : SidePlan) (ea : lane m a.id ≡ Some a) (eb : lane m b.id ≡ Some b)
     (fl : Planned m a.left.boundary pl) (fr : Planned m a.right.boundary pr) where
   abbrev n : Map
   n = merged_map tol next m a b pl pr

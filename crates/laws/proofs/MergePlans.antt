@@ -1,8 +1,8 @@
 -- merge_lanes: what a planned side gives: a line in reach, and the ids of the boundaries that it makes. Assumes nothing.
+use Rattle.std.specs.Prelude.{Option, None, Some, Ok}
 use mathlib.Core.Path.{◌≡◌, refl, sym, ap, ◌∙◌, subst}
 use mathlib.Core.Bool.{Bool, true, false, ◌&&◌, cond, true≢false}
 use mathlib.Core.List.{List, [], ◌∷◌, ◌++◌, map, map-append, reverse}
-use mathlib.Core.Option.{Option, none, some}
 use Prim.{Unit, tt}
 use Prim.Native.Nat.{ℕ, ◌+◌, ◌<◌, ◌≤◌}
 use native.Mathlib.Omega.{arith}
@@ -24,7 +24,6 @@ use Rattle.entities.specs.declared.Refusal.TheVariants as R
 use Rattle.entities.specs.Records.{Line, Lane, Boundary, Map}
 use Rattle.rules.specs.Map.{boundary, boundary_on, oriented, oriented_in, oriented_boundary, lanes_using_boundary}
 use Rattle.rules.specs.Sound.{lines, optional_line, lines_in_reach}
-use Rattle.rules.specs.Edit.{yield}
 use Rattle.rules.specs.Merge.{SidePlan, kept, in_place, fresh, joined, joined_lines, side_plan, plan_ids, plan_line, new_boundary}
 use Rattle.laws.proofs.Connect.{found_all}
 use Rattle.laws.proofs.Lawful.{yields, no-yield}
@@ -41,7 +40,7 @@ both_of p xs ys t = let u = sym (all_split p xs ys) ∙ t in (and-fst (all p xs)
 abbrev pub Planned : Map → ℕ → SidePlan → Type 0
 Planned m r kept = Unit
 Planned m r (in_place c) = all in_reach c ≡ true
-Planned m r (fresh c) = (all in_reach c ≡ true) × ((x : Boundary) × (boundary m r ≡ some x))
+Planned m r (fresh c) = (all in_reach c ≡ true) × ((x : Boundary) × (boundary m r ≡ Some x))
 
 abbrev other_lines : Map → List Line
 other_lines m =
@@ -53,7 +52,7 @@ unfolding lines_in_reach lines
 boundary_lines m h = sym (all_map (all in_reach) (λ x. x.geometry) m.boundaries) ∙ (both_of (all in_reach) (map (λ x. x.geometry) m.boundaries) (other_lines m) h).0
 
 module _ (m : Map) (reach : lines_in_reach m ≡ true) where
-  line-found : (i : ℕ) (x : Boundary) → boundary m i ≡ some x → (r : BoundaryRef) → all in_reach (oriented r x) ≡ true
+  line-found : (i : ℕ) (x : Boundary) → boundary m i ≡ Some x → (r : BoundaryRef) → all in_reach (oriented r x) ≡ true
   unfolding boundary oriented
   line-found i x e r = go r.reversed
     where
@@ -65,10 +64,10 @@ module _ (m : Map) (reach : lines_in_reach m ≡ true) where
       go false = own
 
   joined-planned : (join : Float) (alone : Bool) (ra rb : BoundaryRef) (oa ob : Option Boundary) → boundary m ra.boundary ≡ oa → boundary m rb.boundary ≡ ob
-      → (p : SidePlan) → joined_lines join alone ra.boundary rb.boundary (oriented_in ra oa) (oriented_in rb ob) ≡ yield p → Planned m ra.boundary p
-  joined-planned join alone ra rb none ob ea eb p h = absurd (no-yield (R.BoundaryAbsent ra.boundary) p h)
-  joined-planned join alone ra rb (some x) none ea eb p h = absurd (no-yield (R.BoundaryAbsent rb.boundary) p h)
-  joined-planned join alone ra rb (some x) (some y) ea eb p h = subst (Planned m ra.boundary) (yields h) (go alone)
+      → (p : SidePlan) → joined_lines join alone ra.boundary rb.boundary (oriented_in ra oa) (oriented_in rb ob) ≡ Ok p → Planned m ra.boundary p
+  joined-planned join alone ra rb None ob ea eb p h = absurd (no-yield (R.BoundaryAbsent ra.boundary) p h)
+  joined-planned join alone ra rb (Some x) None ea eb p h = absurd (no-yield (R.BoundaryAbsent rb.boundary) p h)
+  joined-planned join alone ra rb (Some x) (Some y) ea eb p h = subst (Planned m ra.boundary) (yields h) (go alone)
     where
       line : all in_reach (concat join (oriented ra x) (oriented rb y)) ≡ true
       line = concat-reach join (oriented ra x) (oriented rb y) (line-found ra.boundary x ea ra) (line-found rb.boundary y eb rb)
@@ -77,7 +76,7 @@ module _ (m : Map) (reach : lines_in_reach m ≡ true) where
       go true = line
       go false = (line, (x, ea))
 
-  pub side-planned : (tol : Tolerance) (side : Side) (a b : Lane) (p : SidePlan) → side_plan tol m side a b ≡ yield p → Planned m (boundary_on side a).boundary p
+  pub side-planned : (tol : Tolerance) (side : Side) (a b : Lane) (p : SidePlan) → side_plan tol m side a b ≡ Ok p → Planned m (boundary_on side a).boundary p
   unfolding side_plan oriented_boundary
   side-planned tol side a b p h =
       let ra = (boundary_on side a).boundary in
@@ -85,9 +84,9 @@ module _ (m : Map) (reach : lines_in_reach m ≡ true) where
       go (eqb ra rb) (same_numbers (lanes_using_boundary m.lanes ra) (a.id ∷ []) && same_numbers (lanes_using_boundary m.lanes rb) (b.id ∷ [])) h
     where
       go : (c alone : Bool)
-          → cond c (yield kept) (joined_lines tol.join alone (boundary_on side a).boundary (boundary_on side b).boundary
+          → cond c (Ok kept) (joined_lines tol.join alone (boundary_on side a).boundary (boundary_on side b).boundary
           (oriented_in (boundary_on side a) (boundary m (boundary_on side a).boundary)) (oriented_in (boundary_on side b) (boundary m (boundary_on side b).boundary)))
-          ≡ yield p → Planned m (boundary_on side a).boundary p
+          ≡ Ok p → Planned m (boundary_on side a).boundary p
       go true alone h = subst (Planned m (boundary_on side a).boundary) (yields h) tt
       go false alone h =
           joined-planned tol.join alone (boundary_on side a) (boundary_on side b) (boundary m (boundary_on side a).boundary) (boundary m (boundary_on side b).boundary) refl refl p h
@@ -107,8 +106,8 @@ line-planned m r (fresh c) h ref = h.0
 abbrev pub drawn : ℕ → Line → Boundary → Boundary
 drawn i c x = record { id = i; kind = x.kind; geometry = c; attributes = x.attributes }
 
-pub new-one : (m : Map) (i : ℕ) (r : BoundaryRef) (c : Line) (x : Boundary) → boundary m r.boundary ≡ some x → new_boundary m (fresh c) i r ≡ drawn i c x ∷ []
-new-one m i r c x e = ap (λ o. elim o [ none ↦ [] | some b ↦ record { id = i; kind = b.kind; geometry = c; attributes = b.attributes } ∷ [] ]) e
+pub new-one : (m : Map) (i : ℕ) (r : BoundaryRef) (c : Line) (x : Boundary) → boundary m r.boundary ≡ Some x → new_boundary m (fresh c) i r ≡ drawn i c x ∷ []
+new-one m i r c x e = ap (λ o. elim o [ None ↦ [] | Some b ↦ record { id = i; kind = b.kind; geometry = c; attributes = b.attributes } ∷ [] ]) e
 
 -- the ids that a plan gives
 abbrev pub plan_new : SidePlan → ℕ → List ℕ
@@ -129,7 +128,7 @@ new-passes m kept i r h t f a = all_nil t
 new-passes m (in_place c) i r h t f a = all_nil t
 new-passes m (fresh c) i r h t f a =
     let x = h.1.0 in
-    let e : boundary m r.boundary ≡ some x = h.1.1 in
+    let e : boundary m r.boundary ≡ Some x = h.1.1 in
     subst (λ xs. all t xs ≡ true) (sym (new-one m i r c x e))
     (all_cons t (drawn i c x) [] (f c h.0 i x (found_all (λ b. eqb b.id r.boundary) t m.boundaries x e a)) (all_nil t))
 

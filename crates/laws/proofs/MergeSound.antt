@@ -1,8 +1,8 @@
 -- merge_lanes keeps soundness. Assumes nothing.
+use Rattle.std.specs.Prelude.{Option, None, Some}
 use mathlib.Core.Path.{◌≡◌, refl, sym, ap, ◌∙◌}
 use mathlib.Core.Bool.{Bool, true, false, not, ◌&&◌, ◌||◌, cond}
 use mathlib.Core.List.{List, [], ◌∷◌, ◌++◌, map}
-use mathlib.Core.Option.{Option, none, some}
 use Prim.Native.Nat.{ℕ, ◌+◌}
 use lib.Dec.{eqb, ltb, leb}
 use lib.ListN.{length, length-map}
@@ -59,7 +59,7 @@ rule-still-legal a b r =
 
 -- ---- the clauses
 
-module _ (tol : Tolerance) (next : ℕ) (m : Map) (a b : Lane) (pl pr : SidePlan) (ea : lane m a.id ≡ some a) (eb : lane m b.id ≡ some b)
+module _ (tol : Tolerance) (next : ℕ) (m : Map) (a b : Lane) (pl pr : SidePlan) (ea : lane m a.id ≡ Some a) (eb : lane m b.id ≡ Some b)
     (fl : Planned m a.left.boundary pl) (fr : Planned m a.right.boundary pr) where
   abbrev n : Map
   n = merged_map tol next m a b pl pr
@@ -142,9 +142,9 @@ module _ (tol : Tolerance) (next : ℕ) (m : Map) (a b : Lane) (pl pr : SidePlan
 
   center_reach : (o p : Option Line) → all (all in_reach) (optional_line o) ≡ true → all (all in_reach) (optional_line p) ≡ true
       → all (all in_reach) (optional_line (joined_center tol.join o p)) ≡ true
-  center_reach none p h k = h
-  center_reach (some c) none h k = k
-  center_reach (some c) (some d) h k =
+  center_reach None p h k = h
+  center_reach (Some c) None h k = k
+  center_reach (Some c) (Some d) h k =
       all_cons (all in_reach) (concat tol.join c d) [] (concat-reach tol.join c d (all_head (all in_reach) c [] h) (all_head (all in_reach) d [] k)) (all_nil (all in_reach))
 
   abbrev centers : Map → List Line
@@ -185,7 +185,7 @@ module _ (tol : Tolerance) (next : ℕ) (m : Map) (a b : Lane) (pl pr : SidePlan
 -- ---- all of them
 
 -- A merge keeps soundness, where the counter has the ids and the result keeps the limits.
-pub merge-sound : (tol : Tolerance) (counter : ℕ) (m : Map) (a b : Lane) (pl pr : SidePlan) → lane m a.id ≡ some a → lane m b.id ≡ some b
+pub merge-sound : (tol : Tolerance) (counter : ℕ) (m : Map) (a b : Lane) (pl pr : SidePlan) → lane m a.id ≡ Some a → lane m b.id ≡ Some b
     → eqb b.id a.id ≡ false → a.successors ≡ b.id ∷ [] → b.predecessors ≡ a.id ∷ [] → Planned m a.left.boundary pl → Planned m a.right.boundary pr
     → sound counter m ≡ true → leb (counter_after counter (plan_ids pl + plan_ids pr)) last_counter ≡ true
     → within_limits (merged_map tol (next_id counter) m a b pl pr) ≡ true

@@ -1,8 +1,8 @@
 -- merge_lanes: what names neither lane is as it was, and what is joined in place stays. Assumes nothing.
+use Rattle.std.specs.Prelude.{None, Some}
 use mathlib.Core.Path.{◌≡◌, refl, sym, ap, ◌∙◌}
 use mathlib.Core.Bool.{Bool, true, false, not, ◌&&◌, ◌||◌, cond, true≢false}
 use mathlib.Core.List.{List, [], ◌∷◌, map}
-use mathlib.Core.Option.{none, some}
 use Prim.Native.Nat.{ℕ, ◌+◌}
 use lib.Dec.{eqb}
 use borrow.Author.Tests.{eq-eqb}
@@ -99,10 +99,10 @@ module _ (tol : Tolerance) (next : ℕ) (a b : Lane) (pl pr : SidePlan) where
   joins-ref (in_place c) k r i h = h
   joins-ref (fresh c) k r i h = absurd (true≢false (sym h))
 
-  module _ (m : Map) (ea : lane m a.id ≡ some a) (apart : eqb a.id b.id ≡ false) where
-    a-left : find (λ l. eqb l.id a.id) (keep (other b.id) m.lanes) ≡ some a
+  module _ (m : Map) (ea : lane m a.id ≡ Some a) (apart : eqb a.id b.id ≡ false) where
+    a-left : find (λ l. eqb l.id a.id) (keep (other b.id) m.lanes) ≡ Some a
     unfolding lane
-    a-left = find-other b.id a.id m.lanes ∙ (ap (λ c. cond c none (find (λ l. eqb l.id a.id) m.lanes)) apart ∙ ea)
+    a-left = find-other b.id a.id m.lanes ∙ (ap (λ c. cond c None (find (λ l. eqb l.id a.id) m.lanes)) apart ∙ ea)
 
     a-uses : (i : ℕ) → (plan_joins pl a.left i || plan_joins pr a.right i) ≡ true → uses i (after_merge tol next a b pl pr a) ≡ true
     a-uses i h =

@@ -1,8 +1,8 @@
 -- set_neighbor keeps soundness, its lists are exact, and the links stay.
+use Rattle.std.specs.Prelude.{Option, None, Some}
 use mathlib.Core.Path.{◌≡◌, refl, sym, ap, ◌∙◌}
 use mathlib.Core.Bool.{Bool, true, false, ◌||◌, cond, true≢false}
 use mathlib.Core.List.{map}
-use mathlib.Core.Option.{Option, none, some}
 use Prim.{Unit}
 use Prim.Native.Nat.{ℕ}
 use native.Mathlib.Omega.{arith}
@@ -28,20 +28,20 @@ use Rattle.laws.proofs.Slots.{nb, Slots, Answered, held_at, set_slots, answered-
 -- ---- a map's slots as a function
 
 abbrev pub slot_found : Option Lane → Side → Option Neighbor
-slot_found none s = none
-slot_found (some l) s = neighbor_on s l
+slot_found None s = None
+slot_found (Some l) s = neighbor_on s l
 
 unfoldable pub slots_of : Map → Slots
 slots_of m x s = slot_found (lane m x) s
 
-holds-is : (o : Option Neighbor) (y : ℕ) (d : NeighborDirection) → holds o y d ≡ true → o ≡ some (nb y d)
-holds-is none y d h = absurd (true≢false (sym h))
-holds-is (some n) y d h =
+holds-is : (o : Option Neighbor) (y : ℕ) (d : NeighborDirection) → holds o y d ≡ true → o ≡ Some (nb y d)
+holds-is None y d h = absurd (true≢false (sym h))
+holds-is (Some n) y d h =
     let l : n.lane ≡ y = eqb-true n.lane y (and-fst (eqb n.lane y) (same_direction n.direction d) h) in
     let w : n.direction ≡ d = same-direction n.direction d (and-snd (eqb n.lane y) (same_direction n.direction d) h) in
-    ap (λ i. some (nb i n.direction)) l ∙ ap (λ v. some (nb y v)) w
+    ap (λ i. Some (nb i n.direction)) l ∙ ap (λ v. Some (nb y v)) w
 
-is-holds : (o : Option Neighbor) (y : ℕ) (d : NeighborDirection) → o ≡ some (nb y d) → holds o y d ≡ true
+is-holds : (o : Option Neighbor) (y : ℕ) (d : NeighborDirection) → o ≡ Some (nb y d) → holds o y d ≡ true
 is-holds o y d e = ap (λ p. holds p y d) e ∙ and_both (eqb y y) (same_direction d d) (eq-eqb y y refl) (direction-same d)
 
 -- with ascending ids, the relation is a test of the slot
@@ -50,8 +50,8 @@ unfolding has_neighbor slots_of lane
 neighbor_slot m up x s y d = any-one (λ l. l.id) x (λ l. holds (neighbor_on s l) y d) m.lanes up ∙ of-found (find (λ l. eqb l.id x) m.lanes)
   where
     of-found : (o : Option Lane) → on_found (λ l. holds (neighbor_on s l) y d) o ≡ holds (slot_found o s) y d
-    of-found none = refl
-    of-found (some l) = refl
+    of-found None = refl
+    of-found (Some l) = refl
 
 -- reciprocity is that every neighbour is answered
 pub agree-answered : (m : Map) → ascending (lane_ids m) ≡ true → NeighborsAgree m → Answered (slots_of m)
@@ -70,7 +70,7 @@ answered-agree m up ok a b side d =
 -- ---- the slots after an edit
 
 -- a change of slots, of a lane that is there
-slot-changed : (m : Map) (g : ℕ → Side → Option Neighbor → Option Neighbor) (x : ℕ) (l : Lane) → lane m x ≡ some l → (s : Side)
+slot-changed : (m : Map) (g : ℕ → Side → Option Neighbor → Option Neighbor) (x : ℕ) (l : Lane) → lane m x ≡ Some l → (s : Side)
     → slots_of (with_lanes (map (reslotted g) m.lanes) m) x s ≡ g x s (slots_of m x s)
 unfolding slots_of lane
 slot-changed m g x l e s =
@@ -81,16 +81,16 @@ slot-changed m g x l e s =
     on-side S.Left = refl
     on-side S.Right = refl
 
-slot-absent : (m : Map) (g : ℕ → Side → Option Neighbor → Option Neighbor) (x : ℕ) → lane m x ≡ none → (s : Side)
-    → slots_of (with_lanes (map (reslotted g) m.lanes) m) x s ≡ none
+slot-absent : (m : Map) (g : ℕ → Side → Option Neighbor → Option Neighbor) (x : ℕ) → lane m x ≡ None → (s : Side)
+    → slots_of (with_lanes (map (reslotted g) m.lanes) m) x s ≡ None
 unfolding slots_of lane
 slot-absent m g x e s = ap (λ o. slot_found o s) (found_map (λ k. k.id) (reslotted g) (λ k. refl) x m.lanes ∙ ap (changed_by (reslotted g)) e)
 
-none-slot : (m : Map) (x : ℕ) (s : Side) → lane m x ≡ none → slots_of m x s ≡ none
+none-slot : (m : Map) (x : ℕ) (s : Side) → lane m x ≡ None → slots_of m x s ≡ None
 unfolding slots_of
 none-slot m x s e = ap (λ o. slot_found o s) e
 
-absent-here : (m : Map) (x : ℕ) (l : Lane) → lane m x ≡ none → lane m x ≡ some l → ⊥
+absent-here : (m : Map) (x : ℕ) (l : Lane) → lane m x ≡ None → lane m x ≡ Some l → ⊥
 absent-here m x l e h = let z : ◌≡◌ {A = ℕ} 0 1 = cc in nothing z
   where
     nothing : ◌≡◌ {A = ℕ} 0 1 → ⊥
@@ -98,25 +98,25 @@ absent-here m x l e h = let z : ◌≡◌ {A = ℕ} 0 1 = cc in nothing z
 
 -- the lane that a new neighbour names is there, and is not a
 abbrev pub Named : Map → ℕ → Option Neighbor → Type 0
-Named m a none = Unit
-Named m a (some n) = (l : Lane) × (lane m n.lane ≡ some l) × (n.lane ≡ a → ⊥)
+Named m a None = Unit
+Named m a (Some n) = (l : Lane) × (lane m n.lane ≡ Some l) × (n.lane ≡ a → ⊥)
 
-module _ (m : Map) (a : ℕ) (la : Lane) (ea : lane m a ≡ some la) (side : Side) where
+module _ (m : Map) (a : ℕ) (la : Lane) (ea : lane m a ≡ Some la) (side : Side) where
   -- a lane that is not there holds nothing after the edit either
-  set-absent : (new : Option Neighbor) → Named m a new → (x : ℕ) (s : Side) → lane m x ≡ none → set_slots (slots_of m) a side new x s ≡ none
+  set-absent : (new : Option Neighbor) → Named m a new → (x : ℕ) (s : Side) → lane m x ≡ None → set_slots (slots_of m) a side new x s ≡ None
   set-absent new h x s e = go new h (eqb x a) (answering side new x s) refl refl
     where
-      was : (r : Bool) → cond r none (slots_of m x s) ≡ none
+      was : (r : Bool) → cond r None (slots_of m x s) ≡ None
       was true = refl
       was false = none-slot m x s e
 
-      go : (new : Option Neighbor) → Named m a new → (p q : Bool) → eqb x a ≡ p → answering side new x s ≡ q → set_slots (slots_of m) a side new x s ≡ none
+      go : (new : Option Neighbor) → Named m a new → (p q : Bool) → eqb x a ≡ p → answering side new x s ≡ q → set_slots (slots_of m) a side new x s ≡ None
       go new h true q f u = absurd (absent-here m a la (ap (lane m) (sym (eqb-true x a f)) ∙ e) ea)
-      go none h false q f u = rw f (was (answering side (slots_of m a side) x s || answering side none x s))
-      go (some n) h false true f u =
+      go None h false q f u = rw f (was (answering side (slots_of m a side) x s || answering side None x s))
+      go (Some n) h false true f u =
           absurd (absent-here m n.lane h.0 (ap (lane m) (sym (eqb-true x n.lane (and-fst (eqb x n.lane) (same_side s (reciprocal_side side n.direction)) u))) ∙ e) h.1)
-      go (some n) h false false f u =
-          rw (f, u) (was (answering side (slots_of m a side) x s || answering (reciprocal_side side n.direction) (held_at (slots_of m) side (some n)) x s))
+      go (Some n) h false false f u =
+          rw (f, u) (was (answering side (slots_of m a side) x s || answering (reciprocal_side side n.direction) (held_at (slots_of m) side (Some n)) x s))
 
   -- every slot after the edit, where the slot's own contents change
   abbrev pub edited : Option Neighbor → Map
@@ -126,13 +126,13 @@ module _ (m : Map) (a : ℕ) (la : Lane) (ea : lane m a ≡ some la) (side : Sid
   slots-after new h x s = go (lane m x) refl
     where
       go : (o : Option Lane) → lane m x ≡ o → slots_of (edited new) x s ≡ set_slots (slots_of m) a side new x s
-      go none e =
+      go None e =
           slot-absent m (slot_after a side new (slots_of m a side) (held_at (slots_of m) side new)) x e s ∙ sym (set-absent new h x s e)
-      go (some l) e = slot-changed m (slot_after a side new (slots_of m a side) (held_at (slots_of m) side new)) x l e s
+      go (Some l) e = slot-changed m (slot_after a side new (slots_of m a side) (held_at (slots_of m) side new)) x l e s
 
   answered-set : Answered (slots_of m) → (new : Option Neighbor) → Named m a new → Answered (set_slots (slots_of m) a side new)
-  answered-set ok none h = answered-none (slots_of m) ok a side
-  answered-set ok (some n) h = answered-some (slots_of m) ok a side n h.2
+  answered-set ok None h = answered-none (slots_of m) ok a side
+  answered-set ok (Some n) h = answered-some (slots_of m) ok a side n h.2
 
   -- neighbours stay reciprocal
   pub edited_reciprocal : ascending (lane_ids m) ≡ true → neighbors_reciprocal m ≡ true → (new : Option Neighbor) → Named m a new → neighbors_reciprocal (edited new) ≡ true

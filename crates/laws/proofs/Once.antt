@@ -1,8 +1,8 @@
 -- Lists of lanes without repeats: what removal, a merge and a cut leave of one has none. Assumes nothing.
+use Rattle.std.specs.Prelude.{Option, None, Some}
 use mathlib.Core.Path.{◌≡◌, refl, sym, ap, ◌∙◌}
 use mathlib.Core.Bool.{Bool, true, false, not, ◌&&◌, ◌||◌, cond}
 use mathlib.Core.List.{List, [], ◌∷◌, ◌++◌, map}
-use mathlib.Core.Option.{Option, none, some}
 use Prim.Native.Nat.{ℕ, suc, ◌<◌, ◌≤◌}
 use native.Mathlib.Omega.{arith}
 use lib.Dec.{eqb, ltb}
@@ -171,8 +171,8 @@ pub under_more : (n : ℕ) (ps : List LanePlan) → under n ps ≡ true → unde
 under_more n ps a = all-weaken (λ x. ltb x.of.id n) (λ x. ltb x.of.id (suc n)) ps (λ x t. let u = ltb-true x.of.id n t in lt-ltb x.of.id (suc n) (omega arith)) a
 
 pub follow-fine : (join : Float) (m : Map) (anchor : Option Point2) (x : LanePlan) (n : ℕ) (ids : List ℕ) → x.of.id < n → Fine n ids → Fine (suc n) (follow_one join m anchor x n ids)
-follow-fine join m none x n ids l f = swap-fine x.of.id n (x.of.id ∷ n ∷ []) ids l (stands-both x.of.id n (ne_eqb x.of.id n (λ e. omega arith))) f
-follow-fine join m (some p) x n ids l f = go (has x.of.id ids && on_second join m x n p)
+follow-fine join m None x n ids l f = swap-fine x.of.id n (x.of.id ∷ n ∷ []) ids l (stands-both x.of.id n (ne_eqb x.of.id n (λ e. omega arith))) f
+follow-fine join m (Some p) x n ids l f = go (has x.of.id ids && on_second join m x n p)
   where
     go : (b : Bool) → Fine (suc n) (cond b (swap_first x.of.id (n ∷ []) ids) ids)
     go true = swap-fine x.of.id n (n ∷ []) ids l (stands-new x.of.id n) f

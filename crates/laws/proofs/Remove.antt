@@ -1,8 +1,8 @@
 -- remove_lane keeps soundness and limits, books its links, and leaves no more of anything. Assumes nothing.
+use Rattle.std.specs.Prelude.{Some}
 use mathlib.Core.Path.{◌≡◌, refl}
 use mathlib.Core.Bool.{Bool, true, not, ◌&&◌}
 use mathlib.Core.List.{[], ◌∷◌, map}
-use mathlib.Core.Option.{some}
 use Prim.Native.Nat.{ℕ, ◌≤◌}
 use lib.Dec.{eqb}
 use lib.ListN.{length}
@@ -35,7 +35,7 @@ abbrev pub in_use : ℕ → Lane → Map → Boundary → Bool
 in_use a gone m b = not (unused (gone ∷ []) (keep (λ l. not (eqb l.id a)) m.lanes) b)
 
 -- A removal keeps soundness, whatever the limits: it only makes things fewer.
-pub remove-sound : (counter : ℕ) (m : Map) (a : ℕ) (gone : Lane) → lane m a ≡ some gone → sound counter m ≡ true → sound counter (removed a gone m) ≡ true
+pub remove-sound : (counter : ℕ) (m : Map) (a : ℕ) (gone : Lane) → lane m a ≡ Some gone → sound counter m ≡ true → sound counter (removed a gone m) ≡ true
 remove-sound counter m a gone e h =
     let s = sound-facts counter m h in
     let q = in_use a gone m in

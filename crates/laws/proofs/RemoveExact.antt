@@ -1,8 +1,8 @@
 -- remove_lane: its change set is exact. Assumes nothing.
+use Rattle.std.specs.Prelude.{Some}
 use mathlib.Core.Path.{◌≡◌, ap, ◌∙◌, subst}
 use mathlib.Core.Bool.{true, not}
 use mathlib.Core.List.{[], ◌∷◌, ◌++◌, map}
-use mathlib.Core.Option.{some}
 use Prim.Native.Nat.{ℕ}
 use lib.Dec.{eqb}
 use Rattle.lists.specs.Select.{keep, has, ascending}
@@ -36,7 +36,7 @@ removal a gone m =
     }
 
 -- what goes is the lane and the boundaries left unused
-went-removed : (m : Map) (a : ℕ) (gone : Lane) → lane m a ≡ some gone → ascending (lane_ids m) ≡ true → went_out a (other a) (in_use a gone m) m ≡ (removal a gone m).deleted
+went-removed : (m : Map) (a : ℕ) (gone : Lane) → lane m a ≡ Some gone → ascending (lane_ids m) ≡ true → went_out a (other a) (in_use a gone m) m ≡ (removal a gone m).deleted
 unfolding lane
 went-removed m a gone e up =
     ap (λ ls. refs K.Lane (map (λ l. l.id) ls) ++ boundaries_where (λ b. not (in_use a gone m b)) m.boundaries)
@@ -45,7 +45,7 @@ went-removed m a gone e up =
     ∙ ap (λ bs. refs K.Lane (a ∷ []) ++ refs K.Boundary (map (λ b. b.id) bs))
     (keep_same (λ b. not (in_use a gone m b)) (unused (gone ∷ []) (keep (other a) m.lanes)) m.boundaries (λ b. not-not (unused (gone ∷ []) (keep (other a) m.lanes) b))))
 
-pub remove-exact : (counter : ℕ) (m : Map) → sound counter m ≡ true → (a : ℕ) (gone : Lane) → lane m a ≡ some gone → Exact m (removal a gone m) (removed a gone m)
+pub remove-exact : (counter : ℕ) (m : Map) → sound counter m ≡ true → (a : ℕ) (gone : Lane) → lane m a ≡ Some gone → Exact m (removal a gone m) (removed a gone m)
 remove-exact counter m sane a gone e =
     let ids = (sound-facts counter m sane).ids in
     subst (λ dels. Exact m (record { created = []; modified = (removal a gone m).modified; deleted = dels; warnings = (removal a gone m).warnings }) (removed a gone m))

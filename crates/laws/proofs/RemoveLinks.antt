@@ -1,8 +1,8 @@
 -- A lane leaves: the links and neighbours that are left are those that name it on neither end, so they stay reciprocal. Assumes nothing.
+use Rattle.std.specs.Prelude.{Option, None, Some}
 use mathlib.Core.Path.{◌≡◌, refl, sym, ap, ◌∙◌}
 use mathlib.Core.Bool.{Bool, true, false, not, ◌&&◌, cond, and_assoc}
 use mathlib.Core.List.{List, map}
-use mathlib.Core.Option.{Option, none, some}
 use Prim.Native.Nat.{ℕ}
 use lib.Dec.{eqb}
 use borrow.Author.Tests.{eqb-true}
@@ -83,14 +83,14 @@ module _ (a : ℕ) (q : Boundary → Bool) (m : Map) where
 
   -- a freed slot holds what it held, but for a
   freed-holds : (o : Option Neighbor) (j : ℕ) (d : NeighborDirection) → holds (freed a o) j d ≡ (holds o j d && not (eqb j a))
-  freed-holds none j d = refl
-  freed-holds (some n) j d = go (eqb n.lane a) (eqb n.lane j) refl refl
+  freed-holds None j d = refl
+  freed-holds (Some n) j d = go (eqb n.lane a) (eqb n.lane j) refl refl
     where
       and-true : (b : Bool) → (b && true) ≡ b
       and-true true = refl
       and-true false = refl
 
-      go : (b e : Bool) → eqb n.lane a ≡ b → eqb n.lane j ≡ e → holds (cond b none (some n)) j d ≡ (eqb n.lane j && same_direction n.direction d && not (eqb j a))
+      go : (b e : Bool) → eqb n.lane a ≡ b → eqb n.lane j ≡ e → holds (cond b None (Some n)) j d ≡ (eqb n.lane j && same_direction n.direction d && not (eqb j a))
       go true true p s =
           let u : n.lane ≡ j = eqb-true n.lane j s in
           let v : eqb j a ≡ true = rw u at p in

@@ -1,8 +1,8 @@
 -- set_neighbor: soundness kept, links kept, lists exact.
+use Rattle.std.specs.Prelude.{Option, None, Some}
 use mathlib.Core.Path.{◌≡◌, refl, sym, ap, ◌∙◌}
 use mathlib.Core.Bool.{Bool, true, false, ◌&&◌, ◌||◌, cond, true≢false}
 use mathlib.Core.List.{List, [], ◌∷◌, ◌++◌, map}
-use mathlib.Core.Option.{Option, none, some}
 use Prim.Native.Nat.{ℕ}
 use lib.Dec.{eqb, ltb}
 use borrow.Author.Tests.{eqb-true, eq-eqb}
@@ -55,21 +55,21 @@ cond-passes : (below : ℕ → Bool) (b : Bool) (o p : Option Neighbor) → slot
 cond-passes below true o p h k = h
 cond-passes below false o p h k = k
 
-none_passes : (below : ℕ → Bool) → slot_passes below none
+none_passes : (below : ℕ → Bool) → slot_passes below None
 unfolding all
 none_passes below = refl
 
-one_passes : (below : ℕ → Bool) (n : Neighbor) → below n.lane ≡ true → slot_passes below (some n)
+one_passes : (below : ℕ → Bool) (n : Neighbor) → below n.lane ≡ true → slot_passes below (Some n)
 unfolding all
 one_passes below n h = and_both (below n.lane) true h refl
 
-new-passes : (m : Map) (a : ℕ) (below : ℕ → Bool) → ((i : ℕ) (l : Lane) → lane m i ≡ some l → below i ≡ true) → (new : Option Neighbor) → Named m a new → slot_passes below new
-new-passes m a below there none h = none_passes below
-new-passes m a below there (some n) h = one_passes below n (there n.lane h.0 h.1)
+new-passes : (m : Map) (a : ℕ) (below : ℕ → Bool) → ((i : ℕ) (l : Lane) → lane m i ≡ Some l → below i ≡ true) → (new : Option Neighbor) → Named m a new → slot_passes below new
+new-passes m a below there None h = none_passes below
+new-passes m a below there (Some n) h = one_passes below n (there n.lane h.0 h.1)
 
 returned-passes : (below : ℕ → Bool) (a : ℕ) → below a ≡ true → (new : Option Neighbor) → slot_passes below (returned a new)
-returned-passes below a h none = none_passes below
-returned-passes below a h (some n) = one_passes below (record { lane = a; direction = n.direction }) h
+returned-passes below a h None = none_passes below
+returned-passes below a h (Some n) = one_passes below (record { lane = a; direction = n.direction }) h
 
 names-reslotted : (below : ℕ → Bool) (l : Lane) (ln rn : Option Neighbor) → all below (lane_names l) ≡ true
     → (slot_passes below l.left_neighbor → slot_passes below ln) → (slot_passes below l.right_neighbor → slot_passes below rn)
@@ -87,20 +87,20 @@ names-reslotted below l ln rn t g h =
 
 -- ---- soundness
 
-module _ (c : ℕ) (m : Map) (sane : sound c m ≡ true) (a : ℕ) (la : Lane) (ea : lane m a ≡ some la) (side : Side) (new : Option Neighbor) (named : Named m a new) where
+module _ (c : ℕ) (m : Map) (sane : sound c m ≡ true) (a : ℕ) (la : Lane) (ea : lane m a ≡ Some la) (side : Side) (new : Option Neighbor) (named : Named m a new) where
   abbrev g : ℕ → Side → Option Neighbor → Option Neighbor
   g = slot_after a side new (slots_of m a side) (held_at (slots_of m) side new)
 
-  after-passes : (below : ℕ → Bool) → ((i : ℕ) (l : Lane) → lane m i ≡ some l → below i ≡ true) → (i : ℕ) (s : Side) (was : Option Neighbor)
+  after-passes : (below : ℕ → Bool) → ((i : ℕ) (l : Lane) → lane m i ≡ Some l → below i ≡ true) → (i : ℕ) (s : Side) (was : Option Neighbor)
       → slot_passes below was → slot_passes below (g i s was)
   after-passes below there i s was h =
       cond-passes below (eqb i a && same_side s side) new
-      (cond (answering side new i s) (returned a new) (cond (answering side (slots_of m a side) i s || answering (answer_side side new) (held_at (slots_of m) side new) i s) none was))
+      (cond (answering side new i s) (returned a new) (cond (answering side (slots_of m a side) i s || answering (answer_side side new) (held_at (slots_of m) side new) i s) None was))
       (new-passes m a below there new named)
       (cond-passes below (answering side new i s) (returned a new)
-      (cond (answering side (slots_of m a side) i s || answering (answer_side side new) (held_at (slots_of m) side new) i s) none was)
+      (cond (answering side (slots_of m a side) i s || answering (answer_side side new) (held_at (slots_of m) side new) i s) None was)
       (returned-passes below a (there a la ea) new)
-      (cond-passes below (answering side (slots_of m a side) i s || answering (answer_side side new) (held_at (slots_of m) side new) i s) none was (none_passes below) h))
+      (cond-passes below (answering side (slots_of m a side) i s || answering (answer_side side new) (held_at (slots_of m) side new) i s) None was (none_passes below) h))
 
   pub set-sound : within_limits (edited m a la ea side new) ≡ true → sound c (edited m a la ea side new) ≡ true
   set-sound limits =
@@ -119,8 +119,8 @@ module _ (c : ℕ) (m : Map) (sane : sound c m ≡ true) (a : ℕ) (la : Lane) (
 
   -- a lane that nothing names keeps its slots
   not-answering : (v : Side) (o : Option Neighbor) (i : ℕ) (s : Side) → names o i ≡ false → answering v o i s ≡ false
-  not-answering v none i s h = refl
-  not-answering v (some n) i s h = ap (λ b. b && same_side s (reciprocal_side v n.direction)) (swap i n.lane ∙ h)
+  not-answering v None i s h = refl
+  not-answering v (Some n) i s h = ap (λ b. b && same_side s (reciprocal_side v n.direction)) (swap i n.lane ∙ h)
     where
       swap : (x y : ℕ) → eqb x y ≡ eqb y x
       swap x y = same_test (eqb x y) (eqb y x) (λ t. eq-eqb y x (sym (eqb-true x y t))) (λ t. eq-eqb x y (sym (eqb-true y x t)))
@@ -141,7 +141,7 @@ module _ (c : ℕ) (m : Map) (sane : sound c m ≡ true) (a : ℕ) (la : Lane) (
       let n = split-or (eqb i a) (names (slots_of m a side) i) (names new i) (names (held_at (slots_of m) side new) i) h in
       rw (n.0, not-answering side new i s n.2, not-answering side (slots_of m a side) i s n.1, not-answering (answer_side side new) (held_at (slots_of m) side new) i s n.3)
 
-  lane-still : (i : ℕ) (l : Lane) → lane m i ≡ some l → touched l.id ≡ false → reslotted g l ≡ l
+  lane-still : (i : ℕ) (l : Lane) → lane m i ≡ Some l → touched l.id ≡ false → reslotted g l ≡ l
   lane-still i l e h =
       ap (λ o. relinked l o (g l.id S.Right l.right_neighbor) l.predecessors l.successors) (slot-still l.id h S.Left l.left_neighbor)
       ∙ ap (λ o. relinked l l.left_neighbor o l.predecessors l.successors) (slot-still l.id h S.Right l.right_neighbor)

@@ -1,8 +1,8 @@
 -- split_lane: the pairs of halves by look-up, and the link book's entry, which the successors of the cut map are, new ids or not. Assumes nothing.
+use Rattle.std.specs.Prelude.{Option, None, Some}
 use mathlib.Core.Path.{◌≡◌, refl, sym, ap, ◌∙◌}
 use mathlib.Core.Bool.{Bool, true, false, not, ◌&&◌, ◌||◌}
 use mathlib.Core.List.{List, [], ◌∷◌, map}
-use mathlib.Core.Option.{Option, none, some}
 use Prim.Native.Nat.{ℕ}
 use lib.Dec.{eqb}
 use borrow.Author.Tests.{eqb-true}
@@ -105,19 +105,19 @@ module _ (m : Map) (ps : List LanePlan) (next : ℕ) (c : Chosen m ps) where
       ∙ (any-one (λ l. l.id) x (λ l. has y (cut_by xs (halves next ps) (found_by_first ps next l.id) l).successors) m.lanes c.up
       ∙ go (lane m x) (found_by_first ps next x) refl refl))
     where
-      at-id : (l : Lane) → lane m x ≡ some l → found_by_first ps next l.id ≡ found_by_first ps next x
+      at-id : (l : Lane) → lane m x ≡ Some l → found_by_first ps next l.id ≡ found_by_first ps next x
       at-id l e = ap (found_by_first ps next) (eqb-true l.id x (found-passes (λ k. eqb k.id x) m.lanes l e))
 
       go : (o : Option Lane) (a : Option Numbered) → lane m x ≡ o → found_by_first ps next x ≡ a
           → on_found (λ l. has y (cut_by xs (halves next ps) (found_by_first ps next l.id) l).successors) o
           ≡ (on_found (λ z. eqb y (second_id z)) a || (leads_to m x y && not (on_found (λ (z : Numbered). true) a)))
-      go (some l) none eo ea =
-          ap (λ k. has y (cut_by xs (halves next ps) k l).successors) (at-id l eo ∙ ea) ∙ sym (and-true (leads_to m x y) ∙ leads-was x y (some l) eo)
-      go (some l) (some z) eo ea =
+      go (Some l) None eo ea =
+          ap (λ k. has y (cut_by xs (halves next ps) k l).successors) (at-id l eo ∙ ea) ∙ sym (and-true (leads_to m x y) ∙ leads-was x y (Some l) eo)
+      go (Some l) (Some z) eo ea =
           ap (λ k. has y (cut_by xs (halves next ps) k l).successors) (at-id l eo ∙ ea)
           ∙ (has_one y (second_id z) ∙ sym (ap (λ t. eqb y (second_id z) || t) (and-false (leads_to m x y)) ∙ or-false (eqb y (second_id z))))
-      go none none eo ea = sym (and-true (leads_to m x y) ∙ leads-was x y none eo)
-      go none (some z) eo ea = absurd (no-some z.1.of (sym eo ∙ first_lane m ps next c x z ea))
+      go None None eo ea = sym (and-true (leads_to m x y) ∙ leads-was x y None eo)
+      go None (Some z) eo ea = absurd (no-some z.1.of (sym eo ∙ first_lane m ps next c x z ea))
 
   -- of the second halves
   new-leads : (xs : List Piece) (x y : ℕ) → any (λ l. eqb l.id x && has y l.successors) (second_halves xs (halves next ps) next ps)
@@ -128,8 +128,8 @@ module _ (m : Map) (ps : List LanePlan) (next : ℕ) (c : Chosen m ps) where
       ∙ (any-one second_id x (λ z. has y z.1.of.successors) (numbered next ps) (numbered-up next ps) ∙ go (by_second ps next x) refl))
     where
       go : (o : Option Numbered) → by_second ps next x ≡ o → on_found (λ (z : Numbered). has y z.1.of.successors) o ≡ on_found (λ z. leads_to m (first_id z) y) o
-      go none e = refl
-      go (some z) e = sym (leads-was (first_id z) y (some z.1.of) (first_lane m ps next c (first_id z) z (second-first m ps next c x z e)))
+      go None e = refl
+      go (Some z) e = sym (leads-was (first_id z) y (Some z.1.of) (first_lane m ps next c (first_id z) z (second-first m ps next c x z e)))
 
   -- The successors of the cut map are the book's entry.
   pub split-leads : (xs : List Piece) (n : Map) → n.lanes ≡ cut_lanes m ps xs next → (x y : ℕ) → leads_to n x y ≡ book_split (halves next ps) (leads_to m) x y

@@ -1,8 +1,8 @@
 -- split_lane: the group is a list of present lanes, ascending, with the lane itself, and pairs with the created lanes as the halves do. Assumes nothing.
+use Rattle.std.specs.Prelude.{Some}
 use mathlib.Core.Path.{◌≡◌, refl, sym, ap, ◌∙◌, subst}
 use mathlib.Core.Bool.{Bool, true, false, ◌&&◌, ◌||◌, cond, true≢false}
 use mathlib.Core.List.{List, [], ◌∷◌, ◌++◌, map, append-nil}
-use mathlib.Core.Option.{some}
 use Prim.Native.Nat.{ℕ, zero, suc, ◌<◌}
 use native.Mathlib.Omega.{arith}
 use lib.Dec.{eqb, ltb}
@@ -46,7 +46,7 @@ has_some i (j ∷ ids) h = positive (length ids)
 
 -- ---- the group
 
-module _ (m : Map) (i : ℕ) (l : Lane) (e : lane m i ≡ some l) (up : ascending (lane_ids m) ≡ true) where
+module _ (m : Map) (i : ℕ) (l : Lane) (e : lane m i ≡ Some l) (up : ascending (lane_ids m) ≡ true) where
   one-part : Part (i ∷ []) (lane_ids m)
   unfolding lane
   one-part = subst (λ ids. Part ids (lane_ids m)) (keep_one (λ k. k.id) i m.lanes l up e) (part-map (λ k. k.id) (part-keep (λ k. eqb k.id i) m.lanes))

@@ -1,8 +1,8 @@
 -- split_lane: which lane the cut map has under an id: a lane that is not cut, a first half under its lane's id, a second half under a new id. Assumes nothing.
+use Rattle.std.specs.Prelude.{Option, None, Some}
 use mathlib.Core.Path.{◌≡◌, refl, sym, ap, ◌∙◌}
 use mathlib.Core.Bool.{Bool, true}
 use mathlib.Core.List.{List, [], ◌∷◌, ◌++◌, map}
-use mathlib.Core.Option.{Option, none, some}
 use Prim.Native.Nat.{ℕ, suc, ◌≤◌}
 use native.Mathlib.Omega.{arith}
 use lib.Dec.{eqb, ltb, leb}
@@ -73,12 +73,12 @@ cut_lanes m ps xs next = map (cut_lane ps xs (halves next ps)) m.lanes ++ second
 
 -- a lane of the map, as it is cut or not
 abbrev pub cut_by : List Piece → List (ℕ × ℕ) → Option Numbered → Lane → Lane
-cut_by xs hs none l = uncut hs l
-cut_by xs hs (some z) l = first_half xs hs z.0 z.1
+cut_by xs hs None l = uncut hs l
+cut_by xs hs (Some z) l = first_half xs hs z.0 z.1
 
 -- as the definition says it, by the plan and the second half's id
 abbrev halved_by : List Piece → List (ℕ × ℕ) → Lane → Option LanePlan → Option ℕ → Lane
-halved_by xs hs l o q = elim o [ none ↦ uncut hs l | some x ↦ elim q [ none ↦ uncut hs l | some j ↦ first_half xs hs j x ] ]
+halved_by xs hs l o q = elim o [ None ↦ uncut hs l | Some x ↦ elim q [ None ↦ uncut hs l | Some j ↦ first_half xs hs j x ] ]
 
 module _ (m : Map) (ps : List LanePlan) (next : ℕ) where
   -- ---- look-ups among the pairs and among the plans
@@ -89,11 +89,11 @@ module _ (m : Map) (ps : List LanePlan) (next : ℕ) where
       ∙ (ap second_in (find-mapped (λ h. eqb h.0 x) half_pair (numbered next ps)) ∙ go (found_by_first ps next x))
     where
       second_in : Option (ℕ × ℕ) → Option ℕ
-      second_in o = elim o [ none ↦ none | some h ↦ some h.1 ]
+      second_in o = elim o [ None ↦ None | Some h ↦ Some h.1 ]
 
       go : (o : Option Numbered) → second_in (mapped half_pair o) ≡ mapped second_id o
-      go none = refl
-      go (some z) = refl
+      go None = refl
+      go (Some z) = refl
 
   pub plan-is : (x : ℕ) → plan_for ps x ≡ mapped (λ z. z.1) (found_by_first ps next x)
   plan-is x = ap (λ qs. plan_for qs x) (sym (numbered-list next ps)) ∙ find-mapped (λ p. eqb p.of.id x) (λ (z : Numbered). z.1) (numbered next ps)
@@ -108,30 +108,30 @@ module _ (m : Map) (ps : List LanePlan) (next : ℕ) where
     pub firsts-up : ascending (map first_id (numbered next ps)) ≡ true
     firsts-up = ap ascending firsts-are ∙ keys-keep (λ l. l.id) c.chosen m.lanes c.up
 
-    pub first-id : (x : ℕ) (z : Numbered) → found_by_first ps next x ≡ some z → first_id z ≡ x
+    pub first-id : (x : ℕ) (z : Numbered) → found_by_first ps next x ≡ Some z → first_id z ≡ x
     first-id x z e = eqb-true (first_id z) x (found-passes (λ w. eqb (first_id w) x) (numbered next ps) z e)
 
-    pub second-id : (x : ℕ) (z : Numbered) → by_second ps next x ≡ some z → second_id z ≡ x
+    pub second-id : (x : ℕ) (z : Numbered) → by_second ps next x ≡ Some z → second_id z ≡ x
     second-id x z e = eqb-true (second_id z) x (found-passes (λ w. eqb (second_id w) x) (numbered next ps) z e)
 
     -- a lane that is cut is the map's
-    pub first_lane : (x : ℕ) (z : Numbered) → found_by_first ps next x ≡ some z → lane m x ≡ some z.1.of
+    pub first_lane : (x : ℕ) (z : Numbered) → found_by_first ps next x ≡ Some z → lane m x ≡ Some z.1.of
     unfolding lane
     first_lane x z e =
-        let found : find (λ l. eqb l.id x) (keep c.chosen m.lanes) ≡ some z.1.of =
+        let found : find (λ l. eqb l.id x) (keep c.chosen m.lanes) ≡ Some z.1.of =
         ap (find (λ l. eqb l.id x)) (sym of-numbered) ∙ (find-mapped (λ l. eqb l.id x) (λ (w : Numbered). w.1.of) (numbered next ps) ∙ ap (mapped (λ w. w.1.of)) e) in
         let there = has_key (λ l. l.id) x (keep c.chosen m.lanes)
         ∙ found-any (λ l. eqb l.id x) (keep c.chosen m.lanes) z.1.of found (λ l. eqb x l.id) (eq-eqb x z.1.of.id (sym (first-id x z e))) in
         kept_row (λ l. l.id) c.chosen x m.lanes c.up there ∙ found
 
-    pub first-second : (x : ℕ) (z : Numbered) → found_by_first ps next x ≡ some z → by_second ps next (second_id z) ≡ some z
+    pub first-second : (x : ℕ) (z : Numbered) → found_by_first ps next x ≡ Some z → by_second ps next (second_id z) ≡ Some z
     first-second x z e = found-by second_id (λ w. eqb (first_id w) x) (numbered next ps) z (numbered-up next ps) e
 
-    pub second-first : (x : ℕ) (z : Numbered) → by_second ps next x ≡ some z → found_by_first ps next (first_id z) ≡ some z
+    pub second-first : (x : ℕ) (z : Numbered) → by_second ps next x ≡ Some z → found_by_first ps next (first_id z) ≡ Some z
     second-first x z e = found-by first_id (λ w. eqb (second_id w) x) (numbered next ps) z firsts-up e
 
     -- an id of a second half is new
-    pub second_above : (x : ℕ) (z : Numbered) → by_second ps next x ≡ some z → next ≤ x
+    pub second_above : (x : ℕ) (z : Numbered) → by_second ps next x ≡ Some z → next ≤ x
     second_above x z e =
         let u = leb-true next (second_id z) (found_all (λ w. eqb (second_id w) x) (λ w. leb next (second_id w)) (numbered next ps) z e (numbered-from next ps next (omega arith))) in
         let v = second-id x z e in
@@ -145,15 +145,15 @@ module _ (m : Map) (ps : List LanePlan) (next : ℕ) where
         ∙ (ap (halved_by xs (halves next ps) l (mapped (λ (z : Numbered). z.1) (found_by_first ps next l.id))) (second_is l.id) ∙ go (found_by_first ps next l.id))
       where
         go : (o : Option Numbered) → halved_by xs (halves next ps) l (mapped (λ (z : Numbered). z.1) o) (mapped second_id o) ≡ cut_by xs (halves next ps) o l
-        go none = refl
-        go (some z) = refl
+        go None = refl
+        go (Some z) = refl
 
     pub cut-id : (xs : List Piece) (l : Lane) → (cut_lane ps xs (halves next ps) l).id ≡ l.id
     cut-id xs l = ap (λ k. k.id) (cut-is xs l) ∙ go (found_by_first ps next l.id) refl
       where
         go : (o : Option Numbered) → found_by_first ps next l.id ≡ o → (cut_by xs (halves next ps) o l).id ≡ l.id
-        go none e = refl
-        go (some z) e = first-id l.id z e
+        go None e = refl
+        go (Some z) e = first-id l.id z e
 
     -- what the cut map has under x
     abbrev pub lane_at : List Piece → ℕ → Option Lane → Option Numbered → Option Numbered → Option Lane
@@ -171,28 +171,28 @@ module _ (m : Map) (ps : List LanePlan) (next : ℕ) where
       where
         at-found : (o : Option Lane) → find (λ l. eqb l.id x) m.lanes ≡ o
             → changed_by (cut_lane ps xs (halves next ps)) o ≡ mapped (cut_by xs (halves next ps) (found_by_first ps next x)) o
-        at-found none e = refl
-        at-found (some l) e =
-            ap some
+        at-found None e = refl
+        at-found (Some l) e =
+            ap Some
             (cut-is xs l
             ∙ ap (λ i. cut_by xs (halves next ps) (found_by_first ps next i) l) (eqb-true l.id x (found-passes (λ k. eqb k.id x) m.lanes l e)))
 
   -- ---- new ids
 
   module _ (c : Cutting m ps next) where
-    pub absent-from : (x : ℕ) → next ≤ x → lane m x ≡ none
+    pub absent-from : (x : ℕ) → next ≤ x → lane m x ≡ None
     unfolding lane
     absent-from x h =
         find_none (λ l. eqb l.id x) (λ l. ltb l.id next) m.lanes (sym (all_map (λ i. ltb i next) (λ l. l.id) m.lanes) ∙ c.fresh)
         (λ l t. let u = ltb-true l.id next t in ne_eqb l.id x (λ q. omega arith))
 
-    pub second-new : (x : ℕ) (z : Numbered) → by_second ps next x ≡ some z → lane m x ≡ none
+    pub second-new : (x : ℕ) (z : Numbered) → by_second ps next x ≡ Some z → lane m x ≡ None
     second-new x z e = absent-from x (second_above c.choice x z e)
 
     -- a lane that is present is no second half
-    pub old-no-second : (x : ℕ) (l : Lane) → lane m x ≡ some l → by_second ps next x ≡ none
+    pub old-no-second : (x : ℕ) (l : Lane) → lane m x ≡ Some l → by_second ps next x ≡ None
     old-no-second x l e = go (by_second ps next x) refl
       where
-        go : (o : Option Numbered) → by_second ps next x ≡ o → o ≡ none
-        go none q = refl
-        go (some z) q = absurd (no-some l (sym (second-new x z q) ∙ e))
+        go : (o : Option Numbered) → by_second ps next x ≡ o → o ≡ None
+        go None q = refl
+        go (Some z) q = absurd (no-some l (sym (second-new x z q) ∙ e))

@@ -1,9 +1,9 @@
 -- Why the law's exact lists want the counter to have the ids, for a split too: at the largest counter a map may hold that very id, and a new boundary would bear it.
 -- The call is refused then (11). Assumes nothing.
+use Rattle.std.specs.Prelude.{None, Err, Ok}
 use mathlib.Core.Path.{◌≡◌, refl, sym, ap, ◌∙◌}
 use mathlib.Core.Bool.{true, false}
 use mathlib.Core.List.{[], ◌∷◌}
-use mathlib.Core.Option.{none}
 use Prim.Native.Nat.{ℕ}
 use native.Mathlib.Omega.{arith}
 use lib.Dec.{leb}
@@ -13,7 +13,7 @@ use Rattle.geometry.specs.declared.Point3.{Point3}
 use Rattle.entities.specs.Types.{forward, preset}
 use Rattle.entities.specs.declared.SplitAt.TheVariants as A
 use Rattle.rules.specs.Sound.{sound, last_counter}
-use Rattle.rules.specs.Edit.{Res, refuse, yield, Edited}
+use Rattle.rules.specs.Edit.{Res, Edited}
 use Rattle.rules.specs.Ops.{SplitLane, State, edit, counter_after}
 use Rattle.rules.specs.Demand.{appeared, Exact}
 use Rattle.rules.proofs.Opened.{opened}
@@ -33,13 +33,13 @@ crowded =
                   kind = 0;
                   left = forward last_counter;
                   right = forward last_counter;
-                  centerline = none;
-                  speed_limit = none;
+                  centerline = None;
+                  speed_limit = None;
                   one_way = true;
                   turn_direction = 0;
                   attributes = 0;
-                  left_neighbor = none;
-                  right_neighbor = none;
+                  left_neighbor = None;
+                  right_neighbor = None;
                   predecessors = [];
                   successors = [];
                 }
@@ -63,16 +63,16 @@ abbrev pub cutting : Res Edited
 cutting = edit preset (SplitLane 1 (A.Fraction (of_bits binary64 0x3FE0000000000000)) false) crowded
 
 abbrev count_created : Res Edited → ℕ
-count_created (refuse r) = 0
-count_created (yield e) = length e.changes.created
+count_created (Err r) = 0
+count_created (Ok e) = length e.changes.created
 
 abbrev count_appeared : Res Edited → ℕ
-count_appeared (refuse r) = 0
-count_appeared (yield e) = length (appeared crowded.map e.result)
+count_appeared (Err r) = 0
+count_appeared (Ok e) = length (appeared crowded.map e.result)
 
 abbrev ids_of : Res Edited → ℕ
-ids_of (refuse r) = 0
-ids_of (yield e) = e.ids
+ids_of (Err r) = 0
+ids_of (Ok e) = e.ids
 
 -- a lane and a boundary are called created, and only the lane appeared
 created-two : count_created cutting ≡ 2
@@ -83,7 +83,7 @@ appeared-one : count_appeared cutting ≡ 1
 unfolding opened
 appeared-one = refl
 
-pub not-exact : (e : Edited) → cutting ≡ yield e → Exact crowded.map e.changes e.result → ⊥
+pub not-exact : (e : Edited) → cutting ≡ Ok e → Exact crowded.map e.changes e.result → ⊥
 not-exact e h x = differ (sym created-two ∙ (ap count_created h ∙ (ap length x.created_is ∙ (sym (ap count_appeared h) ∙ appeared-one))))
   where
     differ : ◌≡◌ {A = ℕ} 2 1 → ⊥

@@ -1,8 +1,8 @@
 -- split_lane: what an accepted call yields is sound and tells its changes, where the counter has the ids. Assumes nothing.
+use Rattle.std.specs.Prelude.{Some, Ok}
 use mathlib.Core.Path.{◌≡◌, refl, sym, ap, ◌∙◌, subst}
 use mathlib.Core.Bool.{Bool, true, false, ◌&&◌, ◌||◌}
 use mathlib.Core.List.{List, [], map}
-use mathlib.Core.Option.{some}
 use Prim.Native.Nat.{ℕ, ◌+◌, ◌≤◌}
 use native.Mathlib.Nat.{le-max_right, max-eq_left}
 use native.Mathlib.Omega.{arith}
@@ -20,7 +20,6 @@ use Rattle.entities.specs.declared.EntityRef.{EntityRef}
 use Rattle.entities.specs.Records.{Issue, Lane, Boundary, Rule, Map}
 use Rattle.rules.specs.Map.{lane, lane_ids, uses, rule_anchor}
 use Rattle.rules.specs.Sound.{sound, ids_named, next_id, last_counter, counter_above, within_limits, handle_width, optional_line, ids_ascend}
-use Rattle.rules.specs.Edit.{yield}
 use Rattle.rules.specs.Split.{LanePlan, Piece, lane_plans, pieces_ids, halves, cut_map, group_of}
 use Rattle.rules.specs.Ops.{counter_after}
 use Rattle.rules.specs.Demand.{Exact}
@@ -44,8 +43,8 @@ use Rattle.laws.proofs.SplitYield.{cut_of, drawn_of, pieces_of, following, yield
 -- ---- an accepted call
 
 module _ (tol : Tolerance) (counter : ℕ) (m : Map) (sane : sound counter m ≡ true) (low : all (λ j. ltb j (next_id counter)) (ids_named m) ≡ true)
-    (i : ℕ) (l : Lane) (found : lane m i ≡ some l) (neighbors : Bool) (at : Float) (p : Point2) (ps : List LanePlan)
-    (plans : lane_plans tol m i at p (cut_of m (group_of m i neighbors)) ≡ yield ps) where
+    (i : ℕ) (l : Lane) (found : lane m i ≡ Some l) (neighbors : Bool) (at : Float) (p : Point2) (ps : List LanePlan)
+    (plans : lane_plans tol m i at p (cut_of m (group_of m i neighbors)) ≡ Ok ps) where
   abbrev group : List ℕ
   group = group_of m i neighbors
 

@@ -1,8 +1,8 @@
 -- split_lane obeys the law of one accepted call. Assumes nothing.
+use Rattle.std.specs.Prelude.{Some, Ok}
 use mathlib.Core.Path.{◌≡◌, refl, sym, ◌∙◌, subst}
 use mathlib.Core.Bool.{Bool, true}
 use mathlib.Core.List.{List}
-use mathlib.Core.Option.{some}
 use Prim.Native.Nat.{ℕ, ◌+◌}
 use lib.Dec.{leb, ltb}
 use lib.Ieee.{Float}
@@ -16,7 +16,7 @@ use Rattle.entities.specs.declared.Refusal.TheVariants as R
 use Rattle.entities.specs.Records.{Line, Lane, Map}
 use Rattle.rules.specs.Map.{lane, centerline, flat_point}
 use Rattle.rules.specs.Sound.{sound, ids_named, next_id, last_counter}
-use Rattle.rules.specs.Edit.{Res, yield, ◌>>=◌, check, require, Edited}
+use Rattle.rules.specs.Edit.{Res, ◌>>=◌, check, require, Edited}
 use Rattle.rules.specs.Split.{LanePlan, pieces_ids, cut_station, cuttable, lane_plans, all_cross, cut, group_of, split_lane}
 use Rattle.rules.specs.Ops.{SplitLane, State, edit, counter_after}
 use Rattle.rules.proofs.Facts.{sound-facts}
@@ -32,7 +32,7 @@ module _ (tol : Tolerance) (i : ℕ) (at : SplitAt) (neighbors : Bool) where
   -- the steps of the definition, from the last back
   abbrev crossing : ℕ → Map → Point2 → List LanePlan → Res Edited
   crossing next m p ps =
-      all_cross m p (cut_of m (group_of m i neighbors)) >>= (λ ok. yield (cut tol next m i (group_of m i neighbors) ps (pieces_of m (group_of m i neighbors) p next)))
+      all_cross m p (cut_of m (group_of m i neighbors)) >>= (λ ok. Ok (cut tol next m i (group_of m i neighbors) ps (pieces_of m (group_of m i neighbors) p next)))
 
   abbrev planning : ℕ → Map → Float → Point2 → Res Edited
   planning next m s p = lane_plans tol m i s p (cut_of m (group_of m i neighbors)) >>= crossing next m p
@@ -50,8 +50,8 @@ module _ (tol : Tolerance) (i : ℕ) (at : SplitAt) (neighbors : Bool) where
   lining next m l = require (centerline m l) (R.NoUsableLine i) >>= drawing next m
 
   -- the law of what is yielded
-  law-of : (s : State) → sound s.counter s.map ≡ true → (l : Lane) → lane s.map i ≡ some l → (f : Float) (p : Point2) (ps : List LanePlan)
-      → lane_plans tol s.map i f p (cut_of s.map (group_of s.map i neighbors)) ≡ yield ps → (e : Edited)
+  law-of : (s : State) → sound s.counter s.map ≡ true → (l : Lane) → lane s.map i ≡ Some l → (f : Float) (p : Point2) (ps : List LanePlan)
+      → lane_plans tol s.map i f p (cut_of s.map (group_of s.map i neighbors)) ≡ Ok ps → (e : Edited)
       → cut tol (next_id s.counter) s.map i (group_of s.map i neighbors) ps (pieces_of s.map (group_of s.map i neighbors) p (next_id s.counter)) ≡ e
       → Law (SplitLane i at neighbors) s e
   law-of s sane l found f p ps plans e is =
@@ -82,5 +82,5 @@ module _ (tol : Tolerance) (i : ℕ) (at : SplitAt) (neighbors : Bool) where
       let (p, e5, h5) = bound (require (flat_point (point_at c f)) (R.NoUsableLine i)) (planning next m f) e h4 in
       let (ps, e6, h6) = bound (lane_plans tol m i f p (cut_of m (group_of m i neighbors))) (crossing next m p) e h5 in
       let (ok2, e7, h7) =
-      bound (all_cross m p (cut_of m (group_of m i neighbors))) (λ ok. yield (cut tol next m i (group_of m i neighbors) ps (pieces_of m (group_of m i neighbors) p next))) e h6 in
+      bound (all_cross m p (cut_of m (group_of m i neighbors))) (λ ok. Ok (cut tol next m i (group_of m i neighbors) ps (pieces_of m (group_of m i neighbors) p next))) e h6 in
       law-of s sane l found f p ps e6 e (yields h7)

@@ -1,8 +1,8 @@
 -- split_lane: the predecessors of the cut map are the link book's entry too, so links stay reciprocal; and the ids of its lanes. Assumes nothing.
+use Rattle.std.specs.Prelude.{Option, None, Some}
 use mathlib.Core.Path.{◌≡◌, refl, sym, ap, ◌∙◌}
 use mathlib.Core.Bool.{true, false, not, ◌&&◌, ◌||◌, true≢false}
 use mathlib.Core.List.{List, [], ◌∷◌, ◌++◌, map}
-use mathlib.Core.Option.{Option, none, some}
 use Prim.Native.Nat.{ℕ}
 use native.Mathlib.Omega.{arith}
 use lib.Dec.{eqb, ltb, leb}
@@ -65,19 +65,19 @@ module _ (m : Map) (ps : List LanePlan) (next : ℕ) (c : Cutting m ps next) whe
     comes-was x y o e = comes-found m x y c.choice.up ∙ ap (on_found (λ l. has x l.predecessors)) e
 
     -- a first half leads to no lane that was there
-    no-pair : (x y : ℕ) → by_second ps next y ≡ none → on_found (λ z. eqb y (second_id z)) (found_by_first ps next x) ≡ false
+    no-pair : (x y : ℕ) → by_second ps next y ≡ None → on_found (λ z. eqb y (second_id z)) (found_by_first ps next x) ≡ false
     no-pair x y e = go (found_by_first ps next x) refl
       where
         go : (o : Option Numbered) → found_by_first ps next x ≡ o → on_found (λ z. eqb y (second_id z)) o ≡ false
-        go none q = refl
-        go (some z) q = ne_eqb y (second_id z) (λ u. no-some z (sym e ∙ (ap (by_second ps next) u ∙ first-second m ps next c.choice x z q)))
+        go None q = refl
+        go (Some z) q = ne_eqb y (second_id z) (λ u. no-some z (sym e ∙ (ap (by_second ps next) u ∙ first-second m ps next c.choice x z q)))
 
     -- predecessors of a lane that was there
-    came-book : (x y : ℕ) (l : Lane) → lane m y ≡ some l → has x (came_from (halves next ps) l.predecessors) ≡ book_split (halves next ps) (comes_from m) x y
+    came-book : (x y : ℕ) (l : Lane) → lane m y ≡ Some l → has x (came_from (halves next ps) l.predecessors) ≡ book_split (halves next ps) (comes_from m) x y
     came-book x y l e =
         has-came m ps next c.choice x l.predecessors
         ∙ (or_swap (has x l.predecessors && not (is_cut m ps next c.choice x)) (on_found (λ z. has (first_id z) l.predecessors) (by_second ps next x))
-        ∙ (ap (λ t. on_found (λ z. has (first_id z) l.predecessors) (by_second ps next x) || (t && not (is_cut m ps next c.choice x))) (sym (comes-was x y (some l) e))
+        ∙ (ap (λ t. on_found (λ z. has (first_id z) l.predecessors) (by_second ps next x) || (t && not (is_cut m ps next c.choice x))) (sym (comes-was x y (Some l) e))
         ∙ (ap (λ t. t || (comes_from m x y && not (is_cut m ps next c.choice x))) (on-second (by_second ps next x))
         ∙ (ap (λ t. t || (comes_from m x y && not (is_cut m ps next c.choice x))) (sym (or-false (on_found (λ z. comes_from m (first_id z) y) (by_second ps next x))))
         ∙ (ap (λ t. on_found (λ z. comes_from m (first_id z) y) (by_second ps next x) || t || (comes_from m x y && not (is_cut m ps next c.choice x)))
@@ -85,22 +85,22 @@ module _ (m : Map) (ps : List LanePlan) (next : ℕ) (c : Cutting m ps next) whe
         ∙ sym (book-is m ps next c.choice (comes_from m) x y))))))
       where
         on-second : (o : Option Numbered) → on_found (λ z. has (first_id z) l.predecessors) o ≡ on_found (λ z. comes_from m (first_id z) y) o
-        on-second none = refl
-        on-second (some z) = sym (comes-was (first_id z) y (some l) e)
+        on-second None = refl
+        on-second (Some z) = sym (comes-was (first_id z) y (Some l) e)
 
     -- of a lane that was not there
-    new-book : (x y : ℕ) → lane m y ≡ none → book_split (halves next ps) (comes_from m) x y ≡ on_found (λ z. eqb y (second_id z)) (found_by_first ps next x)
+    new-book : (x y : ℕ) → lane m y ≡ None → book_split (halves next ps) (comes_from m) x y ≡ on_found (λ z. eqb y (second_id z)) (found_by_first ps next x)
     new-book x y e =
         book-is m ps next c.choice (comes_from m) x y
         ∙ (ap (λ t. t || on_found (λ z. eqb y (second_id z)) (found_by_first ps next x) || (comes_from m x y && not (is_cut m ps next c.choice x))) (nowhere (by_second ps next x))
-        ∙ (ap (λ t. on_found (λ z. eqb y (second_id z)) (found_by_first ps next x) || (t && not (is_cut m ps next c.choice x))) (comes-was x y none e)
+        ∙ (ap (λ t. on_found (λ z. eqb y (second_id z)) (found_by_first ps next x) || (t && not (is_cut m ps next c.choice x))) (comes-was x y None e)
         ∙ or-false (on_found (λ z. eqb y (second_id z)) (found_by_first ps next x))))
       where
         nowhere : (o : Option Numbered) → on_found (λ z. comes_from m (first_id z) y) o ≡ false
-        nowhere none = refl
-        nowhere (some z) = comes-was (first_id z) y none e
+        nowhere None = refl
+        nowhere (Some z) = comes-was (first_id z) y None e
 
-    one-pair : (x y : ℕ) (w : Numbered) → by_second ps next y ≡ some w → eqb x (first_id w) ≡ on_found (λ z. eqb y (second_id z)) (found_by_first ps next x)
+    one-pair : (x y : ℕ) (w : Numbered) → by_second ps next y ≡ Some w → eqb x (first_id w) ≡ on_found (λ z. eqb y (second_id z)) (found_by_first ps next x)
     one-pair x y w e = same_test (eqb x (first_id w)) (on_found (λ z. eqb y (second_id z)) (found_by_first ps next x)) forth (back (found_by_first ps next x) refl)
       where
         forth : eqb x (first_id w) ≡ true → on_found (λ z. eqb y (second_id z)) (found_by_first ps next x) ≡ true
@@ -109,9 +109,9 @@ module _ (m : Map) (ps : List LanePlan) (next : ℕ) (c : Cutting m ps next) whe
             ∙ eq-eqb y (second_id w) (sym (second-id m ps next c.choice y w e))
 
         back : (o : Option Numbered) → found_by_first ps next x ≡ o → on_found (λ z. eqb y (second_id z)) o ≡ true → eqb x (first_id w) ≡ true
-        back none q t = absurd (true≢false (sym t))
-        back (some z) q t =
-            let u : some w ≡ some z = sym e ∙ (ap (by_second ps next) (eqb-true y (second_id z) t) ∙ first-second m ps next c.choice x z q) in
+        back None q t = absurd (true≢false (sym t))
+        back (Some z) q t =
+            let u : Some w ≡ Some z = sym e ∙ (ap (by_second ps next) (eqb-true y (second_id z) t) ∙ first-second m ps next c.choice x z q) in
             eq-eqb x (first_id w) (sym (ap first_id (some_is u) ∙ first-id m ps next c.choice x z q))
 
     pub split-comes : (x y : ℕ) → comes_from n x y ≡ book_split (halves next ps) (comes_from m) x y
@@ -120,11 +120,11 @@ module _ (m : Map) (ps : List LanePlan) (next : ℕ) (c : Cutting m ps next) whe
       where
         go : (o : Option Lane) (a b : Option Numbered) → lane m y ≡ o → found_by_first ps next y ≡ a → by_second ps next y ≡ b
             → on_found (λ l. has x l.predecessors) (lane_at m ps next c.choice xs y o a b) ≡ book_split (halves next ps) (comes_from m) x y
-        go (some l) none b eo ea eb = came-book x y l eo
-        go (some l) (some z) b eo ea eb = came-book x y z.1.of (first_lane m ps next c.choice y z ea)
-        go none (some z) b eo ea eb = absurd (no-some z.1.of (sym eo ∙ first_lane m ps next c.choice y z ea))
-        go none none none eo ea eb = sym (new-book x y eo ∙ no-pair x y eb)
-        go none none (some w) eo ea eb = has_one x (first_id w) ∙ (one-pair x y w eb ∙ sym (new-book x y eo))
+        go (Some l) None b eo ea eb = came-book x y l eo
+        go (Some l) (Some z) b eo ea eb = came-book x y z.1.of (first_lane m ps next c.choice y z ea)
+        go None (Some z) b eo ea eb = absurd (no-some z.1.of (sym eo ∙ first_lane m ps next c.choice y z ea))
+        go None None None eo ea eb = sym (new-book x y eo ∙ no-pair x y eb)
+        go None None (Some w) eo ea eb = has_one x (first_id w) ∙ (one-pair x y w eb ∙ sym (new-book x y eo))
 
     -- Links stay reciprocal.
     pub split-links : links_reciprocal m ≡ true → links_reciprocal n ≡ true
@@ -140,5 +140,5 @@ module _ (m : Map) (ps : List LanePlan) (next : ℕ) (c : Cutting m ps next) whe
             ∙ sym (book-is m ps next c.choice (comes_from m) x y)))
           where
             on-second : (o : Option Numbered) → on_found (λ z. leads_to m (first_id z) y) o ≡ on_found (λ z. comes_from m (first_id z) y) o
-            on-second none = refl
-            on-second (some z) = links-agree m h (first_id z) y
+            on-second None = refl
+            on-second (Some z) = links-agree m h (first_id z) y

@@ -1,8 +1,8 @@
 -- split_lane: every id that the cut map names passes a test that the first map's ids and the new ids pass. Assumes nothing.
+use Rattle.std.specs.Prelude.{Option, None, Some}
 use mathlib.Core.Path.{◌≡◌, refl, sym, ap, ◌∙◌}
 use mathlib.Core.Bool.{Bool, true, false, not, ◌&&◌, cond}
 use mathlib.Core.List.{List, [], ◌∷◌, ◌++◌, map}
-use mathlib.Core.Option.{Option, none, some}
 use Prim.Native.Nat.{ℕ}
 use lib.Dec.{eqb}
 use lib.Ieee.{Float}
@@ -77,28 +77,28 @@ one_of p i h = and_both (p i) true h refl
 -- ---- ids of a lane's parts
 
 abbrev first_part : BoundaryRef → Option Piece → BoundaryRef
-first_part r o = elim o [ none ↦ r | some x ↦ record { boundary = cond r.reversed x.second x.first; reversed = r.reversed } ]
+first_part r o = elim o [ None ↦ r | Some x ↦ record { boundary = cond r.reversed x.second x.first; reversed = r.reversed } ]
 
 abbrev second_part : BoundaryRef → Option Piece → BoundaryRef
-second_part r o = elim o [ none ↦ r | some x ↦ record { boundary = cond r.reversed x.first x.second; reversed = r.reversed } ]
+second_part r o = elim o [ None ↦ r | Some x ↦ record { boundary = cond r.reversed x.first x.second; reversed = r.reversed } ]
 
 module _ (p : ℕ → Bool) (xs : List Piece) (hs : List (ℕ × ℕ)) (new : all (λ (h : ℕ × ℕ). p h.1) hs ≡ true)
     (drawn : all (λ x. p x.first && p x.second) xs ≡ true) where
   -- the second half's id
-  pub second-passes : (i j : ℕ) → second_of hs i ≡ some j → p j ≡ true
+  pub second-passes : (i j : ℕ) → second_of hs i ≡ Some j → p j ≡ true
   second-passes i j e = go (find (λ h. eqb h.0 i) hs) refl e
     where
-      go : (o : Option (ℕ × ℕ)) → find (λ h. eqb h.0 i) hs ≡ o → (elim o [ none ↦ none | some h ↦ some h.1 ]) ≡ some j → p j ≡ true
-      go none q u = absurd (no-some j u)
-      go (some h) q u = ap p (sym (some_is u)) ∙ found_all (λ k. eqb k.0 i) (λ k. p k.1) hs h q new
+      go : (o : Option (ℕ × ℕ)) → find (λ h. eqb h.0 i) hs ≡ o → (elim o [ None ↦ None | Some h ↦ Some h.1 ]) ≡ Some j → p j ≡ true
+      go None q u = absurd (no-some j u)
+      go (Some h) q u = ap p (sym (some_is u)) ∙ found_all (λ k. eqb k.0 i) (λ k. p k.1) hs h q new
 
   pub second-list : (i : ℕ) → p i ≡ true → all p (with_second hs i) ≡ true
   unfolding all
   second-list i h = go (second_of hs i) refl
     where
-      go : (o : Option ℕ) → second_of hs i ≡ o → all p (elim o [ none ↦ i ∷ [] | some j ↦ i ∷ j ∷ [] ]) ≡ true
-      go none q = and_both (p i) true h refl
-      go (some j) q = and_both (p i) (p j && true) h (and_both (p j) true (second-passes i j q) refl)
+      go : (o : Option ℕ) → second_of hs i ≡ o → all p (elim o [ None ↦ i ∷ [] | Some j ↦ i ∷ j ∷ [] ]) ≡ true
+      go None q = and_both (p i) true h refl
+      go (Some j) q = and_both (p i) (p j && true) h (and_both (p j) true (second-passes i j q) refl)
 
   -- lists of lanes of roads, junctions, and of a rule's priority
   pub inserted-pass : (ids : List ℕ) → all p ids ≡ true → all p (insert_after hs ids) ≡ true
@@ -113,30 +113,30 @@ module _ (p : ℕ → Bool) (xs : List Piece) (hs : List (ℕ × ℕ)) (new : al
       (all_map p (λ (h : ℕ × ℕ). h.1) (keep (λ h. has h.0 ids) hs) ∙ all_keep (λ h. p h.1) (λ h. has h.0 ids) hs new)
 
   first-slot-pass : (o : Option Neighbor) → all p (slot_id o) ≡ true → all p (slot_id (first_slot hs o)) ≡ true
-  first-slot-pass none h = h
-  first-slot-pass (some n) h = go (second_of hs n.lane) n.direction refl
+  first-slot-pass None h = h
+  first-slot-pass (Some n) h = go (second_of hs n.lane) n.direction refl
     where
       go : (o : Option ℕ) (d : NeighborDirection) → second_of hs n.lane ≡ o
-          → all p (slot_id (elim o [ none ↦ some n | some j ↦ elim d [ D.Same ↦ some n | D.Opposite ↦ some (opposing j) ] ])) ≡ true
-      go none d e = h
-      go (some j) D.Same e = h
-      go (some j) D.Opposite e = one_of p j (second-passes n.lane j e)
+          → all p (slot_id (elim o [ None ↦ Some n | Some j ↦ elim d [ D.Same ↦ Some n | D.Opposite ↦ Some (opposing j) ] ])) ≡ true
+      go None d e = h
+      go (Some j) D.Same e = h
+      go (Some j) D.Opposite e = one_of p j (second-passes n.lane j e)
 
   second-slot-pass : (o : Option Neighbor) → all p (slot_id o) ≡ true → all p (slot_id (second_slot hs o)) ≡ true
-  second-slot-pass none h = h
-  second-slot-pass (some n) h = go (second_of hs n.lane) n.direction refl
+  second-slot-pass None h = h
+  second-slot-pass (Some n) h = go (second_of hs n.lane) n.direction refl
     where
       go : (o : Option ℕ) (d : NeighborDirection) → second_of hs n.lane ≡ o
-          → all p (slot_id (elim o [ none ↦ none | some j ↦ elim d [ D.Same ↦ some (same j) | D.Opposite ↦ some (opposing n.lane) ] ])) ≡ true
-      go none d e = unfold all in refl
-      go (some j) D.Same e = one_of p j (second-passes n.lane j e)
-      go (some j) D.Opposite e = h
+          → all p (slot_id (elim o [ None ↦ None | Some j ↦ elim d [ D.Same ↦ Some (same j) | D.Opposite ↦ Some (opposing n.lane) ] ])) ≡ true
+      go None d e = unfold all in refl
+      go (Some j) D.Same e = one_of p j (second-passes n.lane j e)
+      go (Some j) D.Opposite e = h
 
   pick : (b : Bool) (i j : ℕ) → p i ≡ true → p j ≡ true → p (cond b i j) ≡ true
   pick true i j h k = h
   pick false i j h k = k
 
-  piece-passes : (i : ℕ) (x : Piece) → piece_for xs i ≡ some x → (p x.first ≡ true) × (p x.second ≡ true)
+  piece-passes : (i : ℕ) (x : Piece) → piece_for xs i ≡ Some x → (p x.first ≡ true) × (p x.second ≡ true)
   piece-passes i x e =
       let both = found_all (λ y. eqb y.of.id i) (λ y. p y.first && p y.second) xs x e drawn in
       (and-fst (p x.first) (p x.second) both, and-snd (p x.first) (p x.second) both)
@@ -146,16 +146,16 @@ module _ (p : ℕ → Bool) (xs : List Piece) (hs : List (ℕ × ℕ)) (new : al
     where
       go : (o : Option Piece) → piece_for xs r.boundary ≡ o
           → p (first_part r o).boundary ≡ true
-      go none e = h
-      go (some x) e = let (a, b) = piece-passes r.boundary x e in pick r.reversed x.second x.first b a
+      go None e = h
+      go (Some x) e = let (a, b) = piece-passes r.boundary x e in pick r.reversed x.second x.first b a
 
   second-ref-pass : (r : BoundaryRef) → p r.boundary ≡ true → p (second_ref xs r).boundary ≡ true
   second-ref-pass r h = go (piece_for xs r.boundary) refl
     where
       go : (o : Option Piece) → piece_for xs r.boundary ≡ o
           → p (second_part r o).boundary ≡ true
-      go none e = h
-      go (some x) e = let (a, b) = piece-passes r.boundary x e in pick r.reversed x.first x.second a b
+      go None e = h
+      go (Some x) e = let (a, b) = piece-passes r.boundary x e in pick r.reversed x.first x.second a b
 
   -- ---- the names of a lane that is not cut, of a first and of a second half
 
@@ -207,13 +207,13 @@ module _ (p : ℕ → Bool) (xs : List Piece) (hs : List (ℕ × ℕ)) (new : al
   followed-passes join m ps a i h = go (plan_for ps i) (second_of hs i) refl
     where
       go : (o : Option LanePlan) (q : Option ℕ) → second_of hs i ≡ q
-          → p (elim o [ none ↦ i | some x ↦ elim q [ none ↦ i | some j ↦ cond (on_second join m x j a) j i ] ]) ≡ true
-      go none q e = h
-      go (some x) none e = h
-      go (some x) (some j) e = pick (on_second join m x j a) j i (second-passes i j e) h
+          → p (elim o [ None ↦ i | Some x ↦ elim q [ None ↦ i | Some j ↦ cond (on_second join m x j a) j i ] ]) ≡ true
+      go None q e = h
+      go (Some x) None e = h
+      go (Some x) (Some j) e = pick (on_second join m x j a) j i (second-passes i j e) h
 
   pub follow-pass : (join : Float) (m : Map) (ps : List LanePlan) (anchor : Option Point2) (ids : List ℕ) → all p ids ≡ true → all p (follow join m ps hs anchor ids) ≡ true
   unfolding follow
-  follow-pass join m ps none ids h = inserted-pass ids h
-  follow-pass join m ps (some a) ids h =
+  follow-pass join m ps None ids h = inserted-pass ids h
+  follow-pass join m ps (Some a) ids h =
       all_map p (followed join m ps hs a) ids ∙ all-weaken p (λ i. p (followed join m ps hs a i)) ids (followed-passes join m ps a) h

@@ -1,8 +1,8 @@
 -- split_lane leaves the lists of roads, junctions and rules free of repeats, where every id named is below the next. Assumes nothing.
+use Rattle.std.specs.Prelude.{Some, Ok}
 use mathlib.Core.Path.{◌≡◌, refl, sym, ap, ◌∙◌}
 use mathlib.Core.Bool.{Bool, true}
 use mathlib.Core.List.{List, map}
-use mathlib.Core.Option.{some}
 use Prim.Native.Nat.{ℕ, ◌+◌}
 use native.Mathlib.Omega.{arith}
 use lib.Dec.{ltb}
@@ -16,7 +16,6 @@ use Rattle.entities.specs.declared.Tolerance.{Tolerance}
 use Rattle.entities.specs.Records.{Lane, Map}
 use Rattle.rules.specs.Map.{lane, lane_ids, rule_anchor}
 use Rattle.rules.specs.Sound.{sound, ids_named, next_id, repeat_free}
-use Rattle.rules.specs.Edit.{yield}
 use Rattle.rules.specs.Split.{LanePlan, Piece, pieces_ids, halves, lane_plans, cut_map, group_of}
 use Rattle.laws.proofs.Still.{ids_up}
 use Rattle.laws.proofs.SoundParts.{names-own}
@@ -27,8 +26,8 @@ use Rattle.laws.proofs.Once.{Fine, below-clear, under, cut_ids, distinct-after}
 use Rattle.laws.proofs.Turns.{distinct-follow}
 use Rattle.laws.proofs.OnceRows.{lists-free}
 
-module _ (tol : Tolerance) (counter : ℕ) (m : Map) (sane : sound counter m ≡ true) (below : all (λ j. ltb j (next_id counter)) (ids_named m) ≡ true) (i : ℕ) (l : Lane) (found : lane m i ≡ some l) (neighbors : Bool) (at : Float) (p : Point2)
-    (ps : List LanePlan) (plans : lane_plans tol m i at p (cut_of m (group_of m i neighbors)) ≡ yield ps) where
+module _ (tol : Tolerance) (counter : ℕ) (m : Map) (sane : sound counter m ≡ true) (below : all (λ j. ltb j (next_id counter)) (ids_named m) ≡ true) (i : ℕ) (l : Lane) (found : lane m i ≡ Some l) (neighbors : Bool) (at : Float) (p : Point2)
+    (ps : List LanePlan) (plans : lane_plans tol m i at p (cut_of m (group_of m i neighbors)) ≡ Ok ps) where
   abbrev xs : List Piece
   xs = pieces_of m (group_of m i neighbors) p (next_id counter)
 

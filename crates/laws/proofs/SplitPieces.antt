@@ -1,8 +1,8 @@
 -- split_lane: the pieces of the boundaries. Their new ids count up from the next one, their lines lie in reach, and each has its boundary's kind. Assumes nothing.
+use Rattle.std.specs.Prelude.{Option, None, Some}
 use mathlib.Core.Path.{◌≡◌, refl, sym, ap, ◌∙◌}
 use mathlib.Core.Bool.{Bool, true, false, not, ◌&&◌, ◌||◌, cond}
 use mathlib.Core.List.{List, [], ◌∷◌, ◌++◌, map}
-use mathlib.Core.Option.{Option, none, some}
 use Prim.Native.Nat.{ℕ, zero, suc, ◌+◌, ◌≤◌}
 use native.Mathlib.Omega.{arith}
 use lib.Dec.{ltb, leb}
@@ -91,10 +91,10 @@ module _ (group : List ℕ) (ls : List Lane) (p : Point2) where
       go : (alone : Bool) (s : Option Float) → ((k : ℕ) → map (λ b. b.id) (each new_pieces (pieces group ls p k bs)) ≡ up_from k (pieces_ids (pieces group ls p k bs)))
           → map (λ b. b.id) (new_pieces (piece_by b next alone s) ++ each new_pieces (pieces group ls p (next + piece_ids (piece_by b next alone s)) bs))
           ≡ up_from next (piece_ids (piece_by b next alone s) + pieces_ids (pieces group ls p (next + piece_ids (piece_by b next alone s)) bs))
-      go true none r = one (next + 1) (r (next + 1)) refl
-      go true (some s) r = one (next + 1) (r (next + 1)) refl
-      go false none r = two (next + 2) (r (next + 2)) refl
-      go false (some s) r = two (next + 2) (r (next + 2)) refl
+      go true None r = one (next + 1) (r (next + 1)) refl
+      go true (Some s) r = one (next + 1) (r (next + 1)) refl
+      go false None r = two (next + 2) (r (next + 2)) refl
+      go false (Some s) r = two (next + 2) (r (next + 2)) refl
 
   -- A test of every piece, from a test of every boundary.
   pub pieces-all : (q : Piece → Bool) (t : Boundary → Bool) (low high : ℕ)
@@ -105,8 +105,8 @@ module _ (group : List ℕ) (ls : List Lane) (p : Point2) where
   pieces-all q t low high h next (b ∷ bs) a l k = go (is_alone b) (station b.geometry p) k (λ i. pieces-all q t low high h i bs (and-snd (t b) (all t bs) a))
     where
       alone_of : (alone : Bool) (s : Option Float) → piece_ids (piece_by b next alone s) ≡ cond alone 1 2
-      alone_of alone none = refl
-      alone_of alone (some s) = refl
+      alone_of alone None = refl
+      alone_of alone (Some s) = refl
 
       go : (alone : Bool) (s : Option Float)
           → next + (piece_ids (piece_by b next alone s) + pieces_ids (pieces group ls p (next + piece_ids (piece_by b next alone s)) bs)) ≤ high
@@ -125,10 +125,10 @@ module _ (group : List ℕ) (ls : List Lane) (p : Point2) where
     where
       go : (b : Boundary) (i : ℕ) (alone : Bool) (s : Option Float) → ltb b.id top ≡ true → i + cond alone 1 2 ≤ top
           → (ltb (piece_by b i alone s).first top && ltb (piece_by b i alone s).second top) ≡ true
-      go b i true none t w = and_both (ltb b.id top) (ltb i top) t (lt-ltb i top (omega arith))
-      go b i true (some s) t w = and_both (ltb b.id top) (ltb i top) t (lt-ltb i top (omega arith))
-      go b i false none t w = and_both (ltb i top) (ltb (suc i) top) (lt-ltb i top (omega arith)) (lt-ltb (suc i) top (omega arith))
-      go b i false (some s) t w = and_both (ltb i top) (ltb (suc i) top) (lt-ltb i top (omega arith)) (lt-ltb (suc i) top (omega arith))
+      go b i true None t w = and_both (ltb b.id top) (ltb i top) t (lt-ltb i top (omega arith))
+      go b i true (Some s) t w = and_both (ltb b.id top) (ltb i top) t (lt-ltb i top (omega arith))
+      go b i false None t w = and_both (ltb i top) (ltb (suc i) top) (lt-ltb i top (omega arith)) (lt-ltb (suc i) top (omega arith))
+      go b i false (Some s) t w = and_both (ltb i top) (ltb (suc i) top) (lt-ltb i top (omega arith)) (lt-ltb (suc i) top (omega arith))
 
   -- lines in reach
   pub pieces-reach : (next : ℕ) (bs : List Boundary) → all (λ b. all in_reach b.geometry) bs ≡ true
@@ -142,8 +142,8 @@ module _ (group : List ℕ) (ls : List Lane) (p : Point2) where
 
       go : (b : Boundary) (i : ℕ) (alone : Bool) (s : Option Float) → all in_reach b.geometry ≡ true
           → (all in_reach (piece_by b i alone s).first_line && all in_reach (piece_by b i alone s).second_line) ≡ true
-      go b i alone none t = and_both (all in_reach []) (all in_reach []) nil nil
-      go b i alone (some s) t =
+      go b i alone None t = and_both (all in_reach []) (all in_reach []) nil nil
+      go b i alone (Some s) t =
           and_both (all in_reach (first_piece b.geometry s)) (all in_reach (second_piece b.geometry s)) (first-piece-reach b.geometry s t)
           (second-piece-reach b.geometry s t)
 
@@ -153,5 +153,5 @@ module _ (group : List ℕ) (ls : List Lane) (p : Point2) where
       pieces-all (λ x. t x.of) t 0 (next + pieces_ids (pieces group ls p next bs)) (λ b i alone s h l w. go b i alone s h) next bs a (omega arith) (omega arith)
     where
       go : (b : Boundary) (i : ℕ) (alone : Bool) (s : Option Float) → t b ≡ true → t (piece_by b i alone s).of ≡ true
-      go b i alone none h = h
-      go b i alone (some s) h = h
+      go b i alone None h = h
+      go b i alone (Some s) h = h

@@ -1,8 +1,8 @@
 -- split_lane: the rows that are not in modified are as they were. Assumes nothing.
+use Rattle.std.specs.Prelude.{Option, None, Some}
 use mathlib.Core.Path.{◌≡◌, refl, sym, ap, ◌∙◌}
 use mathlib.Core.Bool.{Bool, true, false, not, ◌&&◌, ◌||◌, true≢false}
 use mathlib.Core.List.{List, [], ◌∷◌, ◌++◌, map, append-nil}
-use mathlib.Core.Option.{Option, none, some}
 use Prim.Native.Nat.{ℕ, ◌≤◌, ◌<◌}
 use native.Mathlib.Omega.{arith}
 use lib.Dec.{eqb, ltb, leb}
@@ -114,7 +114,7 @@ module _ (m : Map) (ps : List LanePlan) (next : ℕ) (c : Cutting m ps next) whe
   abbrev cut_ids : List ℕ
   cut_ids = map (λ (h : ℕ × ℕ). h.0) (halves next ps)
 
-  uncut-still : links_reciprocal m ≡ true → (i : ℕ) (l : Lane) → lane m i ≡ some l → any (λ g. has g.id cut_ids && has l.id g.successors) m.lanes ≡ false
+  uncut-still : links_reciprocal m ≡ true → (i : ℕ) (l : Lane) → lane m i ≡ Some l → any (λ g. has g.id cut_ids && has l.id g.successors) m.lanes ≡ false
       → uncut (halves next ps) l ≡ l
   unfolding leads_to
   uncut-still recip i l e h =
@@ -136,19 +136,19 @@ module _ (m : Map) (ps : List LanePlan) (next : ℕ) (c : Cutting m ps next) whe
   lane-same recip xs i t h = sym (lane-at m ps next c.choice xs i ∙ go (lane m i) (found_by_first ps next i) (by_second ps next i) refl refl refl)
     where
       go : (o : Option Lane) (a b : Option Numbered) → lane m i ≡ o → found_by_first ps next i ≡ a → by_second ps next i ≡ b → lane_at m ps next c.choice xs i o a b ≡ o
-      go o a (some z) eo ea eb =
+      go o a (Some z) eo ea eb =
           let u = ltb-true i next (all-has (λ j. ltb j next) i (lane_ids m) c.fresh t) in
           let v = second_above m ps next c.choice i z eb in
           absurd (nothing u v)
         where
           nothing : i < next → next ≤ i → ⊥
           nothing u v = omega arith
-      go none a none eo ea eb = refl
-      go (some l) none none eo ea eb =
+      go None a None eo ea eb = refl
+      go (Some l) None None eo ea eb =
           let (own, led) = neither (has l.id cut_ids) (any (λ g. has g.id cut_ids && has l.id g.successors) m.lanes)
           (sym (has-found (λ l. l.id) (lane_test m cut_ids) i m.lanes c.choice.up ∙ ap (on_found (lane_test m cut_ids)) eo) ∙ h) in
-          ap some (uncut-still recip i l eo led)
-      go (some l) (some z) none eo ea eb =
+          ap Some (uncut-still recip i l eo led)
+      go (Some l) (Some z) None eo ea eb =
           let (own, led) = neither (has l.id cut_ids) (any (λ g. has g.id cut_ids && has l.id g.successors) m.lanes)
           (sym (has-found (λ l. l.id) (lane_test m cut_ids) i m.lanes c.choice.up ∙ ap (on_found (lane_test m cut_ids)) eo) ∙ h) in
           absurd (true≢false (sym (has_key (λ (h : ℕ × ℕ). h.0) i (halves next ps) ∙ (cut-first m ps next c.choice i ∙ ap (on_found (λ (z : Numbered). true)) ea))
@@ -163,15 +163,15 @@ boundary_test xs b = any (λ x. x.alone && eqb x.of.id b.id) xs
 drawn-still : (xs : List Piece) (b : Boundary) → boundary_test xs b ≡ false → cut_boundary xs b ≡ b
 drawn-still xs b h = go (piece_for xs b.id) refl
   where
-    which : (x : Piece) → piece_for xs b.id ≡ some x → (k : Bool) → x.alone ≡ k → drawn_by b (some x) ≡ b
+    which : (x : Piece) → piece_for xs b.id ≡ Some x → (k : Bool) → x.alone ≡ k → drawn_by b (Some x) ≡ b
     which x e true q =
         absurd (true≢false (sym (found-any (λ y. eqb y.of.id b.id) xs x e (λ y. y.alone && eqb y.of.id b.id)
         (and_both x.alone (eqb x.of.id b.id) q (found-passes (λ y. eqb y.of.id b.id) xs x e))) ∙ h))
     which x e false q = rw q
 
     go : (o : Option Piece) → piece_for xs b.id ≡ o → drawn_by b o ≡ b
-    go none e = refl
-    go (some x) e = which x e x.alone refl
+    go None e = refl
+    go (Some x) e = which x e x.alone refl
 
 pub boundary-same : (m : Map) (xs : List Piece) (start : ℕ) → ascending (map (λ b. b.id) m.boundaries) ≡ true
     → all (λ i. ltb i start) (map (λ b. b.id) m.boundaries) ≡ true
@@ -182,9 +182,9 @@ boundary-same m xs start up fresh new i t h =
     sym
     (find-append (λ b. eqb b.id i) (map (cut_boundary xs) m.boundaries) (each new_pieces xs)
     ∙ (ap (λ o. or_else (find (λ b. eqb b.id i) (map (cut_boundary xs) m.boundaries)) o) none-new
-    ∙ (ap (λ o. or_else o none) (found_map (λ b. b.id) (cut_boundary xs) (drawn-id xs) i m.boundaries) ∙ go (find (λ b. eqb b.id i) m.boundaries) refl)))
+    ∙ (ap (λ o. or_else o None) (found_map (λ b. b.id) (cut_boundary xs) (drawn-id xs) i m.boundaries) ∙ go (find (λ b. eqb b.id i) m.boundaries) refl)))
   where
-    none-new : find (λ b. eqb b.id i) (each new_pieces xs) ≡ none
+    none-new : find (λ b. eqb b.id i) (each new_pieces xs) ≡ None
     none-new =
         find_none (λ b. eqb b.id i) (λ b. leb start b.id) (each new_pieces xs) new
         (λ b k.
@@ -192,6 +192,6 @@ boundary-same m xs start up fresh new i t h =
         let v = leb-true start b.id k in
         ne_eqb b.id i (λ q. omega arith))
 
-    go : (o : Option Boundary) → find (λ b. eqb b.id i) m.boundaries ≡ o → or_else (changed_by (cut_boundary xs) o) none ≡ o
-    go none e = refl
-    go (some b) e = ap some (drawn-still xs b (sym (has-found (λ b. b.id) (boundary_test xs) i m.boundaries up ∙ ap (on_found (boundary_test xs)) e) ∙ h))
+    go : (o : Option Boundary) → find (λ b. eqb b.id i) m.boundaries ≡ o → or_else (changed_by (cut_boundary xs) o) None ≡ o
+    go None e = refl
+    go (Some b) e = ap Some (drawn-still xs b (sym (has-found (λ b. b.id) (boundary_test xs) i m.boundaries up ∙ ap (on_found (boundary_test xs)) e) ∙ h))

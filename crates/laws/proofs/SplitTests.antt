@@ -1,8 +1,8 @@
 -- split_lane: a test of every lane and of every boundary of the cut map. Assumes nothing.
+use Rattle.std.specs.Prelude.{Option, None, Some}
 use mathlib.Core.Path.{◌≡◌, refl, sym, ap, ◌∙◌}
 use mathlib.Core.Bool.{Bool, true, false, ◌&&◌, cond}
 use mathlib.Core.List.{List, [], ◌∷◌, ◌++◌, map}
-use mathlib.Core.Option.{Option, none, some}
 use Prim.Native.Nat.{ℕ}
 use lib.Dec.{eqb}
 use Rattle.lists.specs.Every.{all}
@@ -76,8 +76,8 @@ module _ (m : Map) (ps : List LanePlan) (next : ℕ) (c : Cutting m ps next) whe
       (ap (all q) (seconds-numbered xs (halves next ps) next ps) ∙ (all_map q (λ (z : Numbered). second_half xs (halves next ps) z.0 z.1) (numbered next ps) ∙ d))
     where
       go : (l : Lane) → q (uncut (halves next ps) l) ≡ true → (o : Option Numbered) → found_by_first ps next l.id ≡ o → q (cut_by xs (halves next ps) o l) ≡ true
-      go l t none e = t
-      go l t (some z) e =
+      go l t None e = t
+      go l t (Some z) e =
           found_all (λ w. eqb (first_id w) l.id) (λ (w : Numbered). q (first_half xs (halves next ps) w.0 w.1)) (numbered next ps) z e b
 
   -- a test that the halves take over from their lane
@@ -99,7 +99,7 @@ abbrev pub cut_boundaries : Map → List Piece → List Boundary
 cut_boundaries m xs = map (cut_boundary xs) m.boundaries ++ each new_pieces xs
 
 abbrev pub drawn_by : Boundary → Option Piece → Boundary
-drawn_by b o = elim o [ none ↦ b | some x ↦ cond x.alone (redrawn x.first_line b) b ]
+drawn_by b o = elim o [ None ↦ b | Some x ↦ cond x.alone (redrawn x.first_line b) b ]
 
 pub drawn-id : (xs : List Piece) (b : Boundary) → (cut_boundary xs b).id ≡ b.id
 drawn-id xs b = go (piece_for xs b.id)
@@ -109,8 +109,8 @@ drawn-id xs b = go (piece_for xs b.id)
     which false x = refl
 
     go : (o : Option Piece) → (drawn_by b o).id ≡ b.id
-    go none = refl
-    go (some x) = which x.alone x
+    go None = refl
+    go (Some x) = which x.alone x
 
 pub boundaries-test : (m : Map) (xs : List Piece) (t q : Boundary → Bool) (u : Piece → Bool) → ((b : Boundary) → t b ≡ true → q b ≡ true)
     → ((b : Boundary) (x : Piece) → t b ≡ true → u x ≡ true → q (redrawn x.first_line b) ≡ true)
@@ -127,8 +127,8 @@ boundaries-test m xs t q u still redraw one two a b =
     which b h x k false = still b h
 
     old : (b : Boundary) → t b ≡ true → (o : Option Piece) → piece_for xs b.id ≡ o → q (drawn_by b o) ≡ true
-    old b' h none e = still b' h
-    old b' h (some x) e = which b' h x (found_all (λ y. eqb y.of.id b'.id) u xs x e b) x.alone
+    old b' h None e = still b' h
+    old b' h (Some x) e = which b' h x (found_all (λ y. eqb y.of.id b'.id) u xs x e b) x.alone
 
     last : (x : Piece) → u x ≡ true → all q (new_piece x.of x.second x.second_line ∷ []) ≡ true
     last x h = unfold all in and_both (q (new_piece x.of x.second x.second_line)) true (two x h) refl

@@ -1,8 +1,8 @@
 -- split_lane: what an accepted call yields, how many ids it allocates, and that its links are the link book's entry, whatever the counter. Assumes nothing.
+use Rattle.std.specs.Prelude.{Some, Ok}
 use mathlib.Core.Path.{◌≡◌, refl, sym, ap, ◌∙◌}
 use mathlib.Core.Bool.{Bool, true, cond}
 use mathlib.Core.List.{List, [], ◌++◌, map}
-use mathlib.Core.Option.{some}
 use Prim.Native.Nat.{ℕ, ◌+◌, ◌<◌, ◌≤◌}
 use native.Mathlib.Omega.{arith}
 use lib.Dec.{leb}
@@ -16,7 +16,7 @@ use Rattle.entities.specs.declared.EntityKind.TheVariants as K
 use Rattle.entities.specs.Records.{Lane, Boundary, Rule, Map}
 use Rattle.rules.specs.Map.{lane, lane_ids, leads_to, uses, rule_anchor}
 use Rattle.rules.specs.Sound.{next_id, last_counter}
-use Rattle.rules.specs.Edit.{yield, Edited, refs}
+use Rattle.rules.specs.Edit.{Edited, refs}
 use Rattle.rules.specs.Split.{LanePlan, Piece, lane_plans, pieces, pieces_ids, halves, new_pieces, unshared_piece, dropped_all, follow, cut_map, cut, group_of}
 use Rattle.rules.specs.Ops.{counter_after}
 use Rattle.rules.specs.Book.{pairs, created_lanes, book_split}
@@ -72,8 +72,8 @@ cut-yields tol start m i group ps xs = refl
 
 -- ---- an accepted call
 
-module _ (tol : Tolerance) (counter : ℕ) (m : Map) (up : ascending (lane_ids m) ≡ true) (i : ℕ) (l : Lane) (found : lane m i ≡ some l) (neighbors : Bool) (at : Float) (p : Point2)
-    (ps : List LanePlan) (plans : lane_plans tol m i at p (cut_of m (group_of m i neighbors)) ≡ yield ps) where
+module _ (tol : Tolerance) (counter : ℕ) (m : Map) (up : ascending (lane_ids m) ≡ true) (i : ℕ) (l : Lane) (found : lane m i ≡ Some l) (neighbors : Bool) (at : Float) (p : Point2)
+    (ps : List LanePlan) (plans : lane_plans tol m i at p (cut_of m (group_of m i neighbors)) ≡ Ok ps) where
   abbrev group : List ℕ
   group = group_of m i neighbors
 

@@ -1,8 +1,8 @@
 -- connect and disconnect: the lanes that are not reported are as they were, so the lists are exact.
+use Rattle.std.specs.Prelude.{Some}
 use mathlib.Core.Path.{◌≡◌, refl, sym, ap, ◌∙◌}
 use mathlib.Core.Bool.{Bool, true, false, not, ◌&&◌, cond}
 use mathlib.Core.List.{List, [], map}
-use mathlib.Core.Option.{some}
 use Prim.Native.Nat.{ℕ}
 use lib.Dec.{eqb}
 use borrow.Author.Tests.{eqb-true}
@@ -36,15 +36,15 @@ ids_up c m h =
     (ascending (map (λ c. c.id) m.crosswalks)) (sound-facts c m h).ids
 
 module _ (c : ℕ) (m : Map) (sane : sound c m ≡ true) where
-  lists-up : (i : ℕ) (l : Lane) → lane m i ≡ some l → (ascending l.predecessors && ascending l.successors) ≡ true
+  lists-up : (i : ℕ) (l : Lane) → lane m i ≡ Some l → (ascending l.predecessors && ascending l.successors) ≡ true
   unfolding lane links_ascend
   lists-up i l e = found_all (λ k. eqb k.id i) (λ k. ascending k.predecessors && ascending k.successors) m.lanes l e (sound-facts c m sane).links-ascend
 
   -- a link of a lane that is found
-  succ-of : (i b : ℕ) (l : Lane) → lane m i ≡ some l → leads_to m i b ≡ has b l.successors
+  succ-of : (i b : ℕ) (l : Lane) → lane m i ≡ Some l → leads_to m i b ≡ has b l.successors
   succ-of i b l e = leads-found m i b (ids_up c m sane) ∙ ap (on_found (λ k. has b k.successors)) e
 
-  pred_of : (a i : ℕ) (l : Lane) → lane m i ≡ some l → leads_to m a i ≡ has a l.predecessors
+  pred_of : (a i : ℕ) (l : Lane) → lane m i ≡ Some l → leads_to m a i ≡ has a l.predecessors
   pred_of a i l e = links-agree m (sound-facts c m sane).links a i ∙ comes-found m a i (ids_up c m sane) ∙ ap (on_found (λ k. has a k.predecessors)) e
 
   placed-still : (g : Bool) (x : ℕ) (ys : List ℕ) → ascending ys ≡ true → (g ≡ true → has x ys ≡ true) → cond g (place x ys) ys ≡ ys
@@ -56,7 +56,7 @@ module _ (c : ℕ) (m : Map) (sane : sound c m ≡ true) where
   taken-still false x ys h = refl
 
   -- Where a and b are linked, and in every lane but a and b, connecting changes nothing.
-  connect-still : (a b i : ℕ) (l : Lane) → lane m i ≡ some l → (not (leads_to m a b) && either a b l) ≡ false → link_in a b l ≡ l
+  connect-still : (a b i : ℕ) (l : Lane) → lane m i ≡ Some l → (not (leads_to m a b) && either a b l) ≡ false → link_in a b l ≡ l
   connect-still a b i l e t = go (leads_to m a b) refl
     where
       j : l.id ≡ i
@@ -77,7 +77,7 @@ module _ (c : ℕ) (m : Map) (sane : sound c m ≡ true) where
           ap (λ g. with_links (cond g (place a l.predecessors) l.predecessors) (cond (eqb l.id a) (place b l.successors) l.successors) l) n.1
           ∙ ap (λ g. with_links l.predecessors (cond g (place b l.successors) l.successors) l) n.0
 
-  disconnect-still : (a b i : ℕ) (l : Lane) → lane m i ≡ some l → (leads_to m a b && either a b l) ≡ false → link_out a b l ≡ l
+  disconnect-still : (a b i : ℕ) (l : Lane) → lane m i ≡ Some l → (leads_to m a b && either a b l) ≡ false → link_out a b l ≡ l
   disconnect-still a b i l e t = go (leads_to m a b) refl
     where
       j : l.id ≡ i

@@ -1,8 +1,8 @@
 -- A rule's own lanes where lanes are cut: followed all at once or one cut lane after the other, a list without repeats becomes the same. Assumes nothing.
+use Rattle.std.specs.Prelude.{Option, None, Some}
 use mathlib.Core.Path.{◌≡◌, refl, sym, ap, ◌∙◌}
 use mathlib.Core.Bool.{Bool, true, false, ◌&&◌, cond}
 use mathlib.Core.List.{List, [], ◌∷◌, map}
-use mathlib.Core.Option.{Option, none, some}
 use Prim.Native.Nat.{ℕ, suc}
 use lib.Dec.{eqb, ltb}
 use lib.Ieee.{Float}
@@ -19,7 +19,7 @@ use Rattle.laws.proofs.Once.{lacks-head, lacks-tail, distinct_head, distinct_tai
 
 -- ---- what stands in the place of a lane
 
-plan-lacks : (i : ℕ) (ps : List LanePlan) → has i (cut_ids ps) ≡ false → plan_for ps i ≡ none
+plan-lacks : (i : ℕ) (ps : List LanePlan) → has i (cut_ids ps) ≡ false → plan_for ps i ≡ None
 unfolding find
 plan-lacks i [] h = refl
 plan-lacks i (x ∷ ps) h = rw (eqb_swap x.of.id i, lacks-head i x.of.id (cut_ids ps) h) (plan-lacks i ps (lacks-tail i x.of.id (cut_ids ps) h))
@@ -27,14 +27,14 @@ plan-lacks i (x ∷ ps) h = rw (eqb_swap x.of.id i, lacks-head i x.of.id (cut_id
 module _ (join : Float) (m : Map) (p : Point2) where
   -- by the plan and the second half that are found
   abbrev placed : ℕ → Option LanePlan → Option ℕ → ℕ
-  placed i o q = elim o [ none ↦ i | some x ↦ elim q [ none ↦ i | some j ↦ cond (on_second join m x j p) j i ] ]
+  placed i o q = elim o [ None ↦ i | Some x ↦ elim q [ None ↦ i | Some j ↦ cond (on_second join m x j p) j i ] ]
 
   followed-by : (ps : List LanePlan) (hs : List (ℕ × ℕ)) (i : ℕ) (o : Option LanePlan) (q : Option ℕ) → plan_for ps i ≡ o → second_of hs i ≡ q → followed join m ps hs p i ≡ placed i o q
   followed-by ps hs i o q e f = ap (λ z. placed i z (second_of hs i)) e ∙ ap (placed i o) f
 
   -- a lane that is not cut stays
   followed-lacks : (ps : List LanePlan) (hs : List (ℕ × ℕ)) (i : ℕ) → has i (cut_ids ps) ≡ false → followed join m ps hs p i ≡ i
-  followed-lacks ps hs i h = followed-by ps hs i none (second_of hs i) (plan-lacks i ps h) refl
+  followed-lacks ps hs i h = followed-by ps hs i None (second_of hs i) (plan-lacks i ps h) refl
 
   module _ (n : ℕ) (x : LanePlan) (ps : List LanePlan) where
     abbrev now : ℕ → ℕ
@@ -46,7 +46,7 @@ module _ (join : Float) (m : Map) (p : Point2) where
 
     now-here : (i : ℕ) → eqb x.of.id i ≡ true → now i ≡ cond (on_second join m x n p) n i
     unfolding find halves
-    now-here i e = followed-by (x ∷ ps) (halves n (x ∷ ps)) i (some x) (some n) (rw e) (rw (second_of, e))
+    now-here i e = followed-by (x ∷ ps) (halves n (x ∷ ps)) i (Some x) (Some n) (rw e) (rw (second_of, e))
 
     now-other : (i : ℕ) → eqb x.of.id i ≡ false → now i ≡ later i
     unfolding find halves
@@ -82,7 +82,7 @@ module _ (join : Float) (m : Map) (p : Point2) where
           go false e = now-other i e
 
       -- one cut lane, then the others
-      turn : (ids : List ℕ) → distinct ids ≡ true → map now ids ≡ map later (follow_one join m (some p) x n ids)
+      turn : (ids : List ℕ) → distinct ids ≡ true → map now ids ≡ map later (follow_one join m (Some p) x n ids)
       turn ids d = go (has x.of.id ids) refl (on_second join m x n p) refl
         where
           go : (b : Bool) → has x.of.id ids ≡ b → (c : Bool) → on_second join m x n p ≡ c → map now ids ≡ map later (cond (b && c) (swap_first x.of.id (n ∷ []) ids) ids)
@@ -96,13 +96,13 @@ module _ (join : Float) (m : Map) where
   one-turn : (anchor : Option Point2) (n : ℕ) (x : LanePlan) (ps : List LanePlan) (ids : List ℕ) → above x.of.id (cut_ids ps) ≡ true → under n ps ≡ true → distinct ids ≡ true
       → follow join m (x ∷ ps) (halves n (x ∷ ps)) anchor ids ≡ follow join m ps (halves (suc n) ps) anchor (follow_one join m anchor x n ids)
   unfolding follow
-  one-turn none n x ps ids up a d = after_turn n x ps ids up a d
-  one-turn (some p) n x ps ids up a d = turn join m p n x ps up a ids d
+  one-turn None n x ps ids up a d = after_turn n x ps ids up a d
+  one-turn (Some p) n x ps ids up a d = turn join m p n x ps up a ids d
 
   none-cut : (anchor : Option Point2) (n : ℕ) (ids : List ℕ) → follow join m [] (halves n []) anchor ids ≡ ids
   unfolding follow halves find
-  none-cut none n ids = none_after ids
-  none-cut (some p) n ids = map-itself ids
+  none-cut None n ids = none_after ids
+  none-cut (Some p) n ids = map-itself ids
 
   pub in_turns : (anchor : Option Point2) (n : ℕ) (ps : List LanePlan) (ids : List ℕ) → ascending (cut_ids ps) ≡ true → under n ps ≡ true → Fine n ids
       → follow join m ps (halves n ps) anchor ids ≡ follow_all join m anchor n ps ids

@@ -1,10 +1,10 @@
 -- How many points lines have, read from the rows: on stored lines as many as the records' lines. Column by column, and in all. Assumes nothing.
+use Rattle.std.specs.Prelude.{None, Some}
 use mathlib.Core.Path.{◌≡◌, refl, sym, ap, ◌∙◌}
 use Prim.Native.Nat.{ℕ, zero, suc, ◌+◌}
 use native.Mathlib.Omega.{arith}
 use mathlib.Core.Bool.{Bool, true, false, cond}
 use mathlib.Core.List.{List, [], ◌∷◌, ◌++◌, map}
-use mathlib.Core.Option.{none, some}
 use lib.Ieee.{Float}
 use lib.ListN.{take, drop}
 use Rattle.lists.specs.Every.{all}
@@ -52,7 +52,7 @@ unfolding points_in S.total
 line-points c k w h = ap (λ n. n + 0) (sym (line-long c (span_at k w) h))
 
 center_line-points : (c : List Float) (w : List ℕ) (b : Bool) → all (stored c) (cond b (span_at 7 w ∷ []) []) ≡ true
-    → points_in (cond b (span_at 7 w ∷ []) []) ≡ points_of (optional_line (cond b (some (line_at c 7 w)) none))
+    → points_in (cond b (span_at 7 w ∷ []) []) ≡ points_of (optional_line (cond b (Some (line_at c 7 w)) None))
 center_line-points c w true h = line-points c 7 w (all_head (stored c) (span_at 7 w) [] h)
 center_line-points c w false h = unfold points_in S.total in refl
 

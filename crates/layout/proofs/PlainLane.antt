@@ -1,11 +1,11 @@
 -- A lane's row as plain words: what a lane written over it leaves, word by word, and every law of plain rows a law of rows of 52 words. Assumes nothing.
+use Rattle.std.specs.Prelude.{Option, None, Some}
 use mathlib.Core.Path.{◌≡◌, refl, sym, ap, ◌∙◌, subst}
 use Prim.Native.Nat.{ℕ, zero, suc, ◌+◌, ◌≤◌, ◌<◌}
 use native.Mathlib.Nat.{add-zero}
 use native.Mathlib.Omega.{arith}
 use mathlib.Core.Bool.{Bool, true, false, not, cond}
 use mathlib.Core.List.{List, [], ◌∷◌, ◌++◌, append-nil}
-use mathlib.Core.Option.{Option, none, some}
 use lib.Dec.{eqb}
 use lib.Ieee.{Float}
 use lib.ListN.{length, get_or, take, drop, length-append, length-drop, take-append-drop}
@@ -33,18 +33,18 @@ lane18 x0 x1 x2 x3 x4 x5 x6 x7 x8 x9 x10 x11 x12 x13 x14 x15 x16 x17 rest =
 
 -- where a centreline starts and its length, or the words that are there
 abbrev pub start_or : ℕ → ℕ → Option Line → ℕ
-start_or old at none = old
-start_or old at (some l) = at
+start_or old at None = old
+start_or old at (Some l) = at
 
 abbrev pub size_or : ℕ → Option Line → ℕ
-size_or old none = old
-size_or old (some l) = length l
+size_or old None = old
+size_or old (Some l) = length l
 
 -- a centreline's words, where there is one
 pub center_laid : (y0 y1 y2 y3 y4 y5 y6 y7 y8 y9 y10 y11 y12 y13 y14 y15 y16 y17 : ℕ) (rest : List ℕ) (at : ℕ) (o : Option Line) → laidCenter (lane18 y0 y1 y2 y3 y4 y5 y6 y7 y8 y9 y10 y11 y12 y13 y14 y15 y16 y17 rest) at o ≡ lane18 y0 y1 y2 y3 y4 y5 y6 (start_or y7 at o) (size_or y8 o) y9 y10 y11 y12 y13 y14 y15 y16 y17 rest
 unfolding over
-center_laid y0 y1 y2 y3 y4 y5 y6 y7 y8 y9 y10 y11 y12 y13 y14 y15 y16 y17 rest at none = refl
-center_laid y0 y1 y2 y3 y4 y5 y6 y7 y8 y9 y10 y11 y12 y13 y14 y15 y16 y17 rest at (some l) = refl
+center_laid y0 y1 y2 y3 y4 y5 y6 y7 y8 y9 y10 y11 y12 y13 y14 y15 y16 y17 rest at None = refl
+center_laid y0 y1 y2 y3 y4 y5 y6 y7 y8 y9 y10 y11 y12 y13 y14 y15 y16 y17 rest at (Some l) = refl
 
 -- a list of successors, over any
 pub after-set : (y0 y1 y2 y3 y4 y5 y6 y7 y8 y9 y10 y11 y12 y13 y14 y15 y16 y17 : ℕ) (v ss ids : List ℕ) (x : ℕ) → length v ≡ 17 → length ss ≡ 16 → length ids ≤ 16
@@ -102,15 +102,15 @@ module _ (x0 x1 x2 x3 x4 x5 x6 x7 x8 x9 x10 x11 x12 x13 x14 x15 x16 x17 n m : �
     unfolding lane_onto lane_of
     own5 = ap (λ z. get_or z 5 0) own
 
-    pub own6 : present (cond (not (eqb x6 0)) (some (line_at c 7 row)) none) ≡ x6
+    pub own6 : present (cond (not (eqb x6 0)) (Some (line_at c 7 row)) None) ≡ x6
     unfolding lane_onto lane_of
     own6 = ap (λ z. get_or z 6 0) own
 
-    pub own9 : present (cond (not (eqb x9 0)) (some x10) none) ≡ x9
+    pub own9 : present (cond (not (eqb x9 0)) (Some x10) None) ≡ x9
     unfolding lane_onto lane_of
     own9 = ap (λ z. get_or z 9 0) own
 
-    pub own10 : number_or x10 (cond (not (eqb x9 0)) (some x10) none) ≡ x10
+    pub own10 : number_or x10 (cond (not (eqb x9 0)) (Some x10) None) ≡ x10
     unfolding lane_onto lane_of
     own10 = ap (λ z. get_or z 10 0) own
 
@@ -135,7 +135,7 @@ module _ (x0 x1 x2 x3 x4 x5 x6 x7 x8 x9 x10 x11 x12 x13 x14 x15 x16 x17 n m : �
     own17 = ap (λ z. get_or z 17 0) own
 
     -- the centreline's words stand
-    pub own_line : (z : Bool) → all (stored c) (cond z (span_at 7 row ∷ []) []) ≡ true → (start_or x7 x7 (cond z (some (line_at c 7 row)) none) ≡ x7) × (size_or x8 (cond z (some (line_at c 7 row)) none) ≡ x8)
+    pub own_line : (z : Bool) → all (stored c) (cond z (span_at 7 row ∷ []) []) ≡ true → (start_or x7 x7 (cond z (Some (line_at c 7 row)) None) ≡ x7) × (size_or x8 (cond z (Some (line_at c 7 row)) None) ≡ x8)
     own_line true h = (refl, line-long c (span_at 7 row) (all_head (stored c) (span_at 7 row) [] h))
     own_line false h = (refl, refl)
 

@@ -1,12 +1,12 @@
 -- Rows as they stand: written with the start that they have and the record that is read from them they do not change, and their lines lie in
 -- an array that begins as the coordinates do. For those who leave rows, or whole tables, as they are. Assumes nothing.
+use Rattle.std.specs.Prelude.{None, Some}
 use mathlib.Core.Path.{◌≡◌, refl, sym, ap, ◌∙◌}
 use mathlib.Core.Logic.{⊎_elim}
 use Prim.Native.Nat.{ℕ, zero, suc, ◌+◌, ◌*◌, ◌/◌, ◌≤◌, min}
 use native.Mathlib.Omega.{arith}
 use mathlib.Core.Bool.{Bool, true, false, ◌&&◌, cond}
 use mathlib.Core.List.{List, [], ◌∷◌, ◌++◌, map}
-use mathlib.Core.Option.{none, some}
 use lib.Ieee.{Float}
 use lib.ListN.{length, get_or, take, drop, length-drop, take-append-drop}
 use lib.Seq.{take-take, take_at, length-take-le}
@@ -108,7 +108,7 @@ module _ (c : List Float) (w : List ℕ) where
       ∙ line-again w 3 (line_at c 3 w) (omega arith) (line-long c (span_at 3 w) i)
 
   -- a centreline's words, where there is one
-  center_stands : length w ≡ 52 → (b : Bool) → all (stored c) (cond b (span_at 7 w ∷ []) []) ≡ true → center_onto w (word 7 w) (cond b (some (line_at c 7 w)) none) ≡ w
+  center_stands : length w ≡ 52 → (b : Bool) → all (stored c) (cond b (span_at 7 w ∷ []) []) ≡ true → center_onto w (word 7 w) (cond b (Some (line_at c 7 w)) None) ≡ w
   center_stands l true h = line-again w 7 (line_at c 7 w) (omega arith) (line-long c (span_at 7 w) (all_head (stored c) (span_at 7 w) [] h))
   center_stands l false h = refl
 
@@ -180,15 +180,15 @@ each-of-rows F s dec good t h a = each-of-reads F s dec good h (word 0 t) (drop 
 -- `work` begins with n points of c, and the lines lie among these
 module _ (c work : List Float) (n : ℕ) (few : n ≤ length c / 3) (begins : take (n * 3) work ≡ take (n * 3) c) where
   pub line-lies : (k : ℕ) (w : List ℕ) → within n (span_at k w) ≡ true → LineIn work (word k w) (line_at c k w)
-  line-lies k w h = line_read c work (word k w) (word (suc k) w) (within_more n (length c / 3) few (span_at k w) h) (unfold part in ⊎_elim none inside (within-cases n (span_at k w) h))
+  line-lies k w h = line_read c work (word k w) (word (suc k) w) (within_more n (length c / 3) few (span_at k w) h) (unfold part in ⊎_elim None inside (within-cases n (span_at k w) h))
     where
-      none : word (suc k) w ≡ 0 → take (word (suc k) w * 3) (drop (word k w * 3) work) ≡ take (word (suc k) w * 3) (drop (word k w * 3) c)
-      none e = rw e
+      None : word (suc k) w ≡ 0 → take (word (suc k) w * 3) (drop (word k w * 3) work) ≡ take (word (suc k) w * 3) (drop (word k w * 3) c)
+      None e = rw e
 
       inside : word k w + word (suc k) w ≤ n → take (word (suc k) w * 3) (drop (word k w * 3) work) ≡ take (word (suc k) w * 3) (drop (word k w * 3) c)
       inside i = same-part (n * 3) (word k w * 3) (word (suc k) w * 3) work c begins (omega arith)
 
-  pub center_lies : (w : List ℕ) (b : Bool) → all (within n) (cond b (span_at 7 w ∷ []) []) ≡ true → EachOf (LineIn work (word 7 w)) (optional_line (cond b (some (line_at c 7 w)) none))
+  pub center_lies : (w : List ℕ) (b : Bool) → all (within n) (cond b (span_at 7 w ∷ []) []) ≡ true → EachOf (LineIn work (word 7 w)) (optional_line (cond b (Some (line_at c 7 w)) None))
   unfolding EachOf
   center_lies w true h = (line-lies 7 w (all_head (within n) (span_at 7 w) [] h), refl)
   center_lies w false h = refl

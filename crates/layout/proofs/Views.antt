@@ -1,8 +1,8 @@
 -- The law that nothing but lines moves: a map laid out anew is the map that it was. Assumes nothing.
+use Rattle.std.specs.Prelude.{Option, None, Some}
 use mathlib.Core.Path.{◌≡◌, refl, sym, ap, ◌∙◌}
 use mathlib.Core.Bool.{Bool, true, false, not, ◌&&◌, cond}
 use mathlib.Core.List.{List, [], ◌∷◌, ◌++◌, append-nil}
-use mathlib.Core.Option.{Option, none, some}
 use Prim.Native.Nat.{ℕ, ◌+◌, ◌-◌, ◌*◌, ◌/◌, ◌≤◌}
 use native.Mathlib.Nat.{add-zero, zero-add}
 use native.Mathlib.Omega.{arith}
@@ -131,7 +131,7 @@ module _ (c w : List Float) where
 
       go : (t : Bool) → not (eqb m 0) ≡ t → Held c w at (cond t (span_at 7 v ∷ []) []) → lane_of c (cond t (set v 7 at) v) ≡ lane_of w v
       go true q k =
-          unfold lane_of in ap (λ (p : List Float). lane_with (cond (not (eqb m 0)) (some (points p)) none) v) (held_one at (span_at 7 v) k)
+          unfold lane_of in ap (λ (p : List Float). lane_with (cond (not (eqb m 0)) (Some (points p)) None) v) (held_one at (span_at 7 v) k)
       go false q k = lane-stays v q
 
 -- ---- the theorem

@@ -1,10 +1,10 @@
 -- The rows that `pointed` writes: their lengths, their lines, and what becomes of them when a line is moved. Assumes nothing.
+use Rattle.std.specs.Prelude.{Option, None, Some}
 use mathlib.Core.Path.{◌≡◌, refl, sym, ap, ◌∙◌}
 use Prim.Native.Nat.{ℕ, zero, suc, ◌+◌, ◌*◌, ◌/◌, ◌≤◌}
 use native.Mathlib.Omega.{arith}
 use mathlib.Core.Bool.{Bool, true, not, ◌&&◌, cond, or-true}
 use mathlib.Core.List.{List, [], ◌∷◌, append-nil}
-use mathlib.Core.Option.{Option, none, some}
 use lib.Dec.{eqb, leb}
 use lib.Ieee.{Float}
 use lib.ListN.{length, set, drop, length-drop, length-take}
@@ -52,8 +52,8 @@ line-sits work at c h =
 
 pub center_sits : (work : List Float) (at : ℕ) (o : Option Line) → EachOf (LineIn work at) (optional_line o) → Sits work at (optional_line o)
 unfolding settled line_floats each flat EachOf
-center_sits work at none h = record { same = refl; fits = all_nil (within (length work / 3)) }
-center_sits work at (some c) h = line-sits work at c h.0
+center_sits work at None h = record { same = refl; fits = all_nil (within (length work / 3)) }
+center_sits work at (Some c) h = line-sits work at c h.0
 
 -- ---- lanes
 
@@ -63,12 +63,12 @@ few_links l = leb (length l.predecessors) 16 && leb (length l.successors) 16
 -- the mark says whether there is a line, whatever is written behind it
 center_mark : (w : List ℕ) (l : Lane) (at : ℕ) (o : Option Line) → mark 6 (center_onto (lane_onto w l) at o) ≡ not (eqb (present l.centerline) 0)
 unfolding lane_onto over
-center_mark w l at none = refl
-center_mark w l at (some c) = refl
+center_mark w l at None = refl
+center_mark w l at (Some c) = refl
 
 center_moved : (v : List ℕ) → 7 ≤ length v → (x at : ℕ) (o : Option Line) → cond (not (eqb (present o) 0)) (set (center_onto v x o) 7 at) (center_onto v x o) ≡ center_onto v at o
-center_moved v h x at none = refl
-center_moved v h x at (some c) = set-over 7 v x at (length c ∷ []) h
+center_moved v h x at None = refl
+center_moved v h x at (Some c) = set-over 7 v x at (length c ∷ []) h
 
 lane-turn : (w : List ℕ) (h : length w ≡ 52) (x at : ℕ) (l : Lane) → length l.predecessors ≤ 16 → length l.successors ≤ 16
     → moved centerlines at (lane_laid w (x, l)) ≡ lane_laid w (at, l)

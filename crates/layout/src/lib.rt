@@ -16,11 +16,9 @@ pub fn copy(from: &[f64], start: usize, n: usize, out: &mut [f64], at: usize)
     requires { (start + n ≤ length from.now) × (at + n ≤ length out.old) }
     ensures { out.new ≡ over out.old at (take n (drop start from.now)) }
 {
-    let mut i = 0;
-    while i < n {
-        out[at + i] = from[start + i];
-        i += 1;
-    }
+    let from_end = start + n;
+    let at_end = at + n;
+    out[at..at_end].copy_from_slice(&from[start..from_end]);
 }
 
 // How many points of a line lie before point `reach`.

@@ -29,8 +29,7 @@ fn gather(
 {
     let n = rows[0] as usize;
     let mut place = at;
-    let mut i = 0;
-    while i < n {
+    for i in 0..n {
         place = layout::gather_line(
             rows,
             1 + i * stride + offset,
@@ -40,7 +39,6 @@ fn gather(
             coordinates,
             place,
         );
-        i += 1;
     }
     place
 }
@@ -86,10 +84,8 @@ fn gather_centers(
 {
     let n = lanes[0] as usize;
     let mut place = at;
-    let mut i = 0;
-    while i < n {
+    for i in 0..n {
         place = gather_center(lanes, 1 + i * LANE, work, reach, drawn, coordinates, place);
-        i += 1;
     }
     place
 }

@@ -2,16 +2,13 @@
 // and compares the answer bit by bit, a NaN with any NaN. It writes for each function how many calls agreed and how many differ.
 #![tactic(auto)]
 
-ghost use Rattle.std.specs.Prelude.{◌<◌, ◌^◌, ◌≤◌, ◌≡◌, length};
-ghost use Rattle.std.specs.Float.{binary64};
-ghost use Rattle.std.specs.Float.Ieee.{nan_bits};
-ghost use Rattle.io.specs.Counts.{IsPrefixLen};
+ghost use Rattle.std.specs.Prelude.{◌<◌, ◌^◌, ◌≤◌, length};
 
-use geometry::{Heading, Point2, Point3};
-use polyline::{Located, NearestPoint, OptionNearest, OptionPoint3};
+use geometry::{Point2, Point3};
+use polyline::NearestPoint;
 use std::fs::File;
 use std::io;
-use std::io::{Read, Seek, SeekFrom};
+use stream::{Part, file};
 
 // ---- the stream (oracle/FORMAT.md, "Lines"), read front to back, and its answers compared with ours. Past the end all bytes are 0, and the place stays at the end.
 
@@ -27,18 +24,6 @@ struct Taken {
     value: usize,
     next: Cursor,
 }
-
-// How many floats were read, and the place behind them.
-#[derive(Clone, Copy)]
-struct Part {
-    floats: usize,
-    at: usize,
-}
-
-// The bits of infinity: above them, but for the sign, are the NaNs.
-const INFINITY: u64 = 0x7FF0_0000_0000_0000;
-
-const SIGN: u64 = 0x8000_0000_0000_0000;
 
 const FLOAT: usize = 8;
 
@@ -75,41 +60,12 @@ fn byte(s: &[u8], at: usize) -> u64
     0
 }
 
-// Four bytes from `at` on, the least first.
-fn half(s: &[u8], at: usize) -> u64
-    ensures { result < 2 ^ 32 }
-{
-    byte(s, at)
-        + byte(s, forward(s, at, 1)) * 0x100
-        + byte(s, forward(s, at, 2)) * 0x1_0000
-        + byte(s, forward(s, at, 3)) * 0x100_0000
-}
-
-// Eight bytes from `at` on, the least first.
-fn word(s: &[u8], at: usize) -> u64 {
-    half(s, at) + half(s, forward(s, at, 4)) * 0x1_0000_0000
-}
-
-fn is_nan(bits: u64) -> bool
-    ensures { result ≡ nan_bits binary64 bits }
-{
-    INFINITY < bits % SIGN
-}
-
-// The double with these bits. `from_bits` is not defined at a NaN's.
-fn double(bits: u64) -> f64 {
-    if is_nan(bits) {
-        return 0.0 / 0.0;
-    }
-    f64::from_bits(bits)
-}
-
 // Float i from the cursor on.
 fn float(s: &[u8], c: Cursor, i: usize) -> f64
     requires { i < 256 }
 {
     let at = c.at;
-    double(word(s, forward(s, at, i * FLOAT)))
+    bits::double(stream::word(s, forward(s, at, i * FLOAT)))
 }
 
 // The point whose first coordinate is float i from the cursor on.
@@ -166,9 +122,9 @@ fn number(s: &[u8], c: Cursor) -> Taken
     }
 }
 
-// A line, into the front of `line`: of one that is too long, what there is room for.
+// A line, into the front of `line`: how many floats it has. Of one that is too long, what there is room for.
 fn read_line(s: &[u8], from: usize, line: &mut [f64]) -> Part
-    ensures { result.floats ≤ length line.new }
+    ensures { result.size ≤ length line.new }
 {
     let n = number(
         s,
@@ -178,18 +134,13 @@ fn read_line(s: &[u8], from: usize, line: &mut [f64]) -> Part
         },
     );
     let next = n.next;
-    let wanted = n.value * 3;
+    let size = stream::least(n.value * 3, line.len());
     let mut at = next.at;
-    let mut i = 0;
-    while i < wanted {
-        if line.len() <= i {
-            return Part { floats: i, at };
-        }
-        line[i] = double(word(s, at));
+    for place in &mut line[..size] {
+        *place = bits::double(stream::word(s, at));
         at = forward(s, at, FLOAT);
-        i += 1;
     }
-    Part { floats: i, at }
+    Part { size, next: at }
 }
 
 // ---- comparing
@@ -206,18 +157,15 @@ fn expect(c: Cursor, holds: bool) -> Cursor {
 }
 
 // Whether a double has these bits; of NaNs there is one.
-fn has_bits(x: f64, bits: u64) -> bool {
-    if x == x {
-        return f64::to_bits(x) == bits;
-    }
-    is_nan(bits)
+fn has_bits(x: f64, expected: u64) -> bool {
+    bits::pattern(x) == bits::pattern(bits::double(expected))
 }
 
 fn same_float(s: &[u8], c: Cursor, x: f64) -> Cursor {
     let at = c.at;
     Cursor {
         at: forward(s, at, FLOAT),
-        same: both(c.same, has_bits(x, word(s, at))),
+        same: both(c.same, has_bits(x, stream::word(s, at))),
     }
 }
 
@@ -242,7 +190,7 @@ fn same_at(s: &[u8], at: usize, out: &[f64], from: usize, i: usize) -> bool {
     if n - from <= i {
         return false;
     }
-    has_bits(out[from + i], word(s, at))
+    has_bits(out[from + i], stream::word(s, at))
 }
 
 // The line of n points that starts at float `from` of `out`.
@@ -252,11 +200,9 @@ fn same_line(s: &[u8], c: Cursor, out: &[f64], from: usize, n: usize) -> Cursor 
     let floats = stored.value * 3;
     let mut same = both(next.same, stored.value == n);
     let mut at = next.at;
-    let mut i = 0;
-    while i < floats {
+    for i in 0..floats {
         same = both(same, same_at(s, at, out, from, i));
         at = forward(s, at, FLOAT);
-        i += 1;
     }
     Cursor { at, same }
 }
@@ -276,11 +222,11 @@ fn absent(s: &[u8], c: Cursor, there: usize, floats: usize) -> Cursor
 // The 1e-6 of `concat` (document 01).
 const JOIN: f64 = 1e-6;
 
-fn maybe_point(s: &[u8], c: Cursor, p: OptionPoint3) -> Cursor {
+fn maybe_point(s: &[u8], c: Cursor, p: Option<Point3>) -> Cursor {
     let n = number(s, c);
     let next = n.next;
     let there = n.value;
-    let OptionPoint3::Some(q) = p else {
+    let Some(q) = p else {
         return absent(s, next, there, 3);
     };
     if there == 0 {
@@ -289,17 +235,17 @@ fn maybe_point(s: &[u8], c: Cursor, p: OptionPoint3) -> Cursor {
     same_point(s, next, q)
 }
 
-fn maybe_place(s: &[u8], c: Cursor, p: Located) -> Cursor {
+fn maybe_place(s: &[u8], c: Cursor, p: Option<(usize, f64)>) -> Cursor {
     let n = number(s, c);
     let next = n.next;
     let there = n.value;
     if there == 0 {
-        let Located::At(_, _) = p else {
+        let Some(_) = p else {
             return next;
         };
         return expect(next, false);
     }
-    let Located::At(i, t) = p else {
+    let Some((i, t)) = p else {
         let segment = number(s, next);
         let behind = segment.next;
         return expect(past(s, behind, 1), false);
@@ -323,27 +269,27 @@ fn other_nearest(s: &[u8], c: Cursor) -> Cursor {
     expect(past(s, behind, 1), false)
 }
 
-fn maybe_nearest(s: &[u8], c: Cursor, p: OptionNearest) -> Cursor {
+fn maybe_nearest(s: &[u8], c: Cursor, p: Option<NearestPoint>) -> Cursor {
     let n = number(s, c);
     let next = n.next;
     let there = n.value;
     if there == 0 {
-        let OptionNearest::Some(_) = p else {
+        let Some(_) = p else {
             return next;
         };
         return expect(next, false);
     }
-    let OptionNearest::Some(q) = p else {
+    let Some(q) = p else {
         return other_nearest(s, next);
     };
     same_nearest(s, next, q)
 }
 
-fn maybe_heading(s: &[u8], c: Cursor, p: Heading) -> Cursor {
+fn maybe_heading(s: &[u8], c: Cursor, p: Option<Point2>) -> Cursor {
     let n = number(s, c);
     let next = n.next;
     let there = n.value;
-    let Heading::Unit(q) = p else {
+    let Some(q) = p else {
         return absent(s, next, there, 2);
     };
     if there == 0 {
@@ -443,7 +389,7 @@ fn centerline(s: &[u8], c: Cursor, a: &[f64], b: &[f64], out: &mut [f64]) -> Cur
     same_line(s, answer, out, 0, n)
 }
 
-// ---- the functions by number
+// ---- the functions by number, as the stored stream has them
 
 fn plane(s: &[u8], c: Cursor, i: usize) -> Point2
     requires { i < 128 }
@@ -614,10 +560,8 @@ fn turns(
     let next = n.next;
     let wanted = n.value;
     let mut at = next.at;
-    let mut i = 0;
-    while i < wanted {
+    for i in 0..wanted {
         at = turn(s, at, a, b, out, counts);
-        i += 1;
     }
     at
 }
@@ -631,10 +575,10 @@ fn lines(
     counts: &mut [u64],
 ) -> usize {
     let a = read_line(s, 0, one);
-    let b = read_line(s, a.at, other);
-    let m = a.floats;
-    let n = b.floats;
-    turns(s, b.at, &one[..m], &other[..n], out, counts)
+    let b = read_line(s, a.next, other);
+    let m = a.size;
+    let n = b.size;
+    turns(s, b.next, &one[..m], &other[..n], out, counts)
 }
 
 // A group; the place behind it. A line has at most 256 points. A made line has at most 533 here.
@@ -645,59 +589,17 @@ fn group(s: &[u8], counts: &mut [u64]) -> usize {
     lines(s, &mut one, &mut other, &mut out, counts)
 }
 
-// The bytes of the file from `at` on, as many as fit. A read that fails counts as the file's end, and a seek that fails is not told apart from one
-// that is made.
-fn read(file: &mut File, at: u32, bytes: &mut [u8]) -> usize
-    ensures { IsPrefixLen result bytes.new }
-{
-    match file.seek(SeekFrom::Start(at as u64)) {
-        Ok(_) => read_full(file, bytes),
-        Err(_) => read_full(file, bytes),
-    }
-}
-
-// Reads until `bytes` is full or the file ends, and says how many bytes that were.
-fn read_full(file: &mut File, bytes: &mut [u8]) -> usize
-    ensures { IsPrefixLen result bytes.new }
-{
-    let mut done = 0;
-    while done < bytes.len() {
-        let n = match file.read(&mut bytes[done..]) {
-            Ok(n) => n,
-            Err(_) => 0,
-        };
-        if n == 0 {
-            break;
-        }
-        done += n;
-    }
-    done
-}
-
-// The place n bytes behind `at`; no stream reaches the bounds.
-fn behind(at: u32, n: usize) -> u32 {
-    if 0x1_0000 < n {
-        return at;
-    }
-    if 0x1000_0000 < at {
-        return at;
-    }
-    at + n as u32
-}
-
 // The group at place `at` of the file; the place behind it. A group has at most as many bytes as fit.
 fn next(file: &mut File, at: u32, bytes: &mut [u8], counts: &mut [u64]) -> u32 {
-    let n = read(file, at, bytes);
-    behind(at, group(&bytes[..n], counts))
+    let n = file::window(file, at, bytes);
+    file::behind(at, group(&bytes[..n], counts))
 }
 
 // All groups; the place behind them.
 fn groups(file: &mut File, from: u32, n: usize, bytes: &mut [u8], counts: &mut [u64]) -> u32 {
     let mut at = from;
-    let mut i = 0;
-    while i < n {
+    for i in 0..n {
         at = next(file, at, bytes, counts);
-        i += 1;
     }
     at
 }
@@ -707,15 +609,13 @@ fn print_function(rt: &impl Print, f: usize, agreed: u64, differ: u64) -> io::Re
 }
 
 fn each(rt: &impl Print, counts: &[u64]) -> io::Result<()> {
-    let mut f = 1;
-    while f <= FUNCTIONS {
+    for f in 1..=FUNCTIONS {
         print_function(
             rt,
             f,
             counted(counts, f * 2 + 2),
             counted(counts, f * 2 + 3),
         )?;
-        f += 1;
     }
     Ok(())
 }
@@ -748,7 +648,7 @@ fn head(s: &[u8]) -> Opening {
 }
 
 fn first(file: &mut File, bytes: &mut [u8]) -> Opening {
-    let n = read(file, 0, bytes);
+    let n = file::window(file, 0, bytes);
     head(&bytes[..n])
 }
 
@@ -759,12 +659,12 @@ fn replay(
     counts: &mut [u64],
 ) -> io::Result<()> {
     let begin = first(file, bytes);
-    let end = groups(file, behind(0, begin.at), begin.groups, bytes, counts);
+    let end = groups(file, file::behind(0, begin.at), begin.groups, bytes, counts);
     report(rt, counts)?;
     if begin.form != FORM {
         println!(rt; "not a stream of lines")?;
     }
-    if read(file, end, bytes) != 0 {
+    if file::window(file, end, bytes) != 0 {
         println!(rt; "the stream does not end behind its last call")?;
     }
     Ok(())

@@ -19,12 +19,9 @@ fn take_column(t: &[u64], row: usize, k: usize, marks: &mut [bool]) -> bool
     ensures { (result ≡ G.apart_by marks.old (rows row (span_at k) t.now)) × (result ≡ true → marks.new ≡ G.marked_all marks.old (rows row (span_at k) t.now)) }
 {
     let n = t[0] as usize;
-    let mut i = 0;
-    while i < n {
+    for i in 0..n {
         let at = 1 + i * row + k;
-        if apart::take_line(marks, t[at], t[at + 1]) {
-            i += 1;
-        } else {
+        if !apart::take_line(marks, t[at], t[at + 1]) {
             return false;
         }
     }
@@ -48,13 +45,10 @@ fn take_centers(t: &[u64], marks: &mut [bool]) -> bool
     ensures { (result ≡ G.apart_by marks.old (each (λ s. s) (rows 52 center_span t.now))) × (result ≡ true → marks.new ≡ G.marked_all marks.old (each (λ s. s) (rows 52 center_span t.now))) }
 {
     let n = t[0] as usize;
-    let mut i = 0;
-    while i < n {
+    for i in 0..n {
         let at = 1 + i * LANE;
         let end = at + LANE;
-        if take_center(&t[at..end], marks) {
-            i += 1;
-        } else {
+        if !take_center(&t[at..end], marks) {
             return false;
         }
     }

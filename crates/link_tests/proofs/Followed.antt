@@ -1,4 +1,5 @@
 -- Links that are met in one pass, lanes ascending, are those that are returned both ways. Assumes nothing.
+use Rattle.std.specs.Prelude.{Option, None, Some}
 use mathlib.Core.Path.{◌≡◌, refl, sym, ap, ◌∙◌}
 use Prim.Native.Nat.{ℕ, zero, suc, ◌+◌, ◌*◌, ◌≤◌, ◌<◌}
 use native.Mathlib.Numerals.{add-one}
@@ -10,8 +11,6 @@ use lib.Seq.{drop-drop, get_or-drop, take-suc, take_all, take-length, length-tak
 use Rattle.lists.specs.Every.{all}
 use Rattle.lists.specs.Rows.{row_with}
 use Rattle.lists.specs.Select.{keep, each, has, ascending}
-use Rattle.lists.specs.declared.Found.{Found}
-use Rattle.lists.specs.declared.Found.TheVariants.{At, Nothing}
 use Rattle.lists.proofs.Booleans.{and-fst, and-snd, and_both, same_test}
 use Rattle.lists.proofs.Every.{all_get_d, all-places}
 use Rattle.lists.proofs.Rows.{length-reads, get_d_reads, length-keys, key-at, row-at, found-key, found-has, there}
@@ -56,7 +55,7 @@ module _ (t : List ℕ) (h : searchable t ≡ true) where
   pub key_row : (i : ℕ) → i < word 0 t → get_or (lane_ids t) i 0 ≡ word 0 (lane_at t i)
   key_row i l = key-at 52 (word 0 t) i (drop 1 t) (omega arith) l ∙ (get_or-drop 1 t (i * 52) 0 ∙ id-at t i)
 
-  own_row : (i : ℕ) → i < word 0 t → row_with (word 0 (lane_at t i)) (lane_ids t) ≡ At i
+  own_row : (i : ℕ) → i < word 0 t → row_with (word 0 (lane_at t i)) (lane_ids t) ≡ Some i
   own_row i l = row-at (word 0 (lane_at t i)) i (lane_ids t) (lanes-ascend t h) (rw many-ids l) (key_row i l)
 
   test-own : (q : List ℕ → Bool) (i : ℕ) → i < word 0 t → row_test q t (word 0 (lane_at t i)) ≡ q (lane_at t i)
@@ -67,9 +66,9 @@ module _ (t : List ℕ) (h : searchable t ≡ true) where
   unfolding row_test
   tested q x e = go (row_with x (lane_ids t)) refl e
     where
-      go : (r : Found) → row_with x (lane_ids t) ≡ r → on_row q t r ≡ true → Tested t q x
-      go Nothing f e = absurd (true≢false (sym e))
-      go (At j) f e =
+      go : (r : Option ℕ) → row_with x (lane_ids t) ≡ r → on_row q t r ≡ true → Tested t q x
+      go None f e = absurd (true≢false (sym e))
+      go (Some j) f e =
           let l = lane-found t h x j f in
           record { at = j; low = l; own = sym (key_row j l) ∙ found-key x (lane_ids t) j f; holds = e }
 
@@ -77,17 +76,17 @@ module _ (t : List ℕ) (h : searchable t ≡ true) where
   unfolding row_test
   test-weaken p q f x e = go (row_with x (lane_ids t)) e
     where
-      go : (r : Found) → on_row p t r ≡ true → on_row q t r ≡ true
-      go Nothing e = e
-      go (At j) e = f (lane_at t j) e
+      go : (r : Option ℕ) → on_row p t r ≡ true → on_row q t r ≡ true
+      go None e = e
+      go (Some j) e = f (lane_at t j) e
 
   test_has : (q : List ℕ → Bool) (x : ℕ) → row_test q t x ≡ true → has x (lane_ids t) ≡ true
   unfolding row_test
   test_has q x e = found-has x (lane_ids t) ∙ go (row_with x (lane_ids t)) e
     where
-      go : (r : Found) → on_row q t r ≡ true → there r ≡ true
-      go Nothing e = e
-      go (At j) e = refl
+      go : (r : Option ℕ) → on_row q t r ≡ true → there r ≡ true
+      go None e = e
+      go (Some j) e = refl
 
   -- a list of links is as long as its count says
   whole_row : (i : ℕ) → i < word 0 t → length (lane_at t i) ≡ 52

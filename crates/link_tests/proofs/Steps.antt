@@ -1,4 +1,5 @@
 -- The pass over the links, step by step: what a search finds, one link, one lane, the end. Assumes nothing.
+use Rattle.std.specs.Prelude.{Option, None, Some}
 use mathlib.Core.Path.{◌≡◌, refl, sym, ap, ◌∙◌}
 use Prim.Native.Nat.{ℕ, suc, ◌+◌, ◌-◌, ◌*◌, ◌≤◌, ◌<◌}
 use native.Mathlib.Numerals.{add-one}
@@ -13,8 +14,6 @@ use borrow.Author.Tests.{eq-eqb, eqb-true, lt-ltb, le-ltb}
 use Rattle.lists.specs.Every.{all}
 use Rattle.lists.specs.Rows.{keys, row_with}
 use Rattle.lists.specs.Select.{each, same_numbers}
-use Rattle.lists.specs.declared.Found.{Found}
-use Rattle.lists.specs.declared.Found.TheVariants.{At, Nothing}
 use Rattle.lists.proofs.Booleans.{and-fst, and-snd, same_test}
 use Rattle.lists.proofs.Rows.{length-keys, length-reads, get_d_reads, found-key, found_within}
 use Rattle.tables.specs.View.{word, ids_at, rows}
@@ -84,7 +83,7 @@ module _ (t ids : List ℕ) (x : Indexed t ids) where
         spare = rw (length-keys 52 (word 0 t) (drop 1 t)) at x.listed.behind;
       }
 
-  pub id-found : (b : ℕ) (r : Found) → r ≡ row_with b (take (word 0 t) ids) → row_with b (lane_ids t) ≡ r
+  pub id-found : (b : ℕ) (r : Option ℕ) → r ≡ row_with b (take (word 0 t) ids) → row_with b (lane_ids t) ≡ r
   id-found b r e = sym (rw ids-front at e)
 
 -- the ids as they were just written
@@ -105,11 +104,11 @@ module _ (t : List ℕ) (h : searchable t ≡ true) (g : links_ascend t ≡ true
     within : k < length (ids_at 35 (lane_at t i))
     within = rw (length-after t h i l) q
 
-    pub link-absent : row_with lane (lane_ids t) ≡ Nothing → false ≡ link_met t i lane
+    pub link-absent : row_with lane (lane_ids t) ≡ None → false ≡ link_met t i lane
     unfolding link_met row_test
     link-absent e = rw e
 
-    module _ (j : ℕ) (e : row_with lane (lane_ids t) ≡ At j) where
+    module _ (j : ℕ) (e : row_with lane (lane_ids t) ≡ Some j) where
       found-low : j < word 0 t
       found-low = omega (arith, found_within lane (lane_ids t) j e, length-keys 52 (word 0 t) (drop 1 t))
 

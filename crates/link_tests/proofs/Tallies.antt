@@ -1,4 +1,5 @@
 -- Laws of tallies: how often a list has a number. Assumes nothing.
+use Rattle.std.specs.Prelude.{Some}
 use mathlib.Core.Path.{◌≡◌, refl, sym, ap, ◌∙◌}
 use Prim.Native.Nat.{ℕ, zero, suc, ◌+◌, ◌<◌}
 use native.Mathlib.Nat.{le_of_suc-le-suc, not-suc-le-zero}
@@ -11,7 +12,6 @@ use lib.Seq.{ext_get_or, get_or-set_same, get_or-set_other, length-take-le, get_
 use borrow.Author.Tests.{eq-eqb, ne_eqb, eqb-true, eqb-false, ltb-true, lt-ltb}
 use Rattle.lists.specs.Rows.{row_with}
 use Rattle.lists.specs.Select.{keep, has, ascending}
-use Rattle.lists.specs.declared.Found.TheVariants.{At}
 use Rattle.lists.proofs.Booleans.{and-fst, and-snd, and_both}
 use Rattle.lists.proofs.Select.{keep_append, above-all, ascending-tail, ascending-places, all-has}
 use Rattle.lists.proofs.Rows.{found-key, row-at}
@@ -85,7 +85,7 @@ tally-none ks zs e h =
     none b = unfold keep in refl
 
 -- one number more
-pub tally-more : (ks l : List ℕ) (x j : ℕ) → ascending ks ≡ true → row_with x ks ≡ At j
+pub tally-more : (ks l : List ℕ) (x j : ℕ) → ascending ks ≡ true → row_with x ks ≡ Some j
     → set (tally ks l) j (get_or (tally ks l) j 0 + 1) ≡ tally ks (l ++ (x ∷ []))
 tally-more ks l x j a e =
     ext_get_or 0 (set (tally ks l) j v) (tally ks (l ++ (x ∷ []))) (length-set (tally ks l) j v ∙ length-tally ks l ∙ sym (length-tally ks (l ++ (x ∷ []))))
@@ -113,7 +113,7 @@ tally-more ks l x j a e =
       where
         other : (k : ℕ) → k < length ks → get_or ks k 0 ≡ x → (k ≡ j → ⊥) → ⊥
         other k h u n =
-            let f : At k ≡ At j = sym (row-at x k ks a h u) ∙ e in
+            let f : Some k ≡ Some j = sym (row-at x k ks a h u) ∙ e in
             let z : k ≡ j = cc in
             n z
 

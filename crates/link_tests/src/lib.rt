@@ -11,7 +11,7 @@ ghost use Rattle.tables.specs.View.{word, ids_at, rows};
 ghost use Rattle.row_tests.specs.Returned as R;
 ghost use Rattle.link_tests.specs.Met as M;
 
-use lists::{Found, both};
+use lists::both;
 use row_ids::{NO_ID, ROOM};
 use tables::{LANE, LEFT_SLOT, PREDECESSORS, RIGHT_SLOT, SUCCESSORS};
 
@@ -23,7 +23,7 @@ fn link_met(t: &[u64], ids: &[u64], met: &mut [u8], i: usize, k: usize) -> bool
     let at = 1 + i * LANE;
     let n = t[0] as usize;
     let found = row_ids::find_id(ids, n, t[at + SUCCESSORS + 1 + k], i);
-    let Found::At(j) = found else {
+    let Some(j) = found else {
         return false;
     };
     let before = 1 + j * LANE + PREDECESSORS;
@@ -41,11 +41,8 @@ fn lane_met(t: &[u64], ids: &[u64], met: &mut [u8], i: usize) -> bool
     ensures { (result ≡ M.lane_met t.now i) × (result ≡ true → met.new ≡ M.cursors t.now (i + 1) 0) }
 {
     let count = t[1 + i * LANE + SUCCESSORS] as usize;
-    let mut k = 0;
-    while k < count {
-        if link_met(t, ids, met, i, k) {
-            k += 1;
-        } else {
+    for k in 0..count {
+        if !link_met(t, ids, met, i, k) {
             return false;
         }
     }
@@ -57,11 +54,8 @@ fn ends_met(t: &[u64], met: &[u8]) -> bool
     requires { (R.searchable t.now ≡ true) × (length met.now ≡ word 0 t.now) }
     ensures { result ≡ same_numbers met.now (rows 52 (word 18) t.now) }
 {
-    let mut j = 0;
-    while j < met.len() {
-        if met[j] as u64 == t[1 + j * LANE + PREDECESSORS] {
-            j += 1;
-        } else {
+    for j in 0..met.len() {
+        if met[j] as u64 != t[1 + j * LANE + PREDECESSORS] {
             return false;
         }
     }
@@ -74,11 +68,8 @@ fn all_met(t: &[u64], ids: &[u64], met: &mut [u8]) -> bool
     ensures { result ≡ all (λ b. b) (rows 52 (R.lane_returned t.now) t.now) }
 {
     let n = t[0] as usize;
-    let mut i = 0;
-    while i < n {
-        if lane_met(t, ids, met, i) {
-            i += 1;
-        } else {
+    for i in 0..n {
+        if !lane_met(t, ids, met, i) {
             return false;
         }
     }
@@ -121,7 +112,7 @@ fn slot_returned(t: &[u64], ids: &[u64], k: usize, i: usize) -> bool
     }
     let n = t[0] as usize;
     let found = row_ids::find_id(ids, n, t[at + k + 1], i);
-    let Found::At(j) = found else {
+    let Some(j) = found else {
         return false;
     };
     let answer = 1 + j * LANE + answer_place(k, mark);
@@ -134,14 +125,11 @@ fn neighbors_returned(t: &[u64], ids: &[u64]) -> bool
     ensures { result ≡ all (λ b. b) (rows 52 (R.slots_returned t.now) t.now) }
 {
     let n = t[0] as usize;
-    let mut i = 0;
-    while i < n {
-        if both(
+    for i in 0..n {
+        if !both(
             slot_returned(t, ids, LEFT_SLOT, i),
             slot_returned(t, ids, RIGHT_SLOT, i),
         ) {
-            i += 1;
-        } else {
             return false;
         }
     }

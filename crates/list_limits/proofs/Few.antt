@@ -1,4 +1,5 @@
 -- What is to be shown of every edit of a map, and what all lists of changed rows have. Assumes nothing.
+use Rattle.std.specs.Prelude.{Ok}
 use mathlib.Core.Path.{◌≡◌, subst}
 use Prim.Native.Nat.{ℕ, ◌+◌, ◌≤◌}
 use mathlib.Core.Bool.{Bool, true}
@@ -11,7 +12,7 @@ use Rattle.entities.specs.declared.EntityRef.{EntityRef}
 use Rattle.entities.specs.Records.{Lane, Road, Junction, Rule, Map}
 use Rattle.rules.specs.Limits.{max_lanes, max_boundaries, max_roads, max_junctions, max_rules}
 use Rattle.rules.specs.Sound.{sound}
-use Rattle.rules.specs.Edit.{yield, Edited, lanes_where, roads_where, junctions_where, rules_where}
+use Rattle.rules.specs.Edit.{Edited, lanes_where, roads_where, junctions_where, rules_where, Res}
 use Rattle.rules.specs.Ops.{fits_lists}
 use Rattle.rules.proofs.Facts.{sound-facts}
 use Rattle.laws.proofs.Lawful.{yields}
@@ -65,7 +66,7 @@ pub record Few (e : Edited) : Type 0 where
   pub deleted : length e.changes.deleted ≤ enough.deleted
   pub warnings : length e.changes.warnings ≤ enough.warnings
 
-pub few-of : {x e : Edited} → yield x ≡ yield e → Few x → Few e
+pub few-of : {x e : Edited} → ◌≡◌ {A = Res Edited} (Ok x) (Ok e) → Few x → Few e
 few-of h f = subst Few (yields h) f
 
 pub few-fits : (e : Edited) → length e.changes.created ≡ e.ids → Few e → fits_lists enough e.changes ≡ true

@@ -1,10 +1,10 @@
 -- remove_lane and merge_lanes: at most a lane and two boundaries for each lane named are deleted. Assumes nothing.
+use Rattle.std.specs.Prelude.{Option, None, Some, Ok}
 use mathlib.Core.Path.{◌≡◌}
 use Prim.Native.Nat.{ℕ, ◌+◌, ◌*◌, ◌≤◌}
 use native.Mathlib.Omega.{arith}
 use mathlib.Core.Bool.{Bool, not, ◌||◌}
 use mathlib.Core.List.{List, [], ◌∷◌, ◌++◌, map}
-use mathlib.Core.Option.{Option, none, some}
 use lib.Dec.{eqb}
 use lib.ListN.{length, length-map}
 use Rattle.lists.specs.Select.{keep, same_numbers}
@@ -20,7 +20,7 @@ use Rattle.entities.specs.Records.{Lane, Boundary, Map}
 use Rattle.rules.specs.Map.{names}
 use Rattle.rules.specs.Limits.{max_lanes, max_boundaries}
 use Rattle.rules.specs.Sound.{next_id}
-use Rattle.rules.specs.Edit.{yield, check, Edited, require_lane, refs, boundaries_where, warning, when}
+use Rattle.rules.specs.Edit.{check, Edited, require_lane, refs, boundaries_where, warning, when}
 use Rattle.rules.specs.Lane.{unused, orphan, orphaned, remove_lane}
 use Rattle.rules.specs.Merge.{SidePlan, kept, in_place, fresh, side_plan, plan_ids, plan_joins, plan_warning, conflict, dropped, merged, merge_lanes}
 use Rattle.rules.specs.Ops.{RemoveLane, MergeLanes, State, edit}
@@ -53,8 +53,8 @@ plan-few (in_place c) next = omega arith
 plan-few (fresh c) next = omega arith
 
 dropped-few : (a : ℕ) (o first : Option Neighbor) → length (dropped a o first) ≤ 1
-dropped-few a none first = omega arith
-dropped-few a (some n) first = when-few (not (names first n.lane)) (warning C.NeighborDropped (lane_entity a) (lane_entity n.lane ∷ []))
+dropped-few a None first = omega arith
+dropped-few a (Some n) first = when-few (not (names first n.lane)) (warning C.NeighborDropped (lane_entity a) (lane_entity n.lane ∷ []))
 
 merged-few : (tol : Tolerance) (next : ℕ) (m : Map) → Sized m → (a b : Lane) (pl pr : SidePlan) → Few (merged tol next m a b pl pr)
 unfolding merged
@@ -81,7 +81,7 @@ merged-few tol next m s a b pl pr =
 -- ---- both edits
 
 module _ (tol : Tolerance) (s : State) (m : Sized s.map) (e : Edited) where
-  pub remove-few : (a : ℕ) → edit tol (RemoveLane a) s ≡ yield e → Few e
+  pub remove-few : (a : ℕ) → edit tol (RemoveLane a) s ≡ Ok e → Few e
   unfolding edit remove_lane
   remove-few a h =
       let (gone, e1, h1) = bound (require_lane s.map a) _ e h in
@@ -99,7 +99,7 @@ module _ (tol : Tolerance) (s : State) (m : Sized s.map) (e : Edited) where
         warnings = omega arith;
       })
 
-  pub merge-few : (a b : ℕ) → edit tol (MergeLanes a b) s ≡ yield e → Few e
+  pub merge-few : (a b : ℕ) → edit tol (MergeLanes a b) s ≡ Ok e → Few e
   unfolding edit merge_lanes
   merge-few a b h =
       let (la, e1, h1) = bound (require_lane s.map a) _ e h in

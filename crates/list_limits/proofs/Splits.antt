@@ -1,10 +1,10 @@
 -- split_lane: the finished map has a lane more for each lane that is cut, so at most half of its lanes are cut. Assumes nothing.
+use Rattle.std.specs.Prelude.{Option, None, Some, Ok}
 use mathlib.Core.Path.{◌≡◌, refl, sym, ap, ◌∙◌, subst}
 use Prim.Native.Nat.{ℕ, suc, ◌+◌, ◌*◌, ◌≤◌}
 use native.Mathlib.Omega.{arith}
 use mathlib.Core.Bool.{Bool, true, false, not, cond}
 use mathlib.Core.List.{List, [], ◌∷◌, ◌++◌, map}
-use mathlib.Core.Option.{Option, none, some}
 use lib.ListN.{length, length-append, length-map}
 use borrow.Author.Tests.{leb-true}
 use Rattle.lists.specs.Select.{each, has, second_of}
@@ -22,7 +22,7 @@ use Rattle.entities.specs.Records.{Lane, Boundary, Map, Issue}
 use Rattle.rules.specs.Limits.{max_lanes, max_boundaries}
 use Rattle.rules.specs.Map.{centerline, flat_point}
 use Rattle.rules.specs.Sound.{within_limits, next_id}
-use Rattle.rules.specs.Edit.{yield, check, require, Edited, require_lane, boundaries_where, warning}
+use Rattle.rules.specs.Edit.{check, require, Edited, require_lane, boundaries_where, warning}
 use Rattle.rules.specs.Split.{LanePlan, Piece, piece_ids, piece_of, pieces, pieces_ids, halves, second_halves, cut_lane, unshared_piece, dropped_beside, dropped_all, cut_station, cuttable, lane_plans, all_cross, cut, group_of, split_lane}
 use Rattle.rules.specs.Ops.{SplitLane, State, edit}
 use Rattle.laws.proofs.Lawful.{yields}
@@ -58,12 +58,12 @@ seconds-many xs hs next (x ∷ ps) = ap suc (seconds-many xs hs (suc next) ps)
 -- ---- warnings: one for each piece, and one for each slot of a lane
 
 beside-few : (hs : List (ℕ × ℕ)) (j : ℕ) (o : Option Neighbor) → length (dropped_beside hs j o) ≤ 1
-beside-few hs j none = omega arith
-beside-few hs j (some n) = go (second_of hs n.lane)
+beside-few hs j None = omega arith
+beside-few hs j (Some n) = go (second_of hs n.lane)
   where
-    go : (o : Option ℕ) → length {A = Issue} (elim o [ none ↦ warning C.NeighborDropped (lane_entity j) (lane_entity n.lane ∷ []) ∷ [] | some k ↦ [] ]) ≤ 1
-    go none = omega arith
-    go (some k) = omega arith
+    go : (o : Option ℕ) → length {A = Issue} (elim o [ None ↦ warning C.NeighborDropped (lane_entity j) (lane_entity n.lane ∷ []) ∷ [] | Some k ↦ [] ]) ≤ 1
+    go None = omega arith
+    go (Some k) = omega arith
 
 dropped-few : (hs : List (ℕ × ℕ)) (next : ℕ) (ps : List LanePlan) → length (dropped_all hs next ps) ≤ length ps * 2
 unfolding dropped_all
@@ -124,7 +124,7 @@ module _ (tol : Tolerance) (start : ℕ) (m : Map) (s : Sized m) (i : ℕ) (grou
       subst Few q (yielded_few (ap (λ x. within_limits x.result) q ∙ within))
 
 module _ (tol : Tolerance) (s : State) (m : Sized s.map) (e : Edited) where
-  pub split-few : (i : ℕ) (at : SplitAt) (neighbors : Bool) → edit tol (SplitLane i at neighbors) s ≡ yield e → within_limits e.result ≡ true → Few e
+  pub split-few : (i : ℕ) (at : SplitAt) (neighbors : Bool) → edit tol (SplitLane i at neighbors) s ≡ Ok e → within_limits e.result ≡ true → Few e
   unfolding edit split_lane
   split-few i at neighbors h within =
       let group = group_of s.map i neighbors in

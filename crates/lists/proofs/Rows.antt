@@ -1,4 +1,5 @@
 -- Laws of rows in lent memory, over any elements. Assumes nothing.
+use Rattle.std.specs.Prelude.{Option, None, Some}
 use mathlib.Core.Path.{◌≡◌, refl, sym, ap, ◌∙◌}
 use Prim.Native.Nat.{ℕ, zero, suc, ◌+◌, ◌-◌, ◌*◌, ◌/◌, ◌≤◌, ◌<◌}
 use native.Mathlib.Nat.{le_of_suc-le-suc, not-suc-le-zero, zero-mul, add-zero, mul-le-mul_right, eq-or-lt_of_le}
@@ -12,8 +13,6 @@ use lib.Seq.{drop-drop, take-take, take-nil, take-add, length-take-le, take_at, 
 use lib.Seq.{get_or-take, get_or-drop, take-suc, drop-cons, append_snoc, set_at, set-get_or}
 use lib.Dec.{eqb, ltb}
 use borrow.Author.Tests.{eqb-true, eqb-false, eq-eqb, ne_eqb, ltb-true, ltb-false}
-use Rattle.lists.specs.declared.Found.{Found}
-use Rattle.lists.specs.declared.Found.TheVariants.{At, Nothing}
 use Rattle.lists.specs.Select.{has, ascending}
 use Rattle.lists.specs.Rows.{reads, over, keys, later, row_with, Among}
 use Rattle.lists.proofs.Select.{ascending-places, ascending-from}
@@ -255,28 +254,28 @@ keys-one [] = refl
 keys-one (x ∷ w) = ap (λ (ks : List ℕ). x ∷ ks) (keys-one w)
 
 -- a number that is no key has no row
-pub row-none : (x : ℕ) (ks : List ℕ) → ((k : ℕ) → k < length ks → get_or ks k 0 ≡ x → ⊥) → row_with x ks ≡ Nothing
+pub row-none : (x : ℕ) (ks : List ℕ) → ((k : ℕ) → k < length ks → get_or ks k 0 ≡ x → ⊥) → row_with x ks ≡ None
 unfolding row_with
 row-none x [] h = refl
 row-none x (y ∷ ks) h =
-    let r : row_with x ks ≡ Nothing = row-none x ks (λ k l. let g : suc k < suc (length ks) = omega arith in h (suc k) g) in
+    let r : row_with x ks ≡ None = row-none x ks (λ k l. let g : suc k < suc (length ks) = omega arith in h (suc k) g) in
     rw (ne_eqb y x (h 0 (omega arith)), r)
 
 -- the first row with a key
-pub row_first : (x i : ℕ) (ks : List ℕ) → i < length ks → get_or ks i 0 ≡ x → ((k : ℕ) → k < i → get_or ks k 0 ≡ x → ⊥) → row_with x ks ≡ At i
+pub row_first : (x i : ℕ) (ks : List ℕ) → i < length ks → get_or ks i 0 ≡ x → ((k : ℕ) → k < i → get_or ks k 0 ≡ x → ⊥) → row_with x ks ≡ Some i
 unfolding row_with
 row_first x i [] l e h = absurd (not-suc-le-zero l)
 row_first x zero (y ∷ ks) l e h = rw (eq-eqb y x e)
 row_first x (suc i) (y ∷ ks) l e h =
-    let r : row_with x ks ≡ At i = row_first x i ks (le_of_suc-le-suc l) e (λ k g. let g : suc k < suc i = omega arith in h (suc k) g) in
+    let r : row_with x ks ≡ Some i = row_first x i ks (le_of_suc-le-suc l) e (λ k g. let g : suc k < suc i = omega arith in h (suc k) g) in
     rw (ne_eqb y x (h 0 (omega arith)), r)
 
 -- where keys ascend a key has one row
-pub row-at : (x i : ℕ) (ks : List ℕ) → ascending ks ≡ true → i < length ks → get_or ks i 0 ≡ x → row_with x ks ≡ At i
+pub row-at : (x i : ℕ) (ks : List ℕ) → ascending ks ≡ true → i < length ks → get_or ks i 0 ≡ x → row_with x ks ≡ Some i
 row-at x i ks a l e = row_first x i ks l e (λ k g q. let p = ascending-places ks k i a g l in omega arith)
 
 -- a number between the keys before a place and those from it on has no row
-pub row-between : (x m : ℕ) (ks : List ℕ) → ((k : ℕ) → k < m → get_or ks k 0 < x) → ((k : ℕ) → m ≤ k → k < length ks → x < get_or ks k 0) → row_with x ks ≡ Nothing
+pub row-between : (x m : ℕ) (ks : List ℕ) → ((k : ℕ) → k < m → get_or ks k 0 < x) → ((k : ℕ) → m ≤ k → k < length ks → x < get_or ks k 0) → row_with x ks ≡ None
 row-between x m ks below above = row-none x ks (λ k l e. side k l e (ltb k m) refl)
   where
     side : (k : ℕ) → k < length ks → get_or ks k 0 ≡ x → (b : Bool) → ltb k m ≡ b → ⊥
@@ -284,42 +283,42 @@ row-between x m ks below above = row-none x ks (λ k l e. side k l e (ltb k m) r
     side k l e false t = omega (arith, above k (ltb-false k m t) l)
 
 -- a row that is found is one of the rows and has the key; where none is found no row has it
-pub found_within : (x : ℕ) (ks : List ℕ) (j : ℕ) → row_with x ks ≡ At j → j < length ks
+pub found_within : (x : ℕ) (ks : List ℕ) (j : ℕ) → row_with x ks ≡ Some j → j < length ks
 unfolding row_with
 found_within x [] j e = let z : ◌≡◌ {A = ℕ} 0 1 = cc in omega arith
 found_within x (k ∷ ks) j e = go (eqb k x) (row_with x ks) (λ i q. found_within x ks i q) e
   where
-    go : (b : Bool) (r : Found) → ((i : ℕ) → r ≡ At i → i < length ks) → cond b (At 0) (later r) ≡ At j → j < suc (length ks)
+    go : (b : Bool) (r : Option ℕ) → ((i : ℕ) → r ≡ Some i → i < length ks) → cond b (Some 0) (later r) ≡ Some j → j < suc (length ks)
     go true r q f = let z : j ≡ 0 = cc in omega arith
-    go false (At i) q f = let z : j ≡ suc i = cc in omega (arith, q i refl)
-    go false Nothing q f = let z : ◌≡◌ {A = ℕ} 0 1 = cc in omega arith
+    go false (Some i) q f = let z : j ≡ suc i = cc in omega (arith, q i refl)
+    go false None q f = let z : ◌≡◌ {A = ℕ} 0 1 = cc in omega arith
 
-pub found-key : (x : ℕ) (ks : List ℕ) (j : ℕ) → row_with x ks ≡ At j → get_or ks j 0 ≡ x
+pub found-key : (x : ℕ) (ks : List ℕ) (j : ℕ) → row_with x ks ≡ Some j → get_or ks j 0 ≡ x
 unfolding row_with
 found-key x [] j e = let z : ◌≡◌ {A = ℕ} 0 1 = cc in absurd (omega arith)
 found-key x (k ∷ ks) j e = go (eqb k x) refl (row_with x ks) (λ i q. found-key x ks i q) e
   where
-    go : (b : Bool) → eqb k x ≡ b → (r : Found) → ((i : ℕ) → r ≡ At i → get_or ks i 0 ≡ x) → cond b (At 0) (later r) ≡ At j → get_or (k ∷ ks) j 0 ≡ x
+    go : (b : Bool) → eqb k x ≡ b → (r : Option ℕ) → ((i : ℕ) → r ≡ Some i → get_or ks i 0 ≡ x) → cond b (Some 0) (later r) ≡ Some j → get_or (k ∷ ks) j 0 ≡ x
     go true p r q f = let z : j ≡ 0 = cc in rw z (eqb-true k x p)
-    go false p (At i) q f = let z : j ≡ suc i = cc in rw z (q i refl)
-    go false p Nothing q f = let z : ◌≡◌ {A = ℕ} 0 1 = cc in absurd (omega arith)
+    go false p (Some i) q f = let z : j ≡ suc i = cc in rw z (q i refl)
+    go false p None q f = let z : ◌≡◌ {A = ℕ} 0 1 = cc in absurd (omega arith)
 
-abbrev pub there : Found → Bool
-there (At j) = true
-there Nothing = false
+abbrev pub there : Option ℕ → Bool
+there (Some j) = true
+there None = false
 
 pub found-has : (x : ℕ) (ks : List ℕ) → has x ks ≡ there (row_with x ks)
 unfolding has row_with
 found-has x [] = refl
 found-has x (k ∷ ks) = go (eqb k x) refl (row_with x ks) (found-has x ks)
   where
-    go : (b : Bool) → eqb k x ≡ b → (r : Found) → has x ks ≡ there r → (eqb x k || has x ks) ≡ there (cond b (At 0) (later r))
+    go : (b : Bool) → eqb k x ≡ b → (r : Option ℕ) → has x ks ≡ there r → (eqb x k || has x ks) ≡ there (cond b (Some 0) (later r))
     go true e r h = rw (eq-eqb x k (sym (eqb-true k x e)))
-    go false e (At j) h = rw (ne_eqb x k (λ q. eqb-false k x e (sym q)), h)
-    go false e Nothing h = rw (ne_eqb x k (λ q. eqb-false k x e (sym q)), h)
+    go false e (Some j) h = rw (ne_eqb x k (λ q. eqb-false k x e (sym q)), h)
+    go false e None h = rw (ne_eqb x k (λ q. eqb-false k x e (sym q)), h)
 
 -- the same of a search among rows of one word
-module _ (x : ℕ) (ks : List ℕ) (r : Found) (e : r ≡ row_with x (keys 1 (length ks) ks)) where
+module _ (x : ℕ) (ks : List ℕ) (r : Option ℕ) (e : r ≡ row_with x (keys 1 (length ks) ks)) where
   pub one_found : row_with x ks ≡ r
   one_found = sym (e ∙ ap (row_with x) (keys-one ks))
 
@@ -340,10 +339,10 @@ module _ (ks : List ℕ) (up : ascending ks ≡ true) (x low left half : ℕ) (a
       (omega arith, (omega (arith, a.1.0), (a.1.1.0, λ k l m. ascending-from x ks (low + half) up e k (omega arith) m)))
 
 -- one row is left
-pub last_row : (ks : List ℕ) (up : ascending ks ≡ true) (x low left : ℕ) → Among ks x low left → left ≤ 1 → get_or ks low 0 ≡ x → row_with x ks ≡ At low
+pub last_row : (ks : List ℕ) (up : ascending ks ≡ true) (x low left : ℕ) → Among ks x low left → left ≤ 1 → get_or ks low 0 ≡ x → row_with x ks ≡ Some low
 last_row ks up x low left a l e = row-at x low ks up (omega (arith, a.0, a.1.0)) e
 
-pub no_row : (ks : List ℕ) (x low left : ℕ) → Among ks x low left → left ≤ 1 → (get_or ks low 0 ≡ x → ⊥) → row_with x ks ≡ Nothing
+pub no_row : (ks : List ℕ) (x low left : ℕ) → Among ks x low left → left ≤ 1 → (get_or ks low 0 ≡ x → ⊥) → row_with x ks ≡ None
 no_row ks x low left a l ne = row-none x ks (λ k m e. side k m e (ltb k low) refl (ltb low k) refl)
   where
     side : (k : ℕ) → k < length ks → get_or ks k 0 ≡ x → (p : Bool) → ltb k low ≡ p → (q : Bool) → ltb low k ≡ q → ⊥

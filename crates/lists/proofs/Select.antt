@@ -1,4 +1,5 @@
 -- Laws of the tests and choices of specs/Select.antt, for any element type.
+use Rattle.std.specs.Prelude.{Option, None, Some}
 use mathlib.Core.Path.{◌≡◌, refl, sym, ap, ◌∙◌}
 use Prim.Native.Nat.{ℕ, zero, suc, ◌+◌, ◌-◌, ◌<◌, ◌≤◌}
 use native.Mathlib.Nat.{le_of_suc-le-suc, not-suc-le-zero, eq-or-lt_of_le}
@@ -6,7 +7,6 @@ use mathlib.Core.Logic.{⊎_elim}
 use native.Mathlib.Numerals.{add-one}
 use mathlib.Core.Bool.{Bool, true, false, not, ◌&&◌, ◌||◌, cond, true≢false}
 use mathlib.Core.List.{List, [], ◌∷◌, ◌++◌, map, append-nil, append_assoc}
-use mathlib.Core.Option.{Option, none, some}
 use lib.Dec.{eqb, ltb}
 use lib.ListN.{length, get_or, take, drop, drop_of_length-le, length-append}
 use lib.Seq.{drop-cons, take-suc}
@@ -267,8 +267,8 @@ all-numbers p xs h = all_of p xs (λ x m. h x (has-any x xs ∙ m (eqb x) (eq-eq
 -- ---- a table whose keys ascend: at most one row has a key
 
 abbrev pub on_found : {A : Type 0} → (A → Bool) → Option A → Bool
-on_found q none = false
-on_found q (some x) = q x
+on_found q None = false
+on_found q (Some x) = q x
 
 module _ {A : Type 0} (key : A → ℕ) where
   no-later : (i : ℕ) (q : A → Bool) (xs : List A) → all (ltb i) (map key xs) ≡ true → any (λ x. eqb (key x) i && q x) xs ≡ false
@@ -287,7 +287,7 @@ module _ {A : Type 0} (key : A → ℕ) where
   any-one i q (x ∷ xs) h = go (eqb (key x) i) refl (any-one i q xs (ascending-tail (key x) (map key xs) h))
     where
       go : (b : Bool) → eqb (key x) i ≡ b → any (λ y. eqb (key y) i && q y) xs ≡ on_found q (find (λ y. eqb (key y) i) xs)
-          → (b && q x || any (λ y. eqb (key y) i && q y) xs) ≡ on_found q (cond b (some x) (find (λ y. eqb (key y) i) xs))
+          → (b && q x || any (λ y. eqb (key y) i && q y) xs) ≡ on_found q (cond b (Some x) (find (λ y. eqb (key y) i) xs))
       go true e r =
           let s : key x ≡ i = eqb-true (key x) i e in
           rw (no-later i q xs (rw s at (above-all (key x) (map key xs) h))) (or-false (q x))
@@ -301,7 +301,7 @@ module _ {A : Type 0} (key : A → ℕ) where
   find-map f h i q (x ∷ xs) = rw (h x) (go (eqb (key x) i) (find-map f h i q xs))
     where
       go : (b : Bool) → on_found q (find (λ y. eqb (key y) i) (map f xs)) ≡ on_found (λ y. q (f y)) (find (λ y. eqb (key y) i) xs)
-          → on_found q (cond b (some (f x)) (find (λ y. eqb (key y) i) (map f xs))) ≡ on_found (λ y. q (f y)) (cond b (some x) (find (λ y. eqb (key y) i) xs))
+          → on_found q (cond b (Some (f x)) (find (λ y. eqb (key y) i) (map f xs))) ≡ on_found (λ y. q (f y)) (cond b (Some x) (find (λ y. eqb (key y) i) xs))
       go true r = refl
       go false r = r
 
@@ -454,13 +454,13 @@ each_same f g (x ∷ xs) h = rw (h x, each_same f g xs h)
 
 -- z with the second of the pair that was found for it
 abbrev with_found : Option (ℕ × ℕ) → ℕ → List ℕ
-with_found o z = elim (elim o as (λ p. Option ℕ) [ none ↦ none | some h ↦ some h.1 ]) as (λ p. List ℕ) [ none ↦ z ∷ [] | some j ↦ z ∷ j ∷ [] ]
+with_found o z = elim (elim o as (λ p. Option ℕ) [ None ↦ None | Some h ↦ Some h.1 ]) as (λ p. List ℕ) [ None ↦ z ∷ [] | Some j ↦ z ∷ j ∷ [] ]
 
 second-by : (hs : List (ℕ × ℕ)) (z : ℕ) (o : Option (ℕ × ℕ)) → find (λ h. eqb h.0 z) hs ≡ o → with_second hs z ≡ with_found o z
 second-by hs z o e = ap (λ (q : Option (ℕ × ℕ)). with_found q z) e
 
 pub second-here : (x y z : ℕ) (hs : List (ℕ × ℕ)) → x ≡ z → with_second ((x, y) ∷ hs) z ≡ z ∷ y ∷ []
-second-here x y z hs e = second-by ((x, y) ∷ hs) z (some (x, y)) (unfold find in rw (eq-eqb x z e))
+second-here x y z hs e = second-by ((x, y) ∷ hs) z (Some (x, y)) (unfold find in rw (eq-eqb x z e))
 
 pub second-other : (x y z : ℕ) (hs : List (ℕ × ℕ)) → (x ≡ z → ⊥) → with_second ((x, y) ∷ hs) z ≡ with_second hs z
 second-other x y z hs n = second-by ((x, y) ∷ hs) z (find (λ h. eqb h.0 z) hs) (unfold find in rw (ne_eqb x z n))

@@ -1,7 +1,5 @@
 -- Rows of a fixed length in lent memory: read into records, and written back.
-use Rattle.std.specs.Prelude.{ℕ, zero, suc, ◌+◌, ◌≤◌, ◌<◌, List, [], ◌∷◌, ◌++◌, cond, eqb, length, get_or, take, drop}
-use Rattle.lists.specs.declared.Found.{Found}
-use Rattle.lists.specs.declared.Found.TheVariants.{At, Nothing}
+use Rattle.std.specs.Prelude.{ℕ, zero, suc, ◌+◌, ◌≤◌, ◌<◌, List, [], ◌∷◌, ◌++◌, cond, eqb, length, get_or, take, drop, Option, None, Some}
 
 -- k rows of s words from the front of w, each read by `dec`.
 unfoldable pub reads : {A B : Type 0} → ℕ → (List A → B) → ℕ → List A → List B
@@ -17,13 +15,13 @@ unfoldable pub keys : ℕ → ℕ → List ℕ → List ℕ
 keys s k w = reads s (λ r. get_or r 0 0) k w
 
 -- the place of the row with a key, counted from 0
-abbrev pub later : Found → Found
-later (At i) = At (suc i)
-later Nothing = Nothing
+abbrev pub later : Option ℕ → Option ℕ
+later (Some i) = Some (suc i)
+later None = None
 
-unfoldable pub row_with : ℕ → List ℕ → Found
-row_with i [] = Nothing
-row_with i (k ∷ ks) = let rest = row_with i ks in cond (eqb k i) (At 0) (later rest)
+unfoldable pub row_with : ℕ → List ℕ → Option ℕ
+row_with i [] = None
+row_with i (k ∷ ks) = let rest = row_with i ks in cond (eqb k i) (Some 0) (later rest)
 
 -- Where a search still looks, `left` rows from row `low` on: the keys before them are smaller than x, those behind them larger.
 abbrev pub Among : List ℕ → ℕ → ℕ → ℕ → Type 0

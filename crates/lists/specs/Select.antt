@@ -1,6 +1,5 @@
 -- Choosing from a list by a test, and lists of numbers.
-use Rattle.std.specs.Prelude.{ℕ, suc, Bool, true, false, not, ◌&&◌, ◌||◌, cond, List, [], ◌∷◌, ◌++◌, map, eqb, ltb, length}
-use Rattle.std.proofs.Math.Option.{Option, none, some}
+use Rattle.std.specs.Prelude.{ℕ, suc, Bool, true, false, not, ◌&&◌, ◌||◌, cond, List, [], ◌∷◌, ◌++◌, map, eqb, ltb, length, Option, None, Some}
 
 -- those that pass, in their order
 unfoldable pub keep : {A : Type 0} → (A → Bool) → List A → List A
@@ -13,8 +12,8 @@ any p (x ∷ xs) = p x || any p xs
 
 -- the first that passes
 unfoldable pub find : {A : Type 0} → (A → Bool) → List A → Option A
-find p [] = none
-find p (x ∷ xs) = let rest = find p xs in cond (p x) (some x) rest
+find p [] = None
+find p (x ∷ xs) = let rest = find p xs in cond (p x) (Some x) rest
 
 -- each element's list, one after the other
 unfoldable pub each : {A B : Type 0} → (A → List B) → List A → List B
@@ -56,11 +55,11 @@ same_numbers (x ∷ xs) (y ∷ ys) = eqb x y && same_numbers xs ys
 
 -- the number that stands beside i among pairs
 abbrev pub second_of : List (ℕ × ℕ) → ℕ → Option ℕ
-second_of hs i = elim (find (λ h. eqb h.0 i) hs) [ none ↦ none | some h ↦ some h.1 ]
+second_of hs i = elim (find (λ h. eqb h.0 i) hs) [ None ↦ None | Some h ↦ Some h.1 ]
 
 -- Document 01: lists of lanes "gain each second half after its first".
 abbrev pub with_second : List (ℕ × ℕ) → ℕ → List ℕ
-with_second hs i = elim (second_of hs i) [ none ↦ i ∷ [] | some j ↦ i ∷ j ∷ [] ]
+with_second hs i = elim (second_of hs i) [ None ↦ i ∷ [] | Some j ↦ i ∷ j ∷ [] ]
 
 unfoldable pub insert_after : List (ℕ × ℕ) → List ℕ → List ℕ
 insert_after hs ids = each (with_second hs) ids

@@ -17,26 +17,17 @@ pub fn both(a: bool, b: bool) -> bool
 pub fn contains(ids: &[u64], id: u64) -> bool
     ensures { result ≡ has id ids.now }
 {
-    let mut i = 0;
-    while i < ids.len() {
-        if id == ids[i] {
-            return true;
-        }
-        i += 1;
-    }
-    false
+    ids.contains(&id)
 }
 
 // Whether each id is larger than the one before.
 pub fn ascends(ids: &[u64]) -> bool
     ensures { result ≡ ascending ids.now }
 {
-    let mut i = 1;
-    while i < ids.len() {
+    for i in 1..ids.len() {
         if ids[i] <= ids[i - 1] {
             return false;
         }
-        i += 1;
     }
     true
 }
@@ -45,12 +36,10 @@ pub fn ascends(ids: &[u64]) -> bool
 pub fn all_at_most(ids: &[u64], most: u64) -> bool
     ensures { result ≡ all (λ i. leb i most) ids.now }
 {
-    let mut i = 0;
-    while i < ids.len() {
-        if most < ids[i] {
+    for id in ids {
+        if most < *id {
             return false;
         }
-        i += 1;
     }
     true
 }
@@ -60,35 +49,23 @@ pub fn keys_ascend(rows: &[u64], s: usize, n: usize) -> bool
     requires { (0 < s) × (n * s ≤ length rows.now) }
     ensures { result ≡ ascending (keys s n rows.now) }
 {
-    let mut i = 1;
-    while i < n {
+    for i in 1..n {
         if rows[i * s] <= rows[(i - 1) * s] {
             return false;
         }
-        i += 1;
     }
     true
 }
 
-// A row's place among the rows of a table.
-#[derive(Clone, Copy)]
-pub enum Found {
-    At(usize),
-    Nothing,
-}
-
-// How often an id stands in a list of n ids.
-pub fn count_of(ids: &[u64], n: usize, id: u64) -> usize
-    requires { n ≤ length ids.now }
-    ensures { result ≡ length (keep (eqb id) (take n ids.now)) }
+// How often an id stands in a list.
+pub fn count_of(ids: &[u64], id: u64) -> usize
+    ensures { result ≡ length (keep (eqb id) ids.now) }
 {
-    let mut i = 0;
     let mut count = 0;
-    while i < n {
-        if id == ids[i] {
+    for x in ids {
+        if id == *x {
             count += 1;
         }
-        i += 1;
     }
     count
 }

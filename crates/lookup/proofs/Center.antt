@@ -1,9 +1,9 @@
 -- The centreline of a lane: from both sides as they are written, or from the store. Assumes nothing.
+use Rattle.std.specs.Prelude.{Option, None, Some}
 use mathlib.Core.Path.{◌≡◌, refl, sym, ap, ◌∙◌}
 use mathlib.Core.Logic.{inl, inr}
 use mathlib.Core.Bool.{Bool, true, false, not, ◌&&◌, ◌||◌, cond}
 use mathlib.Core.List.{List, [], ◌∷◌, reverse}
-use mathlib.Core.Option.{Option, none, some}
 use Prim.Native.Nat.{ℕ, suc, ◌+◌, ◌*◌, ◌≤◌, ◌<◌}
 use native.Mathlib.Omega.{arith}
 use lib.Ieee.{Float}
@@ -11,8 +11,6 @@ use lib.Dec.{eqb, leb}
 use lib.ListN.{length, get_or, take, length-take}
 use borrow.Author.Tests.{leb-true, ne_eqb, eqb-true, eqb-false}
 use Rattle.lists.specs.Rows.{over}
-use Rattle.lists.specs.declared.Found.{Found}
-use Rattle.lists.specs.declared.Found.TheVariants.{At, Nothing}
 use Rattle.lists.proofs.Booleans.{and-fst, and-snd}
 use Rattle.lists.proofs.Rows.{length_over}
 use Rattle.polyline.specs.Polyline as Polyline
@@ -24,29 +22,26 @@ use Rattle.rules.specs.Names.{Side, Left, Right}
 use Rattle.rules.specs.Map.{oriented_boundary, usable, derived, centerline}
 use Rattle.tables.specs.View.{word, mark, ref_at, part, rows, lane_of, boundary_of}
 use Rattle.tables.specs.Formed.{span_at, stored}
-use Rattle.lookup.specs.declared.OptionCount.{OptionCount}
-use Rattle.lookup.specs.declared.OptionCount.TheVariants as N
-use Rattle.lookup.specs.declared.OptionLength.TheVariants.{None as NoLength, Some as ALength}
 use Rattle.lookup.specs.Lookup.{place_of, row_at, all_short, centers_stored, count_of, points_or, length_of, side_word, drawn, Drawable}
 use Rattle.lookup.proofs.Laws.{oriented-drawn, place-within, word_in, next_in, row-passes, part-few, length-turned, oriented-absent, oriented-there}
 
 -- ---- a side: how many points it has, and its points as they were written
 
-pub count_none : (o : Option Line) → N.None ≡ count_of o → o ≡ none
-count_none none e = refl
-count_none (some l) e = let z : ◌≡◌ {A = ℕ} 0 1 = cc in absurd (omega arith)
+pub count_none : (o : Option Line) → None ≡ count_of o → o ≡ None
+count_none None e = refl
+count_none (Some l) e = let z : ◌≡◌ {A = ℕ} 0 1 = cc in absurd (omega arith)
 
-pub count-some : (o : Option Line) (a : ℕ) → N.Some a ≡ count_of o → (o ≡ some (points_or o)) × (a ≡ length (points_or o))
-count-some none a e = let z : ◌≡◌ {A = ℕ} 0 1 = cc in absurd (omega arith)
-count-some (some l) a e = (refl, cc)
+pub count-some : (o : Option Line) (a : ℕ) → Some a ≡ count_of o → (o ≡ Some (points_or o)) × (a ≡ length (points_or o))
+count-some None a e = let z : ◌≡◌ {A = ℕ} 0 1 = cc in absurd (omega arith)
+count-some (Some l) a e = (refl, cc)
 
 -- a line along a lane has at most 256 points
 pub oriented-few : (c : List Float) (b w : List ℕ) (side : Side) → all_short 5 2 b ≡ true → length (points_or (oriented_boundary (drawn c b) side (lane_of c w))) ≤ 256
 oriented-few c b w side h = go (place_of 5 b (word (side_word side) w)) refl
   where
-    go : (r : Found) → place_of 5 b (word (side_word side) w) ≡ r → length (points_or (oriented_boundary (drawn c b) side (lane_of c w))) ≤ 256
-    go Nothing q = rw (oriented-absent c b w side (ref_at (side_word side) w) refl q) (omega arith)
-    go (At j) q =
+    go : (r : Option ℕ) → place_of 5 b (word (side_word side) w) ≡ r → length (points_or (oriented_boundary (drawn c b) side (lane_of c w))) ≤ 256
+    go None q = rw (oriented-absent c b w side (ref_at (side_word side) w) refl q) (omega arith)
+    go (Some j) q =
         let v = row_at 5 b j in
         let ps = points (part c (word 2 v) (word 3 v)) in
         let s : word 3 v ≤ 256 = leb-true (word 3 v) 256 (row-passes 5 (λ u. leb (word 3 u) 256) b (unfold all_short in h) j (place-within 5 b (word (side_word side) w) j q)) in
@@ -58,26 +53,26 @@ module _ (o : Option Line) (w v : List Float) (few : length (points_or o) ≤ 25
   pub side-length : length v ≡ length w
   side-length = ap length e ∙ length_over w 0 (flat (points_or o)) (omega (arith, length-flat (points_or o)))
 
-  module _ (a : ℕ) (n : N.Some a ≡ count_of o) where
+  module _ (a : ℕ) (n : Some a ≡ count_of o) where
     pub side-small : a ≤ 256
     side-small = omega (arith, (count-some o a n).1)
 
-    pub side-there : o ≡ some (points (take (a * 3) v))
+    pub side-there : o ≡ Some (points (take (a * 3) v))
     side-there =
         let p : points (take (a * 3) v) ≡ points_or o = rw ((count-some o a n).1, e) (points-over w (points_or o) (omega arith)) in
-        (count-some o a n).0 ∙ ap some (sym p)
+        (count-some o a n).0 ∙ ap Some (sym p)
 
     pub side-few : length (points (take (a * 3) v)) ≤ 256
     side-few = rw (length-points, length-take) (omega (arith, side-small))
 
 -- ---- both sides
 
-pub left-absent : (o p : Option Line) → o ≡ none → derived o p ≡ none
+pub left-absent : (o p : Option Line) → o ≡ None → derived o p ≡ None
 left-absent o p e = rw e
 
-pub right-absent : (o p : Option Line) → p ≡ none → derived o p ≡ none
-right-absent none p e = refl
-right-absent (some l) p e = rw e
+pub right-absent : (o p : Option Line) → p ≡ None → derived o p ≡ None
+right-absent None p e = refl
+right-absent (Some l) p e = rw e
 
 pub center_few : (ps qs : Line) → length ps ≤ 256 → length qs ≤ 256 → length (Polyline.centerline ps qs) ≤ 256
 center_few [] qs h k = rw (centerline-none [] qs (inl refl)) (omega arith)
@@ -91,24 +86,24 @@ pub center_room : (ps qs : Line) (n : ℕ) → length ps ≤ 256 → length qs �
     → (length (Polyline.centerline ps qs) ≤ 65536) × (length (Polyline.centerline ps qs) * 3 ≤ n)
 center_room ps qs n h k m = (omega (arith, center_few ps qs h k), omega (arith, center_few ps qs h k))
 
-module _ (o p : Option Line) (ps qs : Line) (f : o ≡ some ps) (g : p ≡ some qs) (n : ℕ) (k : n ≡ length (Polyline.centerline ps qs))
+module _ (o p : Option Line) (ps qs : Line) (f : o ≡ Some ps) (g : p ≡ Some qs) (n : ℕ) (k : n ≡ length (Polyline.centerline ps qs))
     (w v : List Float) (e : v ≡ over w 0 (flat (Polyline.centerline ps qs))) where
   made : derived o p ≡ usable (Polyline.centerline ps qs)
   made = rw (f, g)
 
-  pub center_empty : n ≡ 0 → (N.None ≡ count_of (derived o p)) × (v ≡ over w 0 (flat (points_or (derived o p))))
+  pub center_empty : n ≡ 0 → (None ≡ count_of (derived o p)) × (v ≡ over w 0 (flat (points_or (derived o p))))
   center_empty z = rw made (go (Polyline.centerline ps qs) (sym k ∙ z) e)
     where
-      go : (xs : Line) → length xs ≡ 0 → v ≡ over w 0 (flat xs) → (N.None ≡ count_of (usable xs)) × (v ≡ over w 0 (flat (points_or (usable xs))))
+      go : (xs : Line) → length xs ≡ 0 → v ≡ over w 0 (flat xs) → (None ≡ count_of (usable xs)) × (v ≡ over w 0 (flat (points_or (usable xs))))
       go [] l q = (refl, q)
       go (x ∷ xs) l q = absurd (omega arith)
 
-  pub center_some : (n ≡ 0 → ⊥) → (N.Some n ≡ count_of (derived o p)) × (v ≡ over w 0 (flat (points_or (derived o p))))
+  pub center_some : (n ≡ 0 → ⊥) → (Some n ≡ count_of (derived o p)) × (v ≡ over w 0 (flat (points_or (derived o p))))
   center_some z = rw made (go (Polyline.centerline ps qs) k e)
     where
-      go : (xs : Line) → n ≡ length xs → v ≡ over w 0 (flat xs) → (N.Some n ≡ count_of (usable xs)) × (v ≡ over w 0 (flat (points_or (usable xs))))
+      go : (xs : Line) → n ≡ length xs → v ≡ over w 0 (flat xs) → (Some n ≡ count_of (usable xs)) × (v ≡ over w 0 (flat (points_or (usable xs))))
       go [] l q = absurd (z l)
-      go (x ∷ xs) l q = (ap N.Some l, q)
+      go (x ∷ xs) l q = (ap Some l, q)
 
 -- ---- explicit or derived
 
@@ -134,7 +129,7 @@ module _ (c : List Float) (b t : List ℕ) (i : ℕ) where
     explicit : eqb (word 6 (row_at 52 t i)) 0 ≡ false
     explicit = ne_eqb (word 6 (row_at 52 t i)) 0 (λ e. z (marked ∙ e))
 
-    pub center_explicit : (line : List Float) → line ≡ part c (get_or t (1 + i * 52 + 6 + 1) 0) (get_or t (1 + i * 52 + 6 + 1 + 1) 0) → centerline (drawn c b) (lane_of c (row_at 52 t i)) ≡ some (points line)
+    pub center_explicit : (line : List Float) → line ≡ part c (get_or t (1 + i * 52 + 6 + 1) 0) (get_or t (1 + i * 52 + 6 + 1 + 1) 0) → centerline (drawn c b) (lane_of c (row_at 52 t i)) ≡ Some (points line)
     unfolding centerline lane_of
     center_explicit line e = rw (e, start-read, size-read, explicit)
 
@@ -155,7 +150,7 @@ module _ (c : List Float) (b t : List ℕ) (i : ℕ) where
           rw e (omega (arith, part-few c (get_or t (1 + i * 52 + 6 + 1) 0) (get_or t (1 + i * 52 + 6 + 1 + 1) 0)))
 
 -- the same line under another name
-pub written_as : (o p : Option Line) (r : OptionCount) (w v : List Float) → p ≡ o → (r ≡ count_of o) × (v ≡ over w 0 (flat (points_or o))) → (r ≡ count_of p) × (v ≡ over w 0 (flat (points_or p)))
+pub written_as : (o p : Option Line) (r : Option ℕ) (w v : List Float) → p ≡ o → (r ≡ count_of o) × (v ≡ over w 0 (flat (points_or o))) → (r ≡ count_of p) × (v ≡ over w 0 (flat (points_or p)))
 written_as o p r w v e h = rw e h
 
 -- only the boundaries of a map are read
@@ -165,9 +160,9 @@ center_drawn_lem c b m l e = rw (oriented-drawn c b m Left l e, oriented-drawn c
 
 -- a centreline has at most 256 points
 derived-few : (o p : Option Line) → length (points_or o) ≤ 256 → length (points_or p) ≤ 256 → length (points_or (derived o p)) ≤ 256
-derived-few none p h k = omega arith
-derived-few (some l) none h k = omega arith
-derived-few (some l) (some r) h k = go (Polyline.centerline l r) (center_few l r h k)
+derived-few None p h k = omega arith
+derived-few (Some l) None h k = omega arith
+derived-few (Some l) (Some r) h k = go (Polyline.centerline l r) (center_few l r h k)
   where
     go : (xs : Line) → length xs ≤ 256 → length (points_or (usable xs)) ≤ 256
     go [] q = q
@@ -187,8 +182,8 @@ lane_center_few c b t i d l = go (eqb (get_or t (1 + i * 52 + 6) 0) 0) refl
         rw (center_explicit c b t i z line refl) (omega (arith, center_short c b t i z d.centers_are_stored l line refl 768 (omega arith)))
 
 -- the length of the line that was written
-pub length_none : (o : Option Line) → o ≡ none → NoLength ≡ length_of o
+pub length_none : (o : Option Line) → o ≡ None → None ≡ length_of o
 length_none o e = rw e
 
-pub length_some : (o : Option Line) (ps : Line) (x : Float) → o ≡ some ps → x ≡ Polyline.line_length ps → ALength x ≡ length_of o
+pub length_some : (o : Option Line) (ps : Line) (x : Float) → o ≡ Some ps → x ≡ Polyline.line_length ps → Some x ≡ length_of o
 length_some o ps x e f = rw (e, f)

@@ -1,8 +1,8 @@
 -- Tables in id order, and the record that a look-up finds: over any decoder of rows whose key is the row's first word. Assumes nothing.
+use Rattle.std.specs.Prelude.{Option, None, Some}
 use mathlib.Core.Path.{◌≡◌, refl, sym, ap, ◌∙◌}
 use mathlib.Core.Bool.{Bool, true, false, not, ◌&&◌, ◌||◌, cond, and_comm}
 use mathlib.Core.List.{List, [], ◌∷◌, map, reverse, reverse_aux, reverse-reverse}
-use mathlib.Core.Option.{Option, none, some}
 use Prim.Native.Nat.{ℕ, zero, suc, ◌+◌, ◌-◌, ◌*◌, ◌/◌, ◌≤◌, ◌<◌, min}
 use native.Mathlib.Nat.{zero-mul}
 use native.Mathlib.Numerals.{add-one}
@@ -17,14 +17,11 @@ use Rattle.lists.specs.Rows.{reads, keys, row_with, later, over}
 use Rattle.lists.specs.Select.{any, find, has, keep, above, ascending, same_numbers}
 use Rattle.lists.proofs.Select.{any_same, any-keep, any-map, any-one, on_found, has-any, keys-keep, keep-map}
 use Rattle.lists.proofs.Turns.{count-one, count_none}
-use Rattle.lists.specs.declared.Found.{Found}
-use Rattle.lists.specs.declared.Found.TheVariants.{At, Nothing}
 use Rattle.lists.proofs.Booleans.{and-fst, and-snd, same_test}
 use Rattle.lists.proofs.Rows.{length-keys, length-reads, get_d_reads, mapped-reads, found_within, found-key}
 use Rattle.lists.proofs.Every.{all_get_d}
 use Rattle.geometry.specs.declared.Point3.{Point3}
 use Rattle.polyline.specs.Polyline.{points, flat, first, last, last_from}
-use Rattle.polyline.specs.declared.OptionPoint3.TheVariants as P
 use Rattle.polyline.proofs.Points.{length-points, over_none}
 use Rattle.entities.specs.Records.{Line, Lane, Map}
 use Rattle.rules.specs.Names.{Side, Left, Right, BoundaryRef}
@@ -35,7 +32,6 @@ use Rattle.row_tests.specs.Returned.{searchable}
 use Rattle.row_tests.proofs.Tables.{table-few, table-room, row_room}
 use Rattle.row_tests.proofs.Lanes.{rows-lent}
 use Rattle.row_tests.proofs.Relations.{keys-reads}
-use Rattle.lookup.specs.declared.OptionCount.TheVariants as N
 use Rattle.lookup.specs.Lookup.{sorted_table, place_of, row_at, all_stored, all_short, count_of, points_or, side_word, drawn, any_row, row_uses, uses_besides, used, used_besides, uses_outside, used_outside, users}
 
 -- ---- a table in id order
@@ -76,13 +72,13 @@ lent_rows t s r a =
     let m : word 0 t * s ≤ length (drop 1 t) = rw length-drop (omega arith) in
     rw (rows-lent t l) (m, a)
 
-pub lent-place : (t : List ℕ) (s id : ℕ) (r : Found) → 1 + word 0 t * s ≤ length t → r ≡ row_with id (keys s (word 0 t) (take (length t - 1) (drop 1 t))) → r ≡ place_of s t id
+pub lent-place : (t : List ℕ) (s id : ℕ) (r : Option ℕ) → 1 + word 0 t * s ≤ length t → r ≡ row_with id (keys s (word 0 t) (take (length t - 1) (drop 1 t))) → r ≡ place_of s t id
 unfolding place_of
 lent-place t s id r m e = let l : 1 ≤ length t = omega arith in rw (rows-lent t l) at e
 
 -- ---- the row that is found
 
-module _ (s : ℕ) (t : List ℕ) (i j : ℕ) (e : place_of s t i ≡ At j) where
+module _ (s : ℕ) (t : List ℕ) (i j : ℕ) (e : place_of s t i ≡ Some j) where
   -- it is one of the rows, and its first word is the id
   pub place-within : j < word 0 t
   unfolding place_of
@@ -96,9 +92,9 @@ module _ (s : ℕ) (t : List ℕ) (i j : ℕ) (e : place_of s t i ≡ At j) wher
       sym f ∙ found-key i (keys s (word 0 t) (drop 1 t)) j e
 
 module _ {B : Type 0} (s : ℕ) (dec : List ℕ → B) (key : B → ℕ) (h : (w : List ℕ) → key (dec w) ≡ word 0 w) where
-  abbrev record_at : List ℕ → Found → Option B
-  record_at w Nothing = none
-  record_at w (At j) = some (dec (take s (drop (j * s) w)))
+  abbrev record_at : List ℕ → Option ℕ → Option B
+  record_at w None = None
+  record_at w (Some j) = Some (dec (take s (drop (j * s) w)))
 
   found_record : (i n : ℕ) (w : List ℕ) → find (λ x. eqb (key x) i) (reads s dec n w) ≡ record_at w (row_with i (keys s n w))
   unfolding keys reads find row_with
@@ -106,17 +102,17 @@ module _ {B : Type 0} (s : ℕ) (dec : List ℕ → B) (key : B → ℕ) (h : (w
   found_record i (suc n) w =
       rw (h (take s w)) (go (eqb (get_or (take s w) 0 0) i) (find (λ x. eqb (key x) i) (reads s dec n (drop s w))) (row_with i (keys s n (drop s w))) (found_record i n (drop s w)))
     where
-      go : (b : Bool) (o : Option B) (r : Found) → o ≡ record_at (drop s w) r → cond b (some (dec (take s w))) o ≡ record_at w (cond b (At 0) (later r))
+      go : (b : Bool) (o : Option B) (r : Option ℕ) → o ≡ record_at (drop s w) r → cond b (Some (dec (take s w))) o ≡ record_at w (cond b (Some 0) (later r))
       go true o r e = rw zero-mul
-      go false o Nothing e = e
-      go false o (At j) e = let f : suc j * s ≡ s + j * s = omega arith in e ∙ rw (drop-drop, f)
+      go false o None e = e
+      go false o (Some j) e = let f : suc j * s ≡ s + j * s = omega arith in e ∙ rw (drop-drop, f)
 
   -- the record that a look-up finds is the row that is found
-  pub find_at : (t : List ℕ) (i j : ℕ) → place_of s t i ≡ At j → find (λ x. eqb (key x) i) (rows s dec t) ≡ some (dec (take s (drop (1 + j * s) t)))
+  pub find_at : (t : List ℕ) (i j : ℕ) → place_of s t i ≡ Some j → find (λ x. eqb (key x) i) (rows s dec t) ≡ Some (dec (take s (drop (1 + j * s) t)))
   unfolding place_of rows
   find_at t i j e = found_record i (word 0 t) (drop 1 t) ∙ rw (e, drop-drop)
 
-  pub find_none : (t : List ℕ) (i : ℕ) → place_of s t i ≡ Nothing → find (λ x. eqb (key x) i) (rows s dec t) ≡ none
+  pub find_none : (t : List ℕ) (i : ℕ) → place_of s t i ≡ None → find (λ x. eqb (key x) i) (rows s dec t) ≡ None
   unfolding place_of rows
   find_none t i e = found_record i (word 0 t) (drop 1 t) ∙ rw e
 
@@ -173,7 +169,7 @@ row_line s k c t j m = let n : k < s = omega arith in rw (word_in s t j k n, nex
 
 -- ---- a line's ends, from the other end
 
-first_back : (p : Point3) (ps qs : List Point3) → first (reverse_aux (p ∷ ps) qs) ≡ P.Some (last_from p ps)
+first_back : (p : Point3) (ps qs : List Point3) → first (reverse_aux (p ∷ ps) qs) ≡ Some (last_from p ps)
 unfolding first last_from
 first_back p [] qs = refl
 first_back p (q ∷ ps) qs = first_back q ps (p ∷ qs)
@@ -212,19 +208,19 @@ module _ (c : List Float) (b w : List ℕ) (side : Side) (r : BoundaryRef) (e : 
   unfolding boundary_of
   boundary-key v = refl
 
-  pub oriented-absent : place_of 5 b r.boundary ≡ Nothing → oriented_boundary (drawn c b) side (lane_of c w) ≡ none
+  pub oriented-absent : place_of 5 b r.boundary ≡ None → oriented_boundary (drawn c b) side (lane_of c w) ≡ None
   unfolding boundary
   oriented-absent q = oriented-by ∙ ap (oriented_in r) (find_none 5 (boundary_of c) (λ x. x.id) boundary-key b r.boundary q)
 
-  module _ (j : ℕ) (q : place_of 5 b r.boundary ≡ At j) (line : List Float) (l : line ≡ part c (word 2 (row_at 5 b j)) (word 3 (row_at 5 b j))) where
-    pub oriented-there : oriented_boundary (drawn c b) side (lane_of c w) ≡ some (cond r.reversed (reverse (points line)) (points line))
+  module _ (j : ℕ) (q : place_of 5 b r.boundary ≡ Some j) (line : List Float) (l : line ≡ part c (word 2 (row_at 5 b j)) (word 3 (row_at 5 b j))) where
+    pub oriented-there : oriented_boundary (drawn c b) side (lane_of c w) ≡ Some (cond r.reversed (reverse (points line)) (points line))
     unfolding boundary boundary_of oriented
     oriented-there = rw l (oriented-by ∙ ap (oriented_in r) (find_at 5 (boundary_of c) (λ x. x.id) boundary-key b r.boundary j q))
 
-    pub oriented-ahead : r.reversed ≡ false → oriented_boundary (drawn c b) side (lane_of c w) ≡ some (points line)
+    pub oriented-ahead : r.reversed ≡ false → oriented_boundary (drawn c b) side (lane_of c w) ≡ Some (points line)
     oriented-ahead v = oriented-there ∙ rw v
 
-    pub oriented-back : r.reversed ≡ true → oriented_boundary (drawn c b) side (lane_of c w) ≡ some (reverse (points line))
+    pub oriented-back : r.reversed ≡ true → oriented_boundary (drawn c b) side (lane_of c w) ≡ Some (reverse (points line))
     oriented-back v = oriented-there ∙ rw v
 
 -- the reference, as it is read
@@ -256,12 +252,12 @@ length-turned true ps = sym (length-reverse ps)
 length-turned false ps = refl
 
 -- no line, and one
-pub written_none : (o : Option Line) (w : List Float) → o ≡ none → (N.None ≡ count_of o) × (w ≡ over w 0 (flat (points_or o)))
+pub written_none : (o : Option Line) (w : List Float) → o ≡ None → (None ≡ count_of o) × (w ≡ over w 0 (flat (points_or o)))
 written_none o w e = rw e (refl, sym (over_none w 0))
 
-pub written-some : (o : Option Line) (ps : Line) (n : ℕ) (w v : List Float) → o ≡ some ps → n ≡ length ps → v ≡ over w 0 (flat ps)
-    → (N.Some n ≡ count_of o) × (v ≡ over w 0 (flat (points_or o)))
-written-some o ps n w v e p q = rw e (ap N.Some p, q)
+pub written-some : (o : Option Line) (ps : Line) (n : ℕ) (w v : List Float) → o ≡ Some ps → n ≡ length ps → v ≡ over w 0 (flat ps)
+    → (Some n ≡ count_of o) × (v ≡ over w 0 (flat (points_or o)))
+written-some o ps n w v e p q = rw e (ap Some p, q)
 
 -- ---- a test that some row of a table passes
 
@@ -422,7 +418,7 @@ module _ (c : List Float) (t : List ℕ) (h : sorted_table 1024 52 t ≡ true) w
   lane-ids-ascend = ap ascending lane-ids ∙ sorted-ascends 1024 52 t h
 
   -- lane a, in row j, is among those that use b
-  among : (a b j : ℕ) → place_of 52 t a ≡ At j → uses b (lane_of c (row_at 52 t j)) ≡ true → has a (lanes_using_boundary (rows 52 (lane_of c) t) b) ≡ true
+  among : (a b j : ℕ) → place_of 52 t a ≡ Some j → uses b (lane_of c (row_at 52 t j)) ≡ true → has a (lanes_using_boundary (rows 52 (lane_of c) t) b) ≡ true
   unfolding lanes_using_boundary
   among a b j e u =
       has-any a (map (λ (l : Lane). l.id) (keep (uses b) (rows 52 (lane_of c) t)))
@@ -434,7 +430,7 @@ module _ (c : List Float) (t : List ℕ) (h : sorted_table 1024 52 t ≡ true) w
       ∙ u
 
   -- merge's test that lane a alone uses b
-  pub alone-using : (a b j : ℕ) → place_of 52 t a ≡ At j → uses b (lane_of c (row_at 52 t j)) ≡ true
+  pub alone-using : (a b j : ℕ) → place_of 52 t a ≡ Some j → uses b (lane_of c (row_at 52 t j)) ≡ true
       → same_numbers (lanes_using_boundary (rows 52 (lane_of c) t) b) (a ∷ []) ≡ not (used_besides t b a)
   unfolding lanes_using_boundary
   alone-using a b j e u =

@@ -1,16 +1,8 @@
 -- Look-ups and derived geometry of lent tables: what their functions ask of a table, and the row that they find.
-use Rattle.std.specs.Prelude.{◌≡◌, ℕ, suc, ◌+◌, ◌*◌, Bool, true, not, ◌&&◌, ◌||◌, List, [], eqb, leb, length, take, drop, Float}
-use Rattle.std.proofs.Math.Option.{Option, none, some}
+use Rattle.std.specs.Prelude.{◌≡◌, ℕ, suc, ◌+◌, ◌*◌, Bool, true, not, ◌&&◌, ◌||◌, List, [], eqb, leb, length, take, drop, Float, Option, None, Some}
 use Rattle.lists.specs.Every.{all}
 use Rattle.lists.specs.Rows.{keys, row_with}
 use Rattle.lists.specs.Select.{keep, any, ascending}
-use Rattle.lists.specs.declared.Found.{Found}
-use Rattle.lookup.specs.declared.OptionCount.{OptionCount}
-use Rattle.lookup.specs.declared.OptionCount.TheVariants.{None, Some}
-use Rattle.lookup.specs.declared.OptionPoint2.{OptionPoint2}
-use Rattle.lookup.specs.declared.OptionPoint2.TheVariants.{None as NoPoint, Some as APoint}
-use Rattle.lookup.specs.declared.OptionLength.{OptionLength}
-use Rattle.lookup.specs.declared.OptionLength.TheVariants.{None as NoLength, Some as ALength}
 use Rattle.polyline.specs.Polyline.{line_length}
 use Rattle.entities.specs.Records.{Line, Map}
 use Rattle.rules.specs.Names.{Side, Left, Right, Point2}
@@ -31,7 +23,7 @@ abbrev pub row_at : ℕ → List ℕ → ℕ → List ℕ
 row_at s t j = take s (drop (1 + j * s) t)
 
 -- the row with an id
-unfoldable pub place_of : ℕ → List ℕ → ℕ → Found
+unfoldable pub place_of : ℕ → List ℕ → ℕ → Option ℕ
 place_of s t id = row_with id (keys s (word row_count t) (drop 1 t))
 
 -- ---- lines
@@ -45,13 +37,13 @@ unfoldable pub all_short : ℕ → ℕ → List ℕ → Bool
 all_short s k t = all (λ b. b) (rows s (λ w. leb (word (suc k) w) max_line_points) t)
 
 -- how many points a line has, where there is one, and its points
-abbrev pub count_of : Option Line → OptionCount
-count_of none = None
-count_of (some l) = Some (length l)
+abbrev pub count_of : Option Line → Option ℕ
+count_of None = None
+count_of (Some l) = Some (length l)
 
 abbrev pub points_or : Option Line → Line
-points_or none = []
-points_or (some l) = l
+points_or None = []
+points_or (Some l) = l
 
 -- a map of boundaries alone: what lines along a lane are made of
 abbrev pub drawn : List Float → List ℕ → Map
@@ -70,9 +62,9 @@ pub record Drawable (lanes boundaries : List ℕ) (c : List Float) : Type 0 wher
   pub centers_are_stored : centers_stored c lanes ≡ true
 
 -- the length of a line, where there is one
-abbrev pub length_of : Option Line → OptionLength
-length_of none = NoLength
-length_of (some l) = ALength (line_length l)
+abbrev pub length_of : Option Line → Option Float
+length_of None = None
+length_of (Some l) = Some (line_length l)
 
 -- a boundary's line along the lane in row i, and the lane's centreline
 abbrev pub side_line : List Float → List ℕ → List ℕ → ℕ → Side → Option Line
@@ -140,12 +132,3 @@ pub record Crossable (stops crosswalks : List ℕ) (c : List Float) : Type 0 whe
   pub crosswalks_are_sorted : sorted_table max_crosswalks crosswalk_words crosswalks ≡ true
   pub lefts_stored : all_stored crosswalk_words crosswalk_left_start c crosswalks ≡ true
   pub rights_stored : all_stored crosswalk_words crosswalk_right_start c crosswalks ≡ true
-
--- a point that may be missing, as it goes by value
-abbrev pub point_given : Option Point2 → OptionPoint2
-point_given none = NoPoint
-point_given (some p) = APoint p
-
-abbrev pub option_of : OptionPoint2 → Option Point2
-option_of NoPoint = none
-option_of (APoint p) = some p

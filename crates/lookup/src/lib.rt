@@ -12,36 +12,15 @@ ghost use Rattle.lookup.specs.Lookup as K;
 
 use entities::{BoundaryRef, Side};
 use geometry::Point2;
-use lists::Found;
 use tables::{
     BOUNDARY, BOUNDARY_START, CROSSWALK, LANE, LANE_LEFT, LANE_RIGHT, POINT, PREDECESSORS,
     STOP_LINE, SUCCESSORS,
 };
 
-// How many points a line has, where there is one.
-#[derive(Clone, Copy)]
-pub enum OptionCount {
-    None,
-    Some(usize),
-}
-
-// The length of a line, where there is one.
-#[derive(Clone, Copy)]
-pub enum OptionLength {
-    None,
-    Some(f64),
-}
-
-#[derive(Clone, Copy)]
-pub enum OptionPoint2 {
-    None,
-    Some(Point2),
-}
-
 // ---- look-ups by id
 
-// The row with an id in a table whose ids ascend.
-fn row_of(table: &[u64], row: usize, id: u64) -> Found
+// The row with an id in a table whose ids ascend. The four below are the Rust's names for it; a table's kind as a parameter would put one line in place of one.
+fn row_of(table: &[u64], row: usize, id: u64) -> Option<usize>
     requires { (0 < row) × ((1 + word 0 table.now * row ≤ length table.now) × (ascending (keys row (word 0 table.now) (drop 1 table.now)) ≡ true)) }
     ensures { result ≡ K.place_of row table.now id }
 {
@@ -49,28 +28,28 @@ fn row_of(table: &[u64], row: usize, id: u64) -> Found
     find::find_row(&table[1..], row, n, id)
 }
 
-pub fn lane(lanes: &[u64], id: u64) -> Found
+pub fn lane(lanes: &[u64], id: u64) -> Option<usize>
     requires { K.sorted_table 1024 52 lanes.now ≡ true }
     ensures { result ≡ K.place_of 52 lanes.now id }
 {
     row_of(lanes, LANE, id)
 }
 
-pub fn boundary(boundaries: &[u64], id: u64) -> Found
+pub fn boundary(boundaries: &[u64], id: u64) -> Option<usize>
     requires { K.sorted_table 4096 5 boundaries.now ≡ true }
     ensures { result ≡ K.place_of 5 boundaries.now id }
 {
     row_of(boundaries, BOUNDARY, id)
 }
 
-pub fn stop_line(stops: &[u64], id: u64) -> Found
+pub fn stop_line(stops: &[u64], id: u64) -> Option<usize>
     requires { K.sorted_table 512 4 stops.now ≡ true }
     ensures { result ≡ K.place_of 4 stops.now id }
 {
     row_of(stops, STOP_LINE, id)
 }
 
-pub fn crosswalk(crosswalks: &[u64], id: u64) -> Found
+pub fn crosswalk(crosswalks: &[u64], id: u64) -> Option<usize>
     requires { K.sorted_table 128 7 crosswalks.now ≡ true }
     ensures { result ≡ K.place_of 7 crosswalks.now id }
 {

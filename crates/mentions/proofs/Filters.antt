@@ -1,9 +1,9 @@
 -- The rows that name a lane are those that the rules' filters choose. Assumes nothing.
+use Rattle.std.specs.Prelude.{None, Some}
 use mathlib.Core.Path.{◌≡◌, refl, ap, ◌∙◌}
 use Prim.Native.Nat.{ℕ, suc}
 use mathlib.Core.Bool.{Bool, true, false, not, cond, ◌&&◌, ◌||◌}
 use mathlib.Core.List.{List, map}
-use mathlib.Core.Option.{none, some}
 use lib.Dec.{eqb}
 use lib.Ieee.{Float}
 use lib.ListN.{length}
@@ -32,7 +32,7 @@ ids_where_lem s dec key p q t k e =
 slot-named : (a k : ℕ) (w : List ℕ) → names (slot_at k w) a ≡ slot_names a k w
 slot-named a k w = go (eqb (word k w) 0) (eqb (word k w) 1)
   where
-    go : (x y : Bool) → names (cond x none (cond y (some (same (word (suc k) w))) (some (opposing (word (suc k) w))))) a ≡ (not x && eqb (word (suc k) w) a)
+    go : (x y : Bool) → names (cond x None (cond y (Some (same (word (suc k) w))) (Some (opposing (word (suc k) w))))) a ≡ (not x && eqb (word (suc k) w) a)
     go true y = refl
     go false true = refl
     go false false = refl

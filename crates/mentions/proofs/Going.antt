@@ -1,10 +1,10 @@
 -- Rows that forget a lane, and rules that read one as another: their words and their length. Assumes nothing.
+use Rattle.std.specs.Prelude.{None}
 use mathlib.Core.Path.{◌≡◌, refl, sym, ap, ◌∙◌}
 use Prim.Native.Nat.{ℕ, suc, ◌+◌, ◌-◌, ◌≤◌, ◌<◌}
 use native.Mathlib.Omega.{arith}
 use mathlib.Core.Bool.{Bool, true, false, cond}
 use mathlib.Core.List.{List, [], ◌∷◌, map}
-use mathlib.Core.Option.{none}
 use lib.Dec.{eqb}
 use lib.ListN.{length, set, drop, length-map}
 use lib.Seq.{drop-drop}
@@ -36,15 +36,15 @@ module _ (w : List ℕ) (k a : ℕ) (h : k + 2 ≤ length w) where
   module _ (b : Bool) (be : b ≡ slot_names a k w) where
     pub freed : b ≡ true → set w k 0 ≡ free_at a k w
     unfolding set_slot
-    freed t = store-one w k 0 (omega arith) ∙ sym (ap (λ z. cond z (set_slot k none w) w) (sym be ∙ t))
+    freed t = store-one w k 0 (omega arith) ∙ sym (ap (λ z. cond z (set_slot k None w) w) (sym be ∙ t))
 
     pub not-freed : b ≡ false → w ≡ free_at a k w
-    not-freed t = sym (ap (λ z. cond z (set_slot k none w) w) (sym be ∙ t))
+    not-freed t = sym (ap (λ z. cond z (set_slot k None w) w) (sym be ∙ t))
 
   pub free-length : length (free_at a k w) ≡ length w
   free-length = go (slot_names a k w)
     where
-      go : (b : Bool) → length (cond b (set_slot k none w) w) ≡ length w
+      go : (b : Bool) → length (cond b (set_slot k None w) w) ≡ length w
       go true = unfold set_slot in length_over w k (0 ∷ []) (omega arith)
       go false = refl
 

@@ -1,10 +1,10 @@
 -- A record with its lists of lanes changed, written over its row, is the row with those lists changed. Assumes nothing.
+use Rattle.std.specs.Prelude.{Option, None, Some}
 use mathlib.Core.Path.{◌≡◌, refl, sym, ap, ◌∙◌}
 use Prim.Native.Nat.{ℕ, zero, suc, ◌+◌, ◌≤◌, ◌<◌}
 use native.Mathlib.Omega.{arith}
 use mathlib.Core.Bool.{Bool, true, false, not, cond, ◌&&◌}
 use mathlib.Core.List.{List, [], ◌∷◌, ◌++◌, append_assoc, append-nil}
-use mathlib.Core.Option.{Option, none, some}
 use lib.Dec.{eqb, leb}
 use lib.Ieee.{Float}
 use lib.ListN.{length, get_or, take, drop, length-append, length-drop, take-append-drop, drop_of_length-le}
@@ -36,10 +36,10 @@ few-without a m ids h = omega (arith, length_without a ids)
 -- ---- lanes
 
 -- a slot that names the lane, and one that does not
-freed-on : (a k : ℕ) (w : List ℕ) → slot_names a k w ≡ true → freed a (slot_at k w) ≡ none
+freed-on : (a k : ℕ) (w : List ℕ) → slot_names a k w ≡ true → freed a (slot_at k w) ≡ None
 freed-on a k w h = go (eqb (word k w) 0) (eqb (word k w) 1) h
   where
-    go : (x y : Bool) → (not x && eqb (word (suc k) w) a) ≡ true → freed a (cond x none (cond y (some (same (word (suc k) w))) (some (opposing (word (suc k) w))))) ≡ none
+    go : (x y : Bool) → (not x && eqb (word (suc k) w) a) ≡ true → freed a (cond x None (cond y (Some (same (word (suc k) w))) (Some (opposing (word (suc k) w))))) ≡ None
     go true y h = refl
     go false true h = rw h
     go false false h = rw h
@@ -48,7 +48,7 @@ freed-off : (a k : ℕ) (w : List ℕ) → slot_names a k w ≡ false → freed 
 freed-off a k w h = go (eqb (word k w) 0) (eqb (word k w) 1) h
   where
     go : (x y : Bool) → (not x && eqb (word (suc k) w) a) ≡ false
-        → freed a (cond x none (cond y (some (same (word (suc k) w))) (some (opposing (word (suc k) w))))) ≡ cond x none (cond y (some (same (word (suc k) w))) (some (opposing (word (suc k) w))))
+        → freed a (cond x None (cond y (Some (same (word (suc k) w))) (Some (opposing (word (suc k) w))))) ≡ cond x None (cond y (Some (same (word (suc k) w))) (Some (opposing (word (suc k) w))))
     go true y h = refl
     go false true h = rw h
     go false false h = rw h
@@ -115,16 +115,16 @@ module _ (a : ℕ) (c : List Float) (w : List ℕ) (l : length w ≡ 52) (f : la
   right = go (slot_names a 16 w) refl
     where
       go : (b : Bool) → slot_names a 16 w ≡ b → set_slot 16 (freed a (slot_at 16 w)) v ≡ free_at a 16 v
-      go true e = ap (λ s. set_slot 16 s v) (freed-on a 16 w e) ∙ ap (λ b. cond b (set_slot 16 none v) v) (sym (names-kept 16 (omega arith) ∙ e))
+      go true e = ap (λ s. set_slot 16 s v) (freed-on a 16 w e) ∙ ap (λ b. cond b (set_slot 16 None v) v) (sym (names-kept 16 (omega arith) ∙ e))
       go false e =
           ap (λ s. set_slot 16 s v) (freed-off a 16 w e ∙ sym (slot_kept 16 (omega arith)))
-          ∙ ((lane_row v long).own-right (lane-marks v formed) ∙ ap (λ b. cond b (set_slot 16 none v) v) (sym (names-kept 16 (omega arith) ∙ e)))
+          ∙ ((lane_row v long).own-right (lane-marks v formed) ∙ ap (λ b. cond b (set_slot 16 None v) v) (sym (names-kept 16 (omega arith) ∙ e)))
 
   -- the left slot, which the right one does not touch
-  left : (s : Option Neighbor) → set_slot 14 (freed a (slot_at 14 w)) (set_slot 16 s v) ≡ cond (slot_names a 14 w) (set_slot 14 none (set_slot 16 s v)) (set_slot 16 s v)
+  left : (s : Option Neighbor) → set_slot 14 (freed a (slot_at 14 w)) (set_slot 16 s v) ≡ cond (slot_names a 14 w) (set_slot 14 None (set_slot 16 s v)) (set_slot 16 s v)
   left s = go (slot_names a 14 w) refl
     where
-      go : (b : Bool) → slot_names a 14 w ≡ b → set_slot 14 (freed a (slot_at 14 w)) (set_slot 16 s v) ≡ cond b (set_slot 14 none (set_slot 16 s v)) (set_slot 16 s v)
+      go : (b : Bool) → slot_names a 14 w ≡ b → set_slot 14 (freed a (slot_at 14 w)) (set_slot 16 s v) ≡ cond b (set_slot 14 None (set_slot 16 s v)) (set_slot 16 s v)
       go true e = ap (λ x. set_slot 14 x (set_slot 16 s v)) (freed-on a 14 w e)
       go false e =
           ap (λ x. set_slot 14 x (set_slot 16 s v)) (freed-off a 14 w e ∙ sym (slot_kept 14 (omega arith)))
@@ -141,7 +141,7 @@ module _ (a : ℕ) (c : List Float) (w : List ℕ) (l : length w ≡ 52) (f : la
       let s = freed a (slot_at 16 w) in
       row
       ∙ (left s
-      ∙ (ap (λ b. cond b (set_slot 14 none (set_slot 16 s v)) (set_slot 16 s v)) (sym (names-right s))
+      ∙ (ap (λ b. cond b (set_slot 14 None (set_slot 16 s v)) (set_slot 16 s v)) (sym (names-right s))
       ∙ (ap (free_at a 14) right ∙ ap (λ x. free_at a 14 (free_at a 16 x)) (sym links_forgotten))))
     where
       row : lane_onto w (forgetting a (lane_of c w)) ≡ set_slot 14 (freed a (slot_at 14 w)) (set_slot 16 (freed a (slot_at 16 w)) v)
@@ -284,7 +284,7 @@ module _ (f g : List ℕ → List ℕ) (w : List ℕ) (l : length w ≡ 330) (r 
       content true x = refl
       content false x = refl
 
-      crosswalk : (b : Bool) (x : ℕ) → number_or x (cond b (some x) none) ≡ x
+      crosswalk : (b : Bool) (x : ℕ) → number_or x (cond b (Some x) None) ≡ x
       crosswalk true x = refl
       crosswalk false x = refl
 

@@ -101,14 +101,14 @@ all_are m n zero e = eq-eqb m n (omega arith)
 all_are m n (suc l) e = ne_eqb m n (λ f. omega arith) ∙ sym (ne_eqb (suc l) 0 (λ f. omega arith))
 
 module _ (w : List ℕ) (a : ℕ) (p : Bool) (pe : p ≡ rule_row_names a w) where
-  pub orphan-counted : p ≡ true → 6 + word 5 w ≤ length w → (m : ℕ) → m ≡ length (keep (eqb a) (take (word 5 w) (take (6 + word 5 w - 6) (drop 6 w))))
+  pub orphan-counted : p ≡ true → 6 + word 5 w ≤ length w → (m : ℕ) → m ≡ length (keep (eqb a) (take (6 + word 5 w - 6) (drop 6 w)))
       → eqb m (word 5 w) ≡ names_lane Orphans a w
   unfolding names_lane
   orphan-counted t room m e =
       let n = word 5 w in
       let y : rule_row_names a w ≡ true = sym pe ∙ t in
       let z : 6 + n - 6 ≡ n = omega arith in
-      let s : take n (take (6 + n - 6) (drop 6 w)) ≡ ids_at 5 w = ap (λ k. take n (take k (drop 6 w))) z ∙ take-take n n (drop 6 w) (omega arith) in
+      let s : take (6 + n - 6) (drop 6 w) ≡ ids_at 5 w = ap (λ k. take k (drop 6 w)) z in
       let l : length (ids_at 5 w) ≡ n = length-take-le n (drop 6 w) (rw length-drop (omega arith)) in
       let q : m ≡ length (keep (eqb a) (ids_at 5 w)) = e ∙ ap (λ x. length (keep (eqb a) x)) s in
       let b = keep-both a (ids_at 5 w) in

@@ -1,6 +1,5 @@
 -- Rows of a table that name a lane, in words: which they are, and what they become when it goes or reads as another. Nothing that a host calls rests on this page.
-use Rattle.std.specs.Prelude.{ℕ, suc, Bool, not, ◌&&◌, ◌||◌, cond, List, map, eqb, leb, length}
-use Rattle.std.proofs.Math.Option.{none}
+use Rattle.std.specs.Prelude.{ℕ, suc, Bool, not, ◌&&◌, ◌||◌, cond, List, map, eqb, leb, length, None}
 use Rattle.lists.specs.Select.{keep, has, without}
 use Rattle.rules.specs.Names.{EntityKind, LaneKind, RoadKind, JunctionKind, RuleKind}
 use Rattle.rules.specs.Merge.{replace_lane}
@@ -85,7 +84,7 @@ abbrev pub forget_at : ℕ → ℕ → List ℕ → List ℕ
 forget_at a k w = change_at (without a) k w
 
 abbrev pub free_at : ℕ → ℕ → List ℕ → List ℕ
-free_at a k w = cond (slot_names a k w) (set_slot k none w) w
+free_at a k w = cond (slot_names a k w) (set_slot k None w) w
 
 abbrev pub lane_forgets : ℕ → List ℕ → List ℕ
 lane_forgets a w = free_at a left_slot (free_at a right_slot (forget_at a predecessors_at (forget_at a successors_at w)))

@@ -121,7 +121,7 @@ fn orphaned(row: &[u64], id: u64) -> bool
         let n = row[RULE_LANES] as usize;
         let from = RULE_LANES + 1;
         let to = from + n;
-        return lists::count_of(&row[from..to], n, id) == n;
+        return lists::count_of(&row[from..to], id) == n;
     }
     false
 }
@@ -148,15 +148,13 @@ pub fn count(t: &[u64], rows: Rows, id: u64) -> usize
 {
     let s = row_words(rows);
     let n = t[0] as usize;
-    let mut i = 0;
     let mut count = 0;
-    while i < n {
+    for i in 0..n {
         let at = 1 + i * s;
         let end = at + s;
         if names_lane(&t[at..end], rows, id) {
             count += 1;
         }
-        i += 1;
     }
     count
 }
@@ -180,16 +178,14 @@ pub fn list(t: &[u64], rows: Rows, id: u64, out: &mut [u64], at: usize) -> usize
     ensures { (result ≡ at + length (N.naming rows id t.now)) × (out.new ≡ over out.old (at * 2) (each entity_words (refs (N.row_kind rows) (N.naming rows id t.now)))) }
 {
     let s = row_words(rows);
-    let kind = row_kind(rows).number();
+    let kind = u64::from(row_kind(rows));
     let n = t[0] as usize;
-    let mut i = 0;
     let mut place = at;
-    while i < n {
+    for i in 0..n {
         let row = 1 + i * s;
         let end = row + s;
         let on = names_lane(&t[row..end], rows, id);
         place = put_where(on, kind, t[row], out, place);
-        i += 1;
     }
     place
 }

@@ -1,10 +1,10 @@
 -- The change set of a merge, read from the rows. Assumes nothing.
+use Rattle.std.specs.Prelude.{Option, None, Some, Ok}
 use mathlib.Core.Path.{◌≡◌, refl, sym, ap, ◌∙◌}
 use Prim.Native.Nat.{ℕ, suc, ◌+◌}
 use native.Mathlib.Omega.{arith}
 use mathlib.Core.Bool.{Bool, true, false, not, ◌&&◌, ◌||◌, cond, true≢false}
 use mathlib.Core.List.{List, [], ◌∷◌, ◌++◌, map}
-use mathlib.Core.Option.{Option, none, some}
 use lib.Dec.{eqb}
 use Rattle.lists.specs.Every.{all}
 use Rattle.lists.specs.Select.{keep, has, ascending, same_numbers}
@@ -17,7 +17,7 @@ use Rattle.lists.proofs.Booleans.{and-fst}
 use Rattle.lookup.proofs.Laws.{sorted-ascends}
 use borrow.Author.Tests.{eq-eqb, eqb-true}
 use Rattle.rules.specs.Map.{lane, boundary, boundary_on, oriented_boundary, oriented_in, lanes_using_boundary, beside}
-use Rattle.rules.specs.Edit.{yield, refs, up_from, lanes_where, boundaries_where, when, warning}
+use Rattle.rules.specs.Edit.{refs, up_from, lanes_where, boundaries_where, when, warning}
 use Rattle.rules.specs.Lane.{mentions}
 use Rattle.rules.specs.Merge as M
 use Rattle.rules.specs.Merge.{SidePlan, kept, in_place, fresh, side_plan, joined_lines, plan_ids, plan_joins, plan_warning, merged}
@@ -66,7 +66,7 @@ new-up (fresh l) (fresh d) n = ap (λ k. n ∷ k ∷ []) (one_more n)
 -- ---- boundaries joined in place
 
 -- the first lane's boundary is there
-there : (tol : Tolerance) (m : Map) (side : Side) (l k : Lane) (c : Line) → side_plan tol m side l k ≡ yield (in_place c) → (x : Boundary) × (boundary m (boundary_on side l).boundary ≡ some x)
+there : (tol : Tolerance) (m : Map) (side : Side) (l k : Lane) (c : Line) → side_plan tol m side l k ≡ Ok (in_place c) → (x : Boundary) × (boundary m (boundary_on side l).boundary ≡ Some x)
 unfolding side_plan oriented_boundary
 there tol m side l k c h =
     go (eqb r.boundary s.boundary) (same_numbers (lanes_using_boundary m.lanes r.boundary) (l.id ∷ []) && same_numbers (lanes_using_boundary m.lanes s.boundary) (k.id ∷ []))
@@ -79,11 +79,11 @@ there tol m side l k c h =
     s = boundary_on side k
 
     go : (e alone : Bool) (o : Option Boundary) → boundary m r.boundary ≡ o
-        → cond e (yield kept) (joined_lines tol.join alone r.boundary s.boundary (oriented_in r o) (oriented_in s (boundary m s.boundary))) ≡ yield (in_place c)
-        → (x : Boundary) × (boundary m r.boundary ≡ some x)
+        → cond e (Ok kept) (joined_lines tol.join alone r.boundary s.boundary (oriented_in r o) (oriented_in s (boundary m s.boundary))) ≡ Ok (in_place c)
+        → (x : Boundary) × (boundary m r.boundary ≡ Some x)
     go true alone o u v = let y : ◌≡◌ {A = ℕ} 0 1 = cc in absurd (omega arith)
-    go false alone none u v = let y : ◌≡◌ {A = ℕ} 0 1 = cc in absurd (omega arith)
-    go false alone (some x) u v = (x, u)
+    go false alone None u v = let y : ◌≡◌ {A = ℕ} 0 1 = cc in absurd (omega arith)
+    go false alone (Some x) u v = (x, u)
 
 all_yes : {A : Type 0} (xs : List A) → all (λ x. true) xs ≡ true
 unfolding all
@@ -91,7 +91,7 @@ all_yes [] = refl
 all_yes (x ∷ xs) = all_yes xs
 
 -- it has a key of the table
-keyed : (m : Map) (i : ℕ) (x : Boundary) → ascending (map (λ b. b.id) m.boundaries) ≡ true → boundary m i ≡ some x → has i (map (λ b. b.id) m.boundaries) ≡ true
+keyed : (m : Map) (i : ℕ) (x : Boundary) → ascending (map (λ b. b.id) m.boundaries) ≡ true → boundary m i ≡ Some x → has i (map (λ b. b.id) m.boundaries) ≡ true
 unfolding boundary
 keyed m i x up e =
     ap (λ z. has i (map (λ b. b.id) z)) (sym (keep_all (λ (b : Boundary). true) m.boundaries (all_yes m.boundaries)))
@@ -199,7 +199,7 @@ module _ {tol : Tolerance} {counter : ℕ} {t : Tables} {one two i j : ℕ} {p :
   bounds-up : ascending (map (λ (x : Boundary). x.id) (view t).boundaries) ≡ true
   bounds-up = ap ascending (boundary-keys k) ∙ sorted-ascends 4096 5 t.boundaries (known k).boundaries
 
-  side-joins : (side : Side) (q : SidePlan) → side_plan tol (view t) side (a k) (b k) ≡ yield q → Joins (map (λ x. x.id) (view t).boundaries) q (boundary_on side (a k))
+  side-joins : (side : Side) (q : SidePlan) → side_plan tol (view t) side (a k) (b k) ≡ Ok q → Joins (map (λ x. x.id) (view t).boundaries) q (boundary_on side (a k))
   side-joins side kept e n h = absurd (true≢false (sym h))
   side-joins side (fresh l) e n h = absurd (true≢false (sym h))
   side-joins side (in_place l) e n h =

@@ -1,25 +1,23 @@
 -- What a merge decides by two rows is what merge-lanes decides on the whole map. Assumes nothing.
+use Rattle.std.specs.Prelude.{Some, Err, Ok}
 use mathlib.Core.Path.{◌≡◌, refl, sym, ◌∙◌}
 use Prim.Native.Nat.{ℕ}
 use native.Mathlib.Omega.{arith}
 use mathlib.Core.Bool.{Bool, true, false, not, ◌&&◌}
 use mathlib.Core.List.{List, [], ◌∷◌}
-use mathlib.Core.Option.{some}
 use lib.Dec.{eqb}
 use lib.Ieee.{Float}
 use Rattle.lists.specs.Select.{same_numbers}
-use Rattle.lists.specs.declared.Found.TheVariants.{At}
 use Rattle.entities.specs.Records.{Lane, Map}
 use Rattle.rules.specs.Names.{Side, Left, Right, Tolerance, Refusal, NotMergeable}
 use Rattle.rules.specs.Map.{lane, boundary, neighbor_on, oriented_boundary}
-use Rattle.rules.specs.Edit.{Res, refuse, yield, ◌>>=◌, check, Edited}
+use Rattle.rules.specs.Edit.{Res, ◌>>=◌, check, Edited}
 use Rattle.rules.specs.Merge.{SidePlan, side_plan, joined_center, conflict, merged, merge_lanes}
 use Rattle.tables.specs.View.{Tables, word, rows, lane_of, boundary_of, view}
 use Rattle.lookup.specs.Lookup.{place_of, count_of}
 use Rattle.lookup.proofs.Laws.{find_at, place-id}
 use Rattle.merge_plan.specs.Deciding.{lane_in, counted, follows, side_plan_in, center_plan, both_plans, plan_told, planned}
 use Rattle.merge_plan.specs.declared.Plan.{Plan}
-use Rattle.merge_plan.specs.declared.Planned.TheVariants as N
 
 -- ---- one side
 
@@ -48,10 +46,10 @@ module _ (c : List Float) (lanes : List ℕ) where
 pub record Plans (tol : Tolerance) (next one two : ℕ) (m : Map) (a b : Lane) (p : Plan) : Type 0 where
   pub left : SidePlan
   pub right : SidePlan
-  pub left-plan : side_plan tol m Left a b ≡ yield left
-  pub right-plan : side_plan tol m Right a b ≡ yield right
+  pub left-plan : side_plan tol m Left a b ≡ Ok left
+  pub right-plan : side_plan tol m Right a b ≡ Ok right
   pub told : p ≡ record { left = counted left; right = counted right; center = count_of (joined_center tol.join a.centerline b.centerline) }
-  pub made : merge_lanes tol next one two m ≡ yield (merged tol next m a b left right)
+  pub made : merge_lanes tol next one two m ≡ Ok (merged tol next m a b left right)
 
 lane-key : (c : List Float) (w : List ℕ) → (lane_of c w).id ≡ word 0 w
 unfolding lane_of
@@ -65,7 +63,7 @@ checked x y z r done = do
   ok3 ← check z r
   done
 
-checked-no : {A : Type 0} (x y z : Bool) (r : Refusal) (done : Res A) → (x && (y && z)) ≡ false → checked x y z r done ≡ refuse r
+checked-no : {A : Type 0} (x y z : Bool) (r : Refusal) (done : Res A) → (x && (y && z)) ≡ false → checked x y z r done ≡ Err r
 checked-no false y z r done e = refl
 checked-no true false z r done e = refl
 checked-no true true false r done e = refl
@@ -77,7 +75,7 @@ checked-yes false y z r done e = let y : ◌≡◌ {A = ℕ} 0 1 = cc in absurd 
 checked-yes true false z r done e = let y : ◌≡◌ {A = ℕ} 0 1 = cc in absurd (omega arith)
 checked-yes true true false r done e = let y : ◌≡◌ {A = ℕ} 0 1 = cc in absurd (omega arith)
 
-module _ (tol : Tolerance) (next one two : ℕ) (t : Tables) (i j : ℕ) (ei : place_of 52 t.lanes one ≡ At i) (ej : place_of 52 t.lanes two ≡ At j) where
+module _ (tol : Tolerance) (next one two : ℕ) (t : Tables) (i j : ℕ) (ei : place_of 52 t.lanes one ≡ Some i) (ej : place_of 52 t.lanes two ≡ Some j) where
   abbrev a : Lane
   a = lane_in t.coordinates t.lanes i
 
@@ -87,7 +85,7 @@ module _ (tol : Tolerance) (next one two : ℕ) (t : Tables) (i j : ℕ) (ei : p
   abbrev fit : Bool
   fit = follows (lane_in [] t.lanes i) (lane_in [] t.lanes j)
 
-  there : (n k : ℕ) → place_of 52 t.lanes n ≡ At k → lane (view t) n ≡ some (lane_in t.coordinates t.lanes k)
+  there : (n k : ℕ) → place_of 52 t.lanes n ≡ Some k → lane (view t) n ≡ Some (lane_in t.coordinates t.lanes k)
   unfolding lane view
   there n k e = find_at 52 (lane_of t.coordinates) (λ l. l.id) (lane-key t.coordinates) t.lanes n k e
 
@@ -97,7 +95,7 @@ module _ (tol : Tolerance) (next one two : ℕ) (t : Tables) (i j : ℕ) (ei : p
   view-side side = whole-side tol (view t) t.coordinates t.lanes t.boundaries refl refl side i j
 
   abbrev rest : Res Edited
-  rest = side_plan tol (view t) Left a b >>= λ pl. side_plan tol (view t) Right a b >>= λ pr. yield (merged tol next (view t) a b pl pr)
+  rest = side_plan tol (view t) Left a b >>= λ pl. side_plan tol (view t) Right a b >>= λ pr. Ok (merged tol next (view t) a b pl pr)
 
   abbrev tests : Bool
   tests = not (eqb one two) && (same_numbers a.successors (two ∷ []) && same_numbers b.predecessors (one ∷ []))
@@ -110,7 +108,7 @@ module _ (tol : Tolerance) (next one two : ℕ) (t : Tables) (i j : ℕ) (ei : p
   unfolding merge_lanes
   steps = rw (there one i ei, there two j ej)
 
-  pub merge-unfit : fit ≡ false → merge_lanes tol next one two (view t) ≡ refuse (NotMergeable one)
+  pub merge-unfit : fit ≡ false → merge_lanes tol next one two (view t) ≡ Err (NotMergeable one)
   merge-unfit f =
       steps ∙ checked-no (not (eqb one two)) (same_numbers a.successors (two ∷ [])) (same_numbers b.predecessors (one ∷ [])) (NotMergeable one) rest (sym fits-tests ∙ f)
 
@@ -119,23 +117,23 @@ module _ (tol : Tolerance) (next one two : ℕ) (t : Tables) (i j : ℕ) (ei : p
     goes_on =
         steps ∙ checked-yes (not (eqb one two)) (same_numbers a.successors (two ∷ [])) (same_numbers b.predecessors (one ∷ [])) (NotMergeable one) rest (sym fits-tests ∙ f)
 
-    pub merge-refused : (r : Refusal) → planned tol.join t.coordinates t.lanes t.boundaries i j ≡ N.Refused r → merge_lanes tol next one two (view t) ≡ refuse r
+    pub merge-refused : (r : Refusal) → planned tol.join t.coordinates t.lanes t.boundaries i j ≡ Err r → merge_lanes tol next one two (view t) ≡ Err r
     merge-refused r e = goes_on ∙ go (side_plan tol (view t) Left a b) (side_plan tol (view t) Right a b) (rw (view-side Left, view-side Right) e)
       where
-        go : (l s : Res SidePlan) → plan_told (count_of (center_plan tol.join t.coordinates t.lanes i j)) (both_plans l s) ≡ N.Refused r
-            → (l >>= λ pl. s >>= λ pr. yield (merged tol next (view t) a b pl pr)) ≡ refuse r
-        go (refuse x) s q = let y : x ≡ r = cc in rw y
-        go (yield p) (refuse x) q = let y : x ≡ r = cc in rw y
-        go (yield p) (yield x) q = let y : ◌≡◌ {A = ℕ} 0 1 = cc in absurd (omega arith)
+        go : (l s : Res SidePlan) → plan_told (count_of (center_plan tol.join t.coordinates t.lanes i j)) (both_plans l s) ≡ Err r
+            → (l >>= λ pl. s >>= λ pr. Ok (merged tol next (view t) a b pl pr)) ≡ Err r
+        go (Err x) s q = let y : x ≡ r = cc in rw y
+        go (Ok p) (Err x) q = let y : x ≡ r = cc in rw y
+        go (Ok p) (Ok x) q = let y : ◌≡◌ {A = ℕ} 0 1 = cc in absurd (omega arith)
 
-    pub merge-planned : (p : Plan) → planned tol.join t.coordinates t.lanes t.boundaries i j ≡ N.Merges p → Plans tol next one two (view t) a b p
+    pub merge-planned : (p : Plan) → planned tol.join t.coordinates t.lanes t.boundaries i j ≡ Ok p → Plans tol next one two (view t) a b p
     merge-planned p e = go (side_plan tol (view t) Left a b) (side_plan tol (view t) Right a b) refl refl (rw (view-side Left, view-side Right) e)
       where
         go : (l s : Res SidePlan) → side_plan tol (view t) Left a b ≡ l → side_plan tol (view t) Right a b ≡ s
-            → plan_told (count_of (center_plan tol.join t.coordinates t.lanes i j)) (both_plans l s) ≡ N.Merges p → Plans tol next one two (view t) a b p
-        go (refuse x) s u v q = let y : ◌≡◌ {A = ℕ} 0 1 = cc in absurd (omega arith)
-        go (yield x) (refuse s) u v q = let y : ◌≡◌ {A = ℕ} 0 1 = cc in absurd (omega arith)
-        go (yield x) (yield s) u v q = record {
+            → plan_told (count_of (center_plan tol.join t.coordinates t.lanes i j)) (both_plans l s) ≡ Ok p → Plans tol next one two (view t) a b p
+        go (Err x) s u v q = let y : ◌≡◌ {A = ℕ} 0 1 = cc in absurd (omega arith)
+        go (Ok x) (Err s) u v q = let y : ◌≡◌ {A = ℕ} 0 1 = cc in absurd (omega arith)
+        go (Ok x) (Ok s) u v q = record {
           left = x;
           right = s;
           left-plan = u;

@@ -10,9 +10,8 @@ ghost use Rattle.lookup.specs.Lookup as K;
 ghost use Rattle.merge_plan.specs.Deciding as P;
 
 use entities::{IssueCode, Refusal, Side};
-use lists::{Found, both};
-use lookup::OptionCount;
-use merge_plan::{Joined, Plan, Planned, SidePlanned};
+use lists::both;
+use merge_plan::{Joined, Plan};
 use report::Notice;
 use tables::{
     BOUNDARY, BOUNDARY_SIZE, LANE, LANE_CENTERLINE, LANE_CENTERLINE_SIZE, LANE_CENTERLINE_START,
@@ -50,48 +49,54 @@ pub fn side_plan(
     side: Side,
     boundaries: &[u64],
     coordinates: &[f64],
-) -> SidePlanned
+) -> Result<Joined, Refusal>
     requires { (K.Drawable lanes.now boundaries.now coordinates.now) × ((i < word 0 lanes.now) × (j < word 0 lanes.now)) }
     ensures { result ≡ P.side_told (P.side_plan_in join coordinates.now lanes.now boundaries.now i j side) }
 {
     let one = lookup::boundary_ref(lanes, i, side).boundary;
     let two = lookup::boundary_ref(lanes, j, side).boundary;
     if one == two {
-        return SidePlanned::Joins(Joined::Kept);
+        return Ok(Joined::Kept);
     }
     let found = lookup::boundary(boundaries, one);
-    let Found::At(x) = found else {
-        return SidePlanned::Refused(Refusal::BoundaryAbsent(one));
+    let Some(x) = found else {
+        return Err(Refusal::BoundaryAbsent(one));
     };
     let other = lookup::boundary(boundaries, two);
-    let Found::At(y) = other else {
-        return SidePlanned::Refused(Refusal::BoundaryAbsent(two));
+    let Some(y) = other else {
+        return Err(Refusal::BoundaryAbsent(two));
     };
     let points = joined_points(join, lanes, i, j, side, boundaries, x, y, coordinates);
     if merge_plan::alone(lanes, i, one, j, two) {
-        return SidePlanned::Joins(Joined::InPlace(points));
+        return Ok(Joined::InPlace(points));
     }
-    SidePlanned::Joins(Joined::Fresh(points))
+    Ok(Joined::Fresh(points))
 }
 
 // How many points two explicit centrelines have when they are joined, where both lanes have one.
-pub fn center_plan(join: f64, lanes: &[u64], i: usize, j: usize, coordinates: &[f64]) -> OptionCount
+pub fn center_plan(
+    join: f64,
+    lanes: &[u64],
+    i: usize,
+    j: usize,
+    coordinates: &[f64],
+) -> Option<usize>
     requires { (K.sorted_table 1024 52 lanes.now ≡ true) × ((K.centers_stored coordinates.now lanes.now ≡ true) × ((i < word 0 lanes.now) × (j < word 0 lanes.now))) }
     ensures { result ≡ K.count_of (P.center_plan join coordinates.now lanes.now i j) }
 {
     let a = 1 + i * LANE;
     let b = 1 + j * LANE;
     if lanes[a + LANE_CENTERLINE] == 0 {
-        return OptionCount::None;
+        return None;
     }
     if lanes[b + LANE_CENTERLINE] == 0 {
-        return OptionCount::None;
+        return None;
     }
     let end = polyline::last(lookup::line_of(lanes, a + LANE_CENTERLINE_START, coordinates));
     let start = polyline::first(lookup::line_of(lanes, b + LANE_CENTERLINE_START, coordinates));
     let one = lanes[a + LANE_CENTERLINE_SIZE] as usize;
     let two = lanes[b + LANE_CENTERLINE_SIZE] as usize;
-    OptionCount::Some(one + two - joins::meeting(join, end, start))
+    Some(one + two - joins::meeting(join, end, start))
 }
 
 pub fn decide(
@@ -101,24 +106,18 @@ pub fn decide(
     j: usize,
     boundaries: &[u64],
     coordinates: &[f64],
-) -> Planned
+) -> Result<Plan, Refusal>
     requires { (K.Drawable lanes.now boundaries.now coordinates.now) × ((i < word 0 lanes.now) × (j < word 0 lanes.now)) }
     ensures { result ≡ P.planned join coordinates.now lanes.now boundaries.now i j }
 {
-    let l = side_plan(join, lanes, i, j, Side::Left, boundaries, coordinates);
-    let r = side_plan(join, lanes, i, j, Side::Right, boundaries, coordinates);
+    let left = side_plan(join, lanes, i, j, Side::Left, boundaries, coordinates)?;
+    let right = side_plan(join, lanes, i, j, Side::Right, boundaries, coordinates)?;
     let center = center_plan(join, lanes, i, j, coordinates);
-    match l {
-        SidePlanned::Refused(refusal) => Planned::Refused(refusal),
-        SidePlanned::Joins(left) => match r {
-            SidePlanned::Refused(refusal) => Planned::Refused(refusal),
-            SidePlanned::Joins(right) => Planned::Merges(Plan {
-                left,
-                right,
-                center,
-            }),
-        },
-    }
+    Ok(Plan {
+        left,
+        right,
+        center,
+    })
 }
 
 // Whether kind, speed limit or turn of the lanes in rows i and j differ.

@@ -1,10 +1,10 @@
 -- A lane's row in a merge: its links, and what the first lane takes over. Assumes nothing.
+use Rattle.std.specs.Prelude.{Option, None, Some}
 use mathlib.Core.Path.{◌≡◌, refl, sym, ap, ◌∙◌}
 use Prim.Native.Nat.{ℕ, suc, ◌+◌, ◌≤◌, ◌<◌}
 use native.Mathlib.Omega.{arith}
 use mathlib.Core.Bool.{Bool, true, false, not, cond}
 use mathlib.Core.List.{List, [], ◌∷◌, ◌++◌}
-use mathlib.Core.Option.{none}
 use lib.Dec.{eqb}
 use lib.ListN.{length, get_or, set, take, drop, length-set, length-drop}
 use lib.Seq.{get_or-drop, drop-drop, length-take-le, drop_at}
@@ -23,6 +23,7 @@ use Rattle.store.proofs.LaneRow.{lane_row}
 use Rattle.store.proofs.Turns.{drop-behind}
 use Rattle.mentions.specs.Naming.{slot_names, free_at, forget_at, lane_forgets}
 use Rattle.mentions.proofs.Going.{lane-length, forget-length}
+use Rattle.merge_draw.specs.declared.DrawnLine.{DrawnLine}
 use Rattle.merge_draw.specs.declared.Taken.{Taken}
 use Rattle.merge_draw.specs.Redrawing.{Linked, comes_from, ref_onto, center_onto, takes_over, row_merged, LanesLinked}
 use Rattle.lookup.specs.Lookup.{row_at}
@@ -105,7 +106,7 @@ module _ (w : List ℕ) (a : ℕ) (f : (length w ≡ 52) × (lane_formed w ≡ t
   unfolding set_slot
   freed k x h e = go (slot_names a k x)
     where
-      go : (b : Bool) → (length (cond b (set_slot k none x) x) ≡ 52) × SameList 18 (cond b (set_slot k none x) x) x
+      go : (b : Bool) → (length (cond b (set_slot k None x) x) ≡ 52) × SameList 18 (cond b (set_slot k None x) x) x
       go true = (length_over x k (0 ∷ []) (omega arith) ∙ e, same-behind 18 (over x k (0 ∷ [])) x (drop-behind x k (0 ∷ []) 18 (omega arith) (omega arith)))
       go false = (e, (refl, refl))
 
@@ -161,70 +162,62 @@ place-few x ys up = go (has x ys) refl
 
 -- ---- what the first lane takes over
 
-module _ (w : List ℕ) (k id : ℕ) (h : k + 2 ≤ length w) where
-  pub ref-room : k + 1 < length (set w k id)
-  ref-room = omega (arith, length-set w k id)
+module _ (w : List ℕ) (k : ℕ) (h : k + 2 ≤ length w) where
+  pub ref-room : (id : ℕ) → k + 1 < length (set w k id)
+  ref-room id = omega (arith, length-set w k id)
 
-  module _ (on : Bool) where
-    pub ref-put : on ≡ true → set (set w k id) (k + 1) 0 ≡ ref_onto on k id w
-    ref-put t =
-        ap (λ v. set v (k + 1) 0) (store_at w k id (omega arith))
-        ∙ (store-behind w k (k + 1) (id ∷ []) 0 refl (omega arith) ∙ sym (ap (λ b. cond b (over w k (id ∷ 0 ∷ [])) w) t))
+  pub ref-put : (o : Option ℕ) (id : ℕ) → o ≡ Some id → set (set w k id) (k + 1) 0 ≡ ref_onto o k w
+  ref-put o id t =
+      ap (λ v. set v (k + 1) 0) (store_at w k id (omega arith)) ∙ (store-behind w k (k + 1) (id ∷ []) 0 refl (omega arith) ∙ sym (ap (λ z. ref_onto z k w) t))
 
-    pub ref-off : on ≡ false → w ≡ ref_onto on k id w
-    ref-off t = sym (ap (λ b. cond b (over w k (id ∷ 0 ∷ [])) w) t)
+  pub ref-off : (o : Option ℕ) → o ≡ None → w ≡ ref_onto o k w
+  ref-off o t = sym (ap (λ z. ref_onto z k w) t)
 
-    pub ref-long : length (ref_onto on k id w) ≡ length w
-    ref-long = go on
-      where
-        go : (b : Bool) → length (cond b (over w k (id ∷ 0 ∷ [])) w) ≡ length w
-        go true = length_over w k (id ∷ 0 ∷ []) (omega arith)
-        go false = refl
+  pub ref-long : (o : Option ℕ) → length (ref_onto o k w) ≡ length w
+  ref-long None = refl
+  ref-long (Some id) = length_over w k (id ∷ 0 ∷ []) (omega arith)
 
-module _ (w : List ℕ) (on : Bool) (start size : ℕ) (h : length w ≡ 52) where
-  pub center_put : on ≡ true → set (set (set w 6 1) 7 start) 8 size ≡ center_onto on start size w
-  center_put t =
-      ap (λ v. set (set v 7 start) 8 size) (store_at w 6 1 (omega arith))
-      ∙ (ap (λ v. set v 8 size) (store-behind w 6 7 (1 ∷ []) start refl (omega arith))
-      ∙ (store-behind w 6 8 (1 ∷ start ∷ []) size refl (omega arith) ∙ sym (ap (λ b. cond b (over w 6 (1 ∷ start ∷ size ∷ [])) (over w 6 (0 ∷ []))) t)))
+module _ (w : List ℕ) (h : length w ≡ 52) where
+  pub center_put : (o : Option DrawnLine) (l : DrawnLine) → o ≡ Some l → set (set (set w 6 1) 7 l.start) 8 l.size ≡ center_onto o w
+  center_put o l t =
+      ap (λ v. set (set v 7 l.start) 8 l.size) (store_at w 6 1 (omega arith))
+      ∙ (ap (λ v. set v 8 l.size) (store-behind w 6 7 (1 ∷ []) l.start refl (omega arith))
+      ∙ (store-behind w 6 8 (1 ∷ l.start ∷ []) l.size refl (omega arith) ∙ sym (ap (λ z. center_onto z w) t)))
 
-  pub center_off : on ≡ false → set w 6 0 ≡ center_onto on start size w
-  center_off t = store_at w 6 0 (omega arith) ∙ sym (ap (λ b. cond b (over w 6 (1 ∷ start ∷ size ∷ [])) (over w 6 (0 ∷ []))) t)
+  pub center_off : (o : Option DrawnLine) → o ≡ None → set w 6 0 ≡ center_onto o w
+  center_off o t = store_at w 6 0 (omega arith) ∙ sym (ap (λ z. center_onto z w) t)
 
-  pub center_long : length (center_onto on start size w) ≡ 52
-  center_long = go on
-    where
-      go : (b : Bool) → length (cond b (over w 6 (1 ∷ start ∷ size ∷ [])) (over w 6 (0 ∷ []))) ≡ 52
-      go true = length_over w 6 (1 ∷ start ∷ size ∷ []) (omega arith) ∙ h
-      go false = length_over w 6 (0 ∷ []) (omega arith) ∙ h
+  pub center_long : (o : Option DrawnLine) → length (center_onto o w) ≡ 52
+  center_long None = length_over w 6 (0 ∷ []) (omega arith) ∙ h
+  center_long (Some l) = length_over w 6 (1 ∷ l.start ∷ l.size ∷ []) (omega arith) ∙ h
 
 -- ---- the whole row, store by store
 
 module _ (w : List ℕ) (k : Taken) (ids : List ℕ) (h : length w ≡ 52) (few : length ids ≤ 16) where
-  module _ (a : List ℕ) (p : a ≡ ref_onto k.left 2 k.boundary w) where
+  module _ (a : List ℕ) (p : a ≡ ref_onto k.left 2 w) where
     pub left-long : length a ≡ 52
-    left-long = ap length p ∙ (ref-long w 2 k.boundary (omega arith) k.left ∙ h)
+    left-long = ap length p ∙ (ref-long w 2 (omega arith) k.left ∙ h)
 
-    module _ (b : List ℕ) (q : b ≡ ref_onto k.right 4 k.other a) where
+    module _ (b : List ℕ) (q : b ≡ ref_onto k.right 4 a) where
       pub right-long : length b ≡ 52
-      right-long = ap length q ∙ (ref-long a 4 k.other (omega (arith, left-long)) k.right ∙ left-long)
+      right-long = ap length q ∙ (ref-long a 4 (omega (arith, left-long)) k.right ∙ left-long)
 
-      module _ (c : List ℕ) (r : c ≡ center_onto k.center k.start k.size b) where
+      module _ (c : List ℕ) (r : c ≡ center_onto k.center b) where
         pub centered-long : length c ≡ 52
-        centered-long = ap length r ∙ center_long b k.center k.start k.size right-long
+        centered-long = ap length r ∙ center_long b right-long k.center
 
         pub list-fits : 36 + length ids ≤ length c
         list-fits = omega (arith, centered-long)
 
         pub taken-over : (d : List ℕ) → d ≡ set_list 35 ids c → d ≡ takes_over k ids w
-        taken-over d z = z ∙ ap (set_list 35 ids) (r ∙ ap (center_onto k.center k.start k.size) (q ∙ ap (ref_onto k.right 4 k.other) p))
+        taken-over d z = z ∙ ap (set_list 35 ids) (r ∙ ap (center_onto k.center) (q ∙ ap (ref_onto k.right 4) p))
 
   pub taken-long : length (takes_over k ids w) ≡ 52
   unfolding set_list
   taken-long =
-      let a = ref_onto k.left 2 k.boundary w in
-      let b = ref_onto k.right 4 k.other a in
-      let c = center_onto k.center k.start k.size b in
+      let a = ref_onto k.left 2 w in
+      let b = ref_onto k.right 4 a in
+      let c = center_onto k.center b in
       let l : length c ≡ 52 = centered-long a refl b refl c refl in
       length_over c 35 (length ids ∷ ids) (omega arith) ∙ l
 

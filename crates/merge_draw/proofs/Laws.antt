@@ -1,8 +1,8 @@
 -- Lines joined in a merge: what is read back from where it was written. Assumes nothing.
+use Rattle.std.specs.Prelude.{Option, None, Some}
 use mathlib.Core.Path.{◌≡◌, refl, sym, ap, ◌∙◌}
 use mathlib.Core.Bool.{Bool, true, false, not, cond}
 use mathlib.Core.List.{List, [], reverse}
-use mathlib.Core.Option.{Option, none, some}
 use Prim.Native.Nat.{ℕ, ◌+◌, ◌*◌, ◌≤◌, ◌<◌}
 use native.Mathlib.Omega.{arith}
 use lib.Ieee.{Float}
@@ -20,12 +20,11 @@ use Rattle.tables.specs.Formed.{stored}
 use Rattle.lookup.specs.Lookup.{row_at, count_of, points_or, centers_stored}
 use Rattle.lookup.proofs.Laws.{word_in, next_in}
 use Rattle.lookup.proofs.Center.{center_stored, center_short}
-use Rattle.lookup.specs.declared.OptionCount.{OptionCount}
 use Rattle.merge_draw.specs.Redrawing.{count_in, stored_line}
 
 count-points : (o : Option Line) → count_in (count_of o) ≡ length (points_or o)
-count-points none = refl
-count-points (some l) = refl
+count-points None = refl
+count-points (Some l) = refl
 
 -- ---- a line that was written to the front of an array
 
@@ -42,7 +41,7 @@ module _ (w v : List Float) (ps : Line) (n : ℕ) (e : v ≡ over w 0 (flat ps))
 -- ---- a side's line
 
 module _ (o : Option Line) (w v : List Float) (few : length (points_or o) ≤ 256) (room : 768 ≤ length w) (e : v ≡ over w 0 (flat (points_or o)))
-    (r : OptionCount) (c : r ≡ count_of o) (n : ℕ) (k : n ≡ count_in r) where
+    (r : Option ℕ) (c : r ≡ count_of o) (n : ℕ) (k : n ≡ count_in r) where
   pub side-count : n ≡ length (points_or o)
   side-count = k ∙ (ap count_in c ∙ count-points o)
 

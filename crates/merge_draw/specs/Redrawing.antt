@@ -1,5 +1,5 @@
 -- What a merge writes to the tables with lines, in words. Nothing that a host calls rests on this page; the laws in proofs/ tie it to `laid` and the rules.
-use Rattle.std.specs.Prelude.{ℕ, ◌<◌, ◌≤◌, ◌≡◌, Bool, true, cond, List, [], ◌∷◌, reverse, eqb, length, Float}
+use Rattle.std.specs.Prelude.{ℕ, ◌<◌, ◌≤◌, ◌≡◌, Bool, true, cond, List, [], ◌∷◌, reverse, eqb, length, Float, Option, None, Some, unwrap_or}
 use Rattle.lists.specs.Rows.{over}
 use Rattle.polyline.specs.Polyline.{concat}
 use Rattle.entities.specs.Records.{Line}
@@ -10,18 +10,16 @@ use Rattle.tables.specs.Formed.{counted, lane_formed}
 use Rattle.mentions.specs.Naming.{lane_forgets}
 use Rattle.lookup.specs.Lookup.{row_at, points_or, sorted_table, side_line, centers_stored, Drawable}
 use Rattle.store.specs.Rows.{keyed, set_list}
+use Rattle.merge_draw.specs.declared.DrawnLine.{DrawnLine}
 use Rattle.merge_draw.specs.declared.Taken.{Taken}
-use Rattle.lookup.specs.declared.OptionCount.{OptionCount}
-use Rattle.lookup.specs.declared.OptionCount.TheVariants.{None, Some}
 use Rattle.tables.specs.Columns.{lane_centerline, lane_centerline_start, lane_left, lane_words, predecessors_at, row_count, row_id, successors_at}
 use Rattle.rules.specs.Limits.{max_lanes}
 
 -- ---- lines
 
 -- how many points are counted
-abbrev pub count_in : OptionCount → ℕ
-count_in None = 0
-count_in (Some n) = n
+abbrev pub count_in : Option ℕ → ℕ
+count_in found = unwrap_or found 0
 
 -- the lines of two lanes' boundaries on a side along the lanes, joined; the lanes are in rows i and j
 abbrev pub joined_side : Float → List Float → List ℕ → List ℕ → ℕ → ℕ → Side → Line
@@ -77,17 +75,18 @@ abbrev pub comes_from : ℕ → ℕ → List ℕ → List ℕ
 comes_from first second w = let f = lane_forgets second w in cond (has second (ids_at predecessors_at w)) (set_list predecessors_at (place first (ids_at predecessors_at f)) f) f
 
 -- a reference to a new boundary, which is forward
-abbrev pub ref_onto : Bool → ℕ → ℕ → List ℕ → List ℕ
-ref_onto on k id w = cond on (over w k (id ∷ 0 ∷ [])) w
+abbrev pub ref_onto : Option ℕ → ℕ → List ℕ → List ℕ
+ref_onto None k w = w
+ref_onto (Some id) k w = over w k (id ∷ 0 ∷ [])
 
 -- an explicit centreline; one that is dropped leaves its words
-abbrev pub center_onto : Bool → ℕ → ℕ → List ℕ → List ℕ
-center_onto on start size w = cond on (over w lane_centerline (1 ∷ start ∷ size ∷ [])) (over w lane_centerline (0 ∷ []))
+abbrev pub center_onto : Option DrawnLine → List ℕ → List ℕ
+center_onto None w = over w lane_centerline (0 ∷ [])
+center_onto (Some l) w = over w lane_centerline (1 ∷ l.start ∷ l.size ∷ [])
 
 -- the first takes the new boundaries, the joined centreline and the second's successors
 abbrev pub takes_over : Taken → List ℕ → List ℕ → List ℕ
-takes_over k succ w =
-    set_list successors_at succ (center_onto k.center k.start k.size (ref_onto k.right 4 k.other (ref_onto k.left 2 k.boundary w)))
+takes_over k succ w = set_list successors_at succ (center_onto k.center (ref_onto k.right 4 (ref_onto k.left 2 w)))
 
 -- a lane's row after the merge
 abbrev pub row_merged : ℕ → ℕ → Taken → List ℕ → List ℕ → List ℕ

@@ -8,7 +8,6 @@ ghost use Rattle.polyline.specs.Polyline.{flat};
 ghost use Rattle.merge_draw.specs.Redrawing as D;
 
 use entities::Side;
-use lookup::OptionCount;
 use tables::{LANE, LANE_CENTERLINE, POINT};
 
 // Floats in the longest line, of 256 points, and in two of them joined.
@@ -16,30 +15,22 @@ const LINE_FLOATS: usize = 768;
 
 const JOINED_FLOATS: usize = 1536;
 
-// What the first lane takes over, each where there is one: a new boundary on the left and another on the right, and the joined centreline, which lies at a
-// point of the work array.
+// A line in the work array: where it begins, in points, and how many it has.
 #[derive(Clone, Copy)]
-pub struct Taken {
-    pub left: bool,
-    pub boundary: u64,
-    pub right: bool,
-    pub other: u64,
-    pub center: bool,
+pub struct DrawnLine {
     pub start: usize,
     pub size: usize,
 }
 
-// ---- lines
-
-// A line that is missing has no points.
-fn points(found: OptionCount) -> usize
-    ensures { result ≡ D.count_in found }
-{
-    match found {
-        OptionCount::None => 0,
-        OptionCount::Some(n) => n,
-    }
+// What the first lane takes over, each where there is one: a new boundary on the left and another on the right, by their ids, and the joined centreline.
+#[derive(Clone, Copy)]
+pub struct Taken {
+    pub left: Option<u64>,
+    pub right: Option<u64>,
+    pub center: Option<DrawnLine>,
 }
+
+// ---- lines
 
 // The lines of two lanes' boundaries on a side, joined, and backwards where asked; `one`, `two` and `line` are arrays of work.
 fn join_in(
@@ -59,8 +50,12 @@ fn join_in(
     requires { (D.Joinable lanes.now boundaries.now i j coordinates.now out.old) × ((768 ≤ length one.old) × ((768 ≤ length two.old) × (1536 ≤ length line.old))) }
     ensures { (result ≡ length (D.joined_side join coordinates.now lanes.now boundaries.now i j side)) × (out.new ≡ over out.old 0 (flat (D.stored_line back (D.joined_side join coordinates.now lanes.now boundaries.now i j side)))) }
 {
-    let n = points(lane_lines::oriented_boundary(lanes, i, side, boundaries, coordinates, one));
-    let m = points(lane_lines::oriented_boundary(lanes, j, side, boundaries, coordinates, two));
+    let n = lane_lines::oriented_boundary(lanes, i, side, boundaries, coordinates, one).unwrap_or(
+        0,
+    );
+    let m = lane_lines::oriented_boundary(lanes, j, side, boundaries, coordinates, two).unwrap_or(
+        0,
+    );
     let one_end = n * POINT;
     let two_end = m * POINT;
     let size = joins::concat(join, &one[..one_end], &two[..two_end], line);

@@ -1,4 +1,5 @@
 -- The boundaries that a merge leaves unused: each of the two lanes' four put in its place, if it goes. Assumes nothing.
+use Rattle.std.specs.Prelude.{Option, None, Some}
 use mathlib.Core.Path.{◌≡◌, refl, sym, ap, ◌∙◌}
 use mathlib.Core.Bool.{Bool, true, false, not, cond, ◌&&◌, ◌||◌, or_assoc, or_comm, and-or_distrib_right}
 use mathlib.Core.List.{List, []}
@@ -10,8 +11,6 @@ use lib.Seq.{length-take-le, drop-drop}
 use borrow.Author.Tests.{eqb-true, eq-eqb}
 use Rattle.lists.specs.Rows.{keys, over}
 use Rattle.lists.specs.Select.{keep, has, place, ascending}
-use Rattle.lists.specs.declared.Found.{Found}
-use Rattle.lists.specs.declared.Found.TheVariants.{At, Nothing}
 use Rattle.lists.proofs.Booleans.{same_test}
 use Rattle.lists.proofs.Place.{place-present, length-place}
 use Rattle.lists.proofs.Rows.{there as is_at, found-has, over-nil, over-itself, length_over, take-over, drop-over}
@@ -30,15 +29,15 @@ both-rows {lanes} {i} {j} h = (sorted-row 1024 52 lanes h.lanes_are_sorted i h.f
 
 -- ---- a boundary that goes, as it is asked
 
-module _ (lanes : List ℕ) (i j : ℕ) (l r : Joined) (boundaries : List ℕ) (b : ℕ) (f : Found) (found : f ≡ place_of 5 boundaries b) where
+module _ (lanes : List ℕ) (i j : ℕ) (l r : Joined) (boundaries : List ℕ) (b : ℕ) (f : Option ℕ) (found : f ≡ place_of 5 boundaries b) where
   present : there boundaries b ≡ is_at f
   unfolding place_of
   present = found-has b (keys 5 (word 0 boundaries) (drop 1 boundaries)) ∙ ap is_at (sym found)
 
-  pub goes-missing : f ≡ Nothing → false ≡ goes lanes i j l r boundaries b
+  pub goes-missing : f ≡ None → false ≡ goes lanes i j l r boundaries b
   goes-missing e = sym (ap (λ z. z && idle lanes i j l r b) (present ∙ ap is_at e))
 
-  pub goes-there : (k : ℕ) → f ≡ At k → (h u e : Bool) → h ≡ held lanes i l r b → u ≡ used_outside lanes b (get_or lanes (1 + i * 52) 0) (get_or lanes (1 + j * 52) 0) → e ≡ (h || u)
+  pub goes-there : (k : ℕ) → f ≡ Some k → (h u e : Bool) → h ≡ held lanes i l r b → u ≡ used_outside lanes b (get_or lanes (1 + i * 52) 0) (get_or lanes (1 + j * 52) 0) → e ≡ (h || u)
       → not e ≡ goes lanes i j l r boundaries b
   goes-there k t h u e p q s =
       let z : 0 < 52 = omega arith in

@@ -1,4 +1,5 @@
 -- How much a row or a side counts at most: a joined line has at most 512 points, any other at most 256. Assumes nothing.
+use Rattle.std.specs.Prelude.{Option}
 use mathlib.Core.Path.{◌≡◌}
 use mathlib.Core.Bool.{Bool, true, false, not, cond, ◌||◌}
 use mathlib.Core.List.{List}
@@ -9,7 +10,6 @@ use borrow.Author.Tests.{leb-true}
 use Rattle.lists.specs.Select.{has}
 use Rattle.tables.specs.View.{word, mark}
 use Rattle.lookup.specs.Lookup.{row_at, all_short}
-use Rattle.lookup.specs.declared.OptionCount.{OptionCount}
 use Rattle.lookup.proofs.Laws.{row-passes}
 use Rattle.merge_plan.specs.declared.Joined.{Joined}
 use Rattle.merge_plan.specs.declared.Joined.TheVariants.{Kept, InPlace, Fresh}
@@ -31,7 +31,7 @@ boundary-few gone s t h l r i k =
     go n g false false true = l
     go n g false false false = omega arith
 
-pub center_few : (first second : ℕ) (center : OptionCount) (t : List ℕ) → centers_short t ≡ true → center_points center ≤ 512 → (i : ℕ) → i < word 0 t
+pub center_few : (first second : ℕ) (center : Option ℕ) (t : List ℕ) → centers_short t ≡ true → center_points center ≤ 512 → (i : ℕ) → i < word 0 t
     → center_after first second center (row_at 52 t i) ≤ 512
 unfolding centers_short
 center_few first second center t h m i k =

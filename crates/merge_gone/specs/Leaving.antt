@@ -1,6 +1,6 @@
 -- What a merge leaves, in numbers: the boundaries that go, and whether the finished map has room. Nothing that a host calls rests on this page; the laws of
 -- merge_limits tie it to the rules.
-use Rattle.std.specs.Prelude.{ℕ, ◌+◌, ◌-◌, ◌≤◌, ◌<◌, ◌≡◌, Bool, true, false, not, ◌&&◌, ◌||◌, cond, List, eqb, leb, Float, length, drop}
+use Rattle.std.specs.Prelude.{ℕ, ◌+◌, ◌-◌, ◌≤◌, ◌<◌, ◌≡◌, Bool, true, false, not, ◌&&◌, ◌||◌, cond, List, eqb, leb, Float, length, drop, Option}
 use Rattle.lists.specs.Every.{all}
 use Rattle.lists.specs.Rows.{keys}
 use Rattle.lists.specs.Select.{keep, has, place}
@@ -10,7 +10,6 @@ use Rattle.rules.specs.Sound.{total}
 use Rattle.tables.specs.View.{word, mark, rows}
 use Rattle.tables.specs.Columns.{boundary_size, boundary_start, boundary_words, crosswalk_left_start, crosswalk_right_start, crosswalk_words, lane_centerline, lane_centerline_size, lane_words, row_count, row_id, stop_line_start, stop_line_words}
 use Rattle.lookup.specs.Lookup.{row_at, row_uses, used_outside, sorted_table, all_short}
-use Rattle.lookup.specs.declared.OptionCount.{OptionCount}
 use Rattle.merge_plan.specs.declared.Joined.{Joined}
 use Rattle.merge_plan.specs.declared.Joined.TheVariants.{Kept, InPlace, Fresh}
 use Rattle.merge_plan.specs.declared.Plan.{Plan}
@@ -83,16 +82,16 @@ new_points (InPlace n) = 0
 new_points (Fresh n) = n
 
 -- of a lane's explicit centreline: the second lane goes, the first has the joined one, where there is one
-abbrev pub center_after : ℕ → ℕ → OptionCount → List ℕ → ℕ
+abbrev pub center_after : ℕ → ℕ → Option ℕ → List ℕ → ℕ
 center_after first second center w =
     cond (eqb (word row_id w) second) 0
     (cond (eqb (word row_id w) first) (center_points center) (cond (mark lane_centerline w) (word lane_centerline_size w) 0))
 
-unfoldable pub lane_points : ℕ → ℕ → OptionCount → List ℕ → ℕ
+unfoldable pub lane_points : ℕ → ℕ → Option ℕ → List ℕ → ℕ
 lane_points first second center t = total (rows lane_words (center_after first second center) t)
 
 -- all of them
-unfoldable pub points_after : List ℕ → ℕ → ℕ → List ℕ → List ℕ → List ℕ → Sides → OptionCount → List ℕ → ℕ
+unfoldable pub points_after : List ℕ → ℕ → ℕ → List ℕ → List ℕ → List ℕ → Sides → Option ℕ → List ℕ → ℕ
 points_after lanes i j boundaries stops crosswalks s center gone =
     boundary_points gone s boundaries
     + (new_points s.left + new_points s.right)
@@ -107,7 +106,7 @@ abbrev pub overdrawn : Sides → Bool
 overdrawn s = joins s.left s.left_id s.right_id && joins s.right s.right_id s.right_id
 
 -- "256 points a line", of the lines that are drawn
-abbrev pub lines_fit : Sides → OptionCount → Bool
+abbrev pub lines_fit : Sides → Option ℕ → Bool
 lines_fit s center = (overdrawn s || leb (side_points s.left) max_line_points) && leb (side_points s.right) max_line_points && leb (center_points center) max_line_points
 
 abbrev pub boundaries_after : List ℕ → Plan → List ℕ → ℕ
@@ -124,7 +123,7 @@ unfoldable pub centers_short : List ℕ → Bool
 centers_short t = all (λ b. b) (rows lane_words (λ w. not (mark lane_centerline w) || leb (word lane_centerline_size w) max_line_points) t)
 
 -- what counting points asks: tables in order, lines of at most 256 points, joined ones of at most 512
-pub record Counting (lanes : List ℕ) (i j : ℕ) (boundaries stops crosswalks : List ℕ) (s : Sides) (center : OptionCount) : Type 0 where
+pub record Counting (lanes : List ℕ) (i j : ℕ) (boundaries stops crosswalks : List ℕ) (s : Sides) (center : Option ℕ) : Type 0 where
   pub leaving : Leaving lanes i j boundaries
   pub boundaries_short : all_short boundary_words boundary_start boundaries ≡ true
   pub centers_are_short : centers_short lanes ≡ true

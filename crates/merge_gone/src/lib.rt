@@ -9,7 +9,7 @@ ghost use Rattle.lookup.specs.Lookup as K;
 ghost use Rattle.merge_gone.specs.Leaving as R;
 
 use entities::Side;
-use lists::{Found, both};
+use lists::both;
 use merge_plan::{Joined, is_fresh};
 use tables::LANE;
 
@@ -57,7 +57,7 @@ fn goes(
     ensures { result ≡ R.goes lanes.now i j left right boundaries.now id }
 {
     let found = lookup::boundary(boundaries, id);
-    let Found::At(_) = found else {
+    let Some(_) = found else {
         return false;
     };
     let first = lanes[1 + i * LANE];

@@ -1,10 +1,10 @@
 -- The table of boundaries that a merge leaves is the merged map's boundaries written over it, each with where its line starts. Assumes nothing.
+use Rattle.std.specs.Prelude.{Option, None, Some}
 use mathlib.Core.Path.{◌≡◌, refl, sym, ap, ◌∙◌}
 use Prim.Native.Nat.{ℕ, ◌+◌, ◌*◌, ◌≤◌}
 use native.Mathlib.Omega.{arith}
 use mathlib.Core.Bool.{Bool, true, false, not, cond}
 use mathlib.Core.List.{List, [], ◌∷◌, ◌++◌, map, map-append, reverse}
-use mathlib.Core.Option.{Option, none, some}
 use lib.Dec.{eqb}
 use lib.Ieee.{Float}
 use lib.ListN.{length, take, drop, length-map, length-drop, length-reverse}
@@ -12,8 +12,6 @@ use lib.Seq.{drop-cons}
 use Rattle.lists.specs.Every.{all}
 use Rattle.lists.specs.Rows.{over, keys}
 use Rattle.lists.specs.Select.{keep, find, has}
-use Rattle.lists.specs.declared.Found.{Found}
-use Rattle.lists.specs.declared.Found.TheVariants.{At, Nothing}
 use Rattle.lists.proofs.Rows.{take-before-over, drop-over, get_d_over-before}
 use Rattle.lists.proofs.Select.{all_map, map-twice, map-itself}
 use Rattle.entities.specs.declared.BoundaryRef.{BoundaryRef}
@@ -169,20 +167,20 @@ new_start m p id r start = map (λ b. (start, b)) (new_boundary m p id r)
 
 module _ (c : List Float) (m : Map) (t : List ℕ) (eb : m.boundaries ≡ rows 5 (boundary_of c) t) where
   -- the boundary that is found, in words
-  found-words : (i : ℕ) (x : Boundary) → boundary m i ≡ some x → (x.kind ≡ word 1 (row_found t (place_of 5 t i))) × (x.attributes ≡ word 4 (row_found t (place_of 5 t i)))
+  found-words : (i : ℕ) (x : Boundary) → boundary m i ≡ Some x → (x.kind ≡ word 1 (row_found t (place_of 5 t i))) × (x.attributes ≡ word 4 (row_found t (place_of 5 t i)))
   unfolding boundary boundary_of
   found-words i x e = go (place_of 5 t i) refl
     where
-      there : find (λ b. eqb b.id i) (rows 5 (boundary_of c) t) ≡ some x
+      there : find (λ b. eqb b.id i) (rows 5 (boundary_of c) t) ≡ Some x
       there = ap (find (λ b. eqb b.id i)) (sym eb) ∙ e
 
-      go : (f : Found) → place_of 5 t i ≡ f → (x.kind ≡ word 1 (row_found t f)) × (x.attributes ≡ word 4 (row_found t f))
-      go (At j) p =
-          let f : ◌≡◌ {A = Option Boundary} (some x) (some (boundary_of c (row_at 5 t j))) = sym there ∙ find_at 5 (boundary_of c) (λ b. b.id) (λ w. refl) t i j p in
+      go : (f : Option ℕ) → place_of 5 t i ≡ f → (x.kind ≡ word 1 (row_found t f)) × (x.attributes ≡ word 4 (row_found t f))
+      go (Some j) p =
+          let f : ◌≡◌ {A = Option Boundary} (Some x) (Some (boundary_of c (row_at 5 t j))) = sym there ∙ find_at 5 (boundary_of c) (λ b. b.id) (λ w. refl) t i j p in
           let y : x ≡ boundary_of c (row_at 5 t j) = cc in
           (ap (λ b. b.kind) y, ap (λ b. b.attributes) y)
-      go Nothing p =
-          let f : ◌≡◌ {A = Option Boundary} (some x) none = sym there ∙ find_none 5 (boundary_of c) (λ b. b.id) (λ w. refl) t i p in
+      go None p =
+          let f : ◌≡◌ {A = Option Boundary} (Some x) None = sym there ∙ find_none 5 (boundary_of c) (λ b. b.id) (λ w. refl) t i p in
           let z : ◌≡◌ {A = ℕ} 0 1 = cc in
           absurd (omega arith)
 
@@ -193,7 +191,7 @@ module _ (c : List Float) (m : Map) (t : List ℕ) (eb : m.boundaries ≡ rows 5
   added_is (in_place l) id start r f v held = appended-none 5 boundary_laid v held
   added_is (fresh l) id start r f v held =
       let x = f.1.0 in
-      let e : boundary m r.boundary ≡ some x = f.1.1 in
+      let e : boundary m r.boundary ≡ Some x = f.1.1 in
       let w = row_found t (place_of 5 t r.boundary) in
       let k = found-words r.boundary x e in
       ap (λ z. appended_rows 5 boundary_laid (map (λ b. (start, b)) z) v) (new-one m id r l x e)

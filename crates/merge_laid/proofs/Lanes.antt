@@ -1,9 +1,9 @@
 -- The table of lanes that a merge leaves is the merged lanes written over it, each with where its centreline starts. Assumes nothing.
+use Rattle.std.specs.Prelude.{Some}
 use mathlib.Core.Path.{◌≡◌, refl, sym, ap, ◌∙◌}
 use Prim.Native.Nat.{ℕ, ◌≤◌}
 use mathlib.Core.Bool.{Bool, true, false, not, ◌&&◌, ◌||◌, true≢false}
 use mathlib.Core.List.{List, [], ◌∷◌, map}
-use mathlib.Core.Option.{some}
 use lib.Dec.{eqb}
 use lib.Ieee.{Float}
 use lib.ListN.{length}
@@ -49,7 +49,7 @@ all-of-none p q h [] e = refl
 all-of-none p q h (x ∷ xs) e = let (a, b) = neither (p x) (any p xs) e in and_both (q x) (all q xs) (h x a) (all-of-none p q h xs b)
 
 -- keys ascend: the one with a key passes a test
-pub all_one : {A : Type 0} (key : A → ℕ) (i : ℕ) (q : A → Bool) (xs : List A) (x : A) → ascending (map key xs) ≡ true → find (λ y. eqb (key y) i) xs ≡ some x → q x ≡ true
+pub all_one : {A : Type 0} (key : A → ℕ) (i : ℕ) (q : A → Bool) (xs : List A) (x : A) → ascending (map key xs) ≡ true → find (λ y. eqb (key y) i) xs ≡ Some x → q x ≡ true
     → all (λ y. not (eqb (key y) i) || q y) xs ≡ true
 all_one {A} key i q xs x up e h =
     all-of-none (λ y. eqb (key y) i && not (q y)) (λ y. not (eqb (key y) i) || q y) (λ y. go (eqb (key y) i) (q y)) xs

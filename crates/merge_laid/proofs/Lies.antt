@@ -1,10 +1,10 @@
 -- The lines of a merged map lie where its rows point, in the coordinates and the drawn lines behind them. Assumes nothing.
+use Rattle.std.specs.Prelude.{Option, None, Some}
 use mathlib.Core.Path.{◌≡◌, refl, sym, ◌∙◌, subst}
 use Prim.Native.Nat.{ℕ, ◌+◌, ◌*◌, ◌/◌, ◌≤◌}
 use native.Mathlib.Omega.{arith}
 use mathlib.Core.Bool.{Bool, true, false, not, cond}
 use mathlib.Core.List.{List, [], ◌∷◌, ◌++◌, map}
-use mathlib.Core.Option.{Option, none, some}
 use lib.Dec.{eqb}
 use lib.Ieee.{Float}
 use lib.ListN.{length, take}
@@ -69,10 +69,10 @@ module _ (c work : List Float) (reach : ℕ) (few : reach ≤ length c / 3) (beg
       at = center_at (plan_of tol a b pl pr) reach
 
       joined : (o : Option Line) → LineIn work at (points_or o) → EachOf (LineIn work at) (optional_line o)
-      joined none h = refl
-      joined (some l) h = (h, refl)
+      joined None h = refl
+      joined (Some l) h = (h, refl)
 
-      own : (x : Bool) → all (within reach) (cond x (span_at 7 w ∷ []) []) ≡ true → EachOf (LineIn work (word 7 w)) (optional_line (cond x (some (line_at c 7 w)) none))
+      own : (x : Bool) → all (within reach) (cond x (span_at 7 w ∷ []) []) ≡ true → EachOf (LineIn work (word 7 w)) (optional_line (cond x (Some (line_at c 7 w)) None))
       own true h = (line-lies c work reach few begins 7 w (all_head (within reach) (span_at 7 w) [] h), refl)
       own false h = refl
 

@@ -1,11 +1,11 @@
 -- The coordinates, and behind them the lines that a merge draws: they begin as the coordinates do, and the joined lines lie where rows point. Assumes nothing.
+use Rattle.std.specs.Prelude.{Option, None, Some, Ok, is_some}
 use mathlib.Core.Path.{◌≡◌, refl, sym, ap, ◌∙◌, subst}
 use Prim.{Unit, tt}
 use Prim.Native.Nat.{ℕ, ◌+◌, ◌*◌, ◌≤◌, ◌<◌}
 use native.Mathlib.Omega.{arith}
 use mathlib.Core.Bool.{Bool, true, false, not, ◌&&◌, ◌||◌, cond, true≢false}
 use mathlib.Core.List.{List, [], ◌∷◌, ◌++◌, reverse, append_assoc}
-use mathlib.Core.Option.{Option, none, some}
 use lib.Dec.{eqb, leb}
 use lib.Ieee.{Float}
 use lib.ListN.{length, take, length-reverse}
@@ -23,7 +23,6 @@ use Rattle.entities.specs.declared.Refusal.TheVariants as R
 use Rattle.entities.specs.Records.{Line, Lane, Map}
 use Rattle.rules.specs.Names.{Side, Left, Right, Tolerance}
 use Rattle.rules.specs.Map.{boundary_on, oriented_boundary, lanes_using_boundary}
-use Rattle.rules.specs.Edit.{yield}
 use Rattle.rules.specs.Merge.{SidePlan, kept, in_place, fresh, joined, joined_lines, side_plan, plan_line, joined_center}
 use Rattle.tables.specs.View.{word, mark, rows, line_at, lane_of, boundary_of}
 use Rattle.tables.specs.Formed.{span_at, stored}
@@ -40,7 +39,7 @@ use Rattle.lookup.proofs.Center.{oriented-few}
 use Rattle.merge_plan.specs.Deciding.{counted, lane_in}
 use Rattle.merge_plan.specs.declared.Plan.{Plan}
 use Rattle.merge_draw.specs.Redrawing.{joined_side, stored_line}
-use Rattle.merge_redraw.specs.Relaying.{side_points, side_floats, side_drawn, center_drawn, is_some, right_at, center_at, drawn_lines}
+use Rattle.merge_redraw.specs.Relaying.{side_points, side_floats, side_drawn, center_drawn, right_at, center_at, drawn_lines}
 use Rattle.merge_laid.proofs.Rows.{plan_of}
 
 -- ---- lines drawn one after another, behind a copy
@@ -137,16 +136,16 @@ module _ (p : SidePlan) (r : BoundaryRef) where
         go (fresh c) e = omega (arith, ap length e)
 
 -- a plan's line is made of both lanes' boundaries
-joined_line : (join : Float) (alone : Bool) (ra rb : ℕ) (oa ob : Option Line) (p : SidePlan) → joined_lines join alone ra rb oa ob ≡ yield p → PlanLine p (concat join (points_or oa) (points_or ob))
-joined_line join alone ra rb none ob p h = absurd (no-yield (R.BoundaryAbsent ra) p h)
-joined_line join alone ra rb (some x) none p h = absurd (no-yield (R.BoundaryAbsent rb) p h)
-joined_line join alone ra rb (some x) (some y) p h = subst (λ q. PlanLine q (concat join x y)) (yields h) (go alone)
+joined_line : (join : Float) (alone : Bool) (ra rb : ℕ) (oa ob : Option Line) (p : SidePlan) → joined_lines join alone ra rb oa ob ≡ Ok p → PlanLine p (concat join (points_or oa) (points_or ob))
+joined_line join alone ra rb None ob p h = absurd (no-yield (R.BoundaryAbsent ra) p h)
+joined_line join alone ra rb (Some x) None p h = absurd (no-yield (R.BoundaryAbsent rb) p h)
+joined_line join alone ra rb (Some x) (Some y) p h = subst (λ q. PlanLine q (concat join x y)) (yields h) (go alone)
   where
     go : (b : Bool) → PlanLine (joined b (concat join x y)) (concat join x y)
     go true = refl
     go false = refl
 
-plan-line : (tol : Tolerance) (m : Map) (side : Side) (a b : Lane) (p : SidePlan) → side_plan tol m side a b ≡ yield p
+plan-line : (tol : Tolerance) (m : Map) (side : Side) (a b : Lane) (p : SidePlan) → side_plan tol m side a b ≡ Ok p
     → PlanLine p (concat tol.join (points_or (oriented_boundary m side a)) (points_or (oriented_boundary m side b)))
 unfolding side_plan
 plan-line tol m side a b p h =
@@ -154,7 +153,7 @@ plan-line tol m side a b p h =
     (same_numbers (lanes_using_boundary m.lanes (boundary_on side a).boundary) (a.id ∷ []) && same_numbers (lanes_using_boundary m.lanes (boundary_on side b).boundary) (b.id ∷ [])) h
   where
     go : (same alone : Bool)
-        → cond same (yield kept) (joined_lines tol.join alone (boundary_on side a).boundary (boundary_on side b).boundary (oriented_boundary m side a) (oriented_boundary m side b)) ≡ yield p
+        → cond same (Ok kept) (joined_lines tol.join alone (boundary_on side a).boundary (boundary_on side b).boundary (oriented_boundary m side a) (oriented_boundary m side b)) ≡ Ok p
         → PlanLine p (concat tol.join (points_or (oriented_boundary m side a)) (points_or (oriented_boundary m side b)))
     go true alone h = subst (λ q. PlanLine q (concat tol.join (points_or (oriented_boundary m side a)) (points_or (oriented_boundary m side b)))) (yields h) tt
     go false alone h = joined_line tol.join alone (boundary_on side a).boundary (boundary_on side b).boundary (oriented_boundary m side a) (oriented_boundary m side b) p h
@@ -167,7 +166,7 @@ module _ (join : Float) (c : List Float) (lanes : List ℕ) (i j : ℕ) where
 
   -- as both rows' marks say
   abbrev marked_joint : Bool → Bool → Option Line
-  marked_joint x y = joined_center join (cond x (some (line_at c 7 (row_at 52 lanes i))) none) (cond y (some (line_at c 7 (row_at 52 lanes j))) none)
+  marked_joint x y = joined_center join (cond x (Some (line_at c 7 (row_at 52 lanes i))) None) (cond y (Some (line_at c 7 (row_at 52 lanes j))) None)
 
   center_floats : center_drawn join c lanes i j (count_of joint) ≡ flat (points_or joint)
   unfolding lane_of
@@ -227,7 +226,7 @@ behind reach c d l r m p h =
     rw (sourced-over reach c right m (center_at p 0 * 3) h, sourced-over reach c left r (right_at p 0 * 3) h, sourced-over reach c d l 0 h, e, f, g)
 
 module _ (tol : Tolerance) (c : List Float) (lanes boundaries : List ℕ) (m : Map) (eb : m.boundaries ≡ rows 5 (boundary_of c) boundaries) (i j : ℕ) (pl pr : SidePlan)
-    (el : side_plan tol m Left (lane_in c lanes i) (lane_in c lanes j) ≡ yield pl) (er : side_plan tol m Right (lane_in c lanes i) (lane_in c lanes j) ≡ yield pr) where
+    (el : side_plan tol m Left (lane_in c lanes i) (lane_in c lanes j) ≡ Ok pl) (er : side_plan tol m Right (lane_in c lanes i) (lane_in c lanes j) ≡ Ok pr) where
   abbrev a : Lane
   a = lane_in c lanes i
 
@@ -243,7 +242,7 @@ module _ (tol : Tolerance) (c : List Float) (lanes boundaries : List ℕ) (m : M
   abbrev center_line : Line
   center_line = points_or (joined_center tol.join a.centerline b.centerline)
 
-  side-line : (side : Side) (p : SidePlan) → side_plan tol m side a b ≡ yield p → PlanLine p (joined_side tol.join c lanes boundaries i j side)
+  side-line : (side : Side) (p : SidePlan) → side_plan tol m side a b ≡ Ok p → PlanLine p (joined_side tol.join c lanes boundaries i j side)
   side-line side p e =
       subst (PlanLine p) (ap (λ o. concat tol.join (points_or o) (points_or (oriented_boundary m side b))) (oriented-drawn c boundaries m side a eb)
       ∙ ap (λ o. concat tol.join (points_or (oriented_boundary (drawn c boundaries) side a)) (points_or o)) (oriented-drawn c boundaries m side b eb)) (plan-line tol m side a b p e)

@@ -1,10 +1,10 @@
 -- What is known where a merge is written: of the lent tables, both lanes, their plans, the boundaries that go and the room. Assumes nothing.
+use Rattle.std.specs.Prelude.{Some}
 use mathlib.Core.Path.{◌≡◌, refl, sym, ap, ◌∙◌}
 use Prim.Native.Nat.{ℕ, ◌+◌, ◌*◌, ◌/◌, ◌^◌, ◌≤◌, ◌<◌, min}
 use native.Mathlib.Omega.{arith}
 use mathlib.Core.Bool.{true, not, ◌&&◌, ◌||◌}
 use mathlib.Core.List.{List, [], ◌∷◌, ◌++◌, map}
-use mathlib.Core.Option.{some}
 use lib.Dec.{eqb, leb}
 use lib.Ieee.{Float}
 use lib.ListN.{length, drop, length-map, length-append, length-drop}
@@ -12,7 +12,6 @@ use borrow.Author.Tests.{leb-true}
 use Rattle.lists.specs.Every.{all}
 use Rattle.lists.specs.Rows.{keys}
 use Rattle.lists.specs.Select.{keep, has, ascending, same_numbers}
-use Rattle.lists.specs.declared.Found.TheVariants.{At}
 use Rattle.lists.proofs.Booleans.{and-fst}
 use Rattle.entities.specs.Records.{Lane, Boundary, Map}
 use Rattle.rules.specs.Names.{Tolerance}
@@ -55,8 +54,8 @@ use Rattle.merge_laid.proofs.Planning as P
 pub record Merging (tol : Tolerance) (counter : ℕ) (t : Tables) (one two i j : ℕ) (p : Plan) (reach : ℕ) (gone : List ℕ) : Type 0 where
   pub sane : sound_tables counter t ≡ true
   pub small : counter < 2 ^ 64
-  pub first : place_of 52 t.lanes one ≡ At i
-  pub second : place_of 52 t.lanes two ≡ At j
+  pub first : place_of 52 t.lanes one ≡ Some i
+  pub second : place_of 52 t.lanes two ≡ Some j
   pub follow : follows (lane_in [] t.lanes i) (lane_in [] t.lanes j) ≡ true
   pub plans : Plans tol (next_id counter) one two (view t) (lane_in t.coordinates t.lanes i) (lane_in t.coordinates t.lanes j) p
   pub ids : leb (counter_after counter (plan_ids plans.left + plan_ids plans.right)) last_counter ≡ true
@@ -110,7 +109,7 @@ module _ {tol : Tolerance} {counter : ℕ} {t : Tables} {one two i j : ℕ} {p :
   pub here-second : j < word 0 t.lanes
   here-second = P.here-second planning
 
-  pub found : lane (view t) a.id ≡ some a
+  pub found : lane (view t) a.id ≡ Some a
   found = P.found planning
 
   pub leads : same_numbers a.successors (b.id ∷ []) ≡ true

@@ -1,10 +1,10 @@
 -- What is known where a merge is decided: of the lent tables, both lanes and their plans, before the boundaries that go and the room. Assumes nothing.
+use Rattle.std.specs.Prelude.{Some}
 use mathlib.Core.Path.{◌≡◌, refl, sym, ap, ◌∙◌}
 use Prim.Native.Nat.{ℕ, ◌+◌, ◌^◌, ◌≤◌, ◌<◌}
 use native.Mathlib.Omega.{arith}
 use mathlib.Core.Bool.{Bool, true, false, not, ◌&&◌, cond, true≢false}
 use mathlib.Core.List.{List, [], ◌∷◌, ◌++◌, map}
-use mathlib.Core.Option.{some}
 use lib.Dec.{eqb, leb}
 use lib.Ieee.{Float}
 use lib.ListN.{length, drop, length-map, length-append, length-take}
@@ -12,7 +12,6 @@ use borrow.Author.Tests.{leb-true, eqb-true}
 use Rattle.lists.specs.Every.{all}
 use Rattle.lists.specs.Rows.{keys}
 use Rattle.lists.specs.Select.{keep, any, find, has, ascending, same_numbers}
-use Rattle.lists.specs.declared.Found.TheVariants.{At}
 use Rattle.lists.proofs.Booleans.{and-fst, and-snd}
 use Rattle.lists.proofs.Select.{all-numbers, has-keep, keep-map, keep_same}
 use Rattle.entities.specs.Records.{Lane, Boundary, Map}
@@ -50,8 +49,8 @@ use Rattle.merge_decide.proofs.Whole.{Plans}
 pub record Planning (tol : Tolerance) (counter : ℕ) (t : Tables) (one two i j : ℕ) (p : Plan) : Type 0 where
   pub sane : sound_tables counter t ≡ true
   pub small : counter < 2 ^ 64
-  pub first : place_of 52 t.lanes one ≡ At i
-  pub second : place_of 52 t.lanes two ≡ At j
+  pub first : place_of 52 t.lanes one ≡ Some i
+  pub second : place_of 52 t.lanes two ≡ Some j
   pub follow : follows (lane_in [] t.lanes i) (lane_in [] t.lanes j) ≡ true
   pub plans : Plans tol (next_id counter) one two (view t) (lane_in t.coordinates t.lanes i) (lane_in t.coordinates t.lanes j) p
 
@@ -96,7 +95,7 @@ module _ {tol : Tolerance} {counter : ℕ} {t : Tables} {one two i j : ℕ} {p :
   here-second = place-within 52 t.lanes two j k.second
 
   -- the first lane is found by its id
-  pub found : lane (view t) a.id ≡ some a
+  pub found : lane (view t) a.id ≡ Some a
   unfolding lane view lane_of
   found =
       let e : word 0 (row_at 52 t.lanes i) ≡ one = place-id 52 t.lanes one i k.first in

@@ -1,10 +1,10 @@
 -- A lane's row in a merge: the merged lane, written over the row with where its centreline starts, is the row that the code leaves. Assumes nothing.
+use Rattle.std.specs.Prelude.{Option, None, Some}
 use mathlib.Core.Path.{◌≡◌, refl, sym, ap, ◌∙◌}
 use Prim.Native.Nat.{ℕ, suc, ◌+◌, ◌≤◌, ◌<◌}
 use native.Mathlib.Omega.{arith}
 use mathlib.Core.Bool.{Bool, true, false, not, cond, ◌||◌, true≢false}
 use mathlib.Core.List.{List, [], ◌∷◌, ◌++◌}
-use mathlib.Core.Option.{Option, none, some}
 use lib.Dec.{eqb}
 use lib.Ieee.{Float}
 use lib.ListN.{length, length-append}
@@ -39,7 +39,7 @@ use Rattle.merge_plan.specs.declared.Plan.{Plan}
 use Rattle.merge_draw.specs.declared.Taken.{Taken}
 use Rattle.merge_draw.specs.Redrawing.{comes_from, ref_onto, center_onto, takes_over, row_merged}
 use Rattle.merge_draw.proofs.Lanes.{merged-long}
-use Rattle.merge_redraw.specs.Relaying.{is_fresh, is_some, center_points, side_ids, center_at, taken_of}
+use Rattle.merge_redraw.specs.Relaying.{fresh_id, center_line, side_ids, center_at, taken_of}
 
 -- the plan of a merge, with counts in place of lines
 abbrev pub plan_of : Tolerance → Lane → Lane → SidePlan → SidePlan → Plan
@@ -81,14 +81,14 @@ place-longer x ys up = go (has x ys) refl
 
 -- a joined centreline, or none
 center_taken : (y0 y1 y2 y3 y4 y5 y6 y7 y8 y9 y10 y11 y12 y13 y14 y15 y16 y17 : ℕ) (rest : List ℕ) (at : ℕ) (o : Option Line)
-    → center_onto (is_some (count_of o)) at (center_points (count_of o)) (lane18 y0 y1 y2 y3 y4 y5 y6 y7 y8 y9 y10 y11 y12 y13 y14 y15 y16 y17 rest) ≡ lane18 y0 y1 y2 y3 y4 y5 (present o) (start_or y7 at o) (size_or y8 o) y9 y10 y11 y12 y13 y14 y15 y16 y17 rest
+    → center_onto (center_line (count_of o) at) (lane18 y0 y1 y2 y3 y4 y5 y6 y7 y8 y9 y10 y11 y12 y13 y14 y15 y16 y17 rest) ≡ lane18 y0 y1 y2 y3 y4 y5 (present o) (start_or y7 at o) (size_or y8 o) y9 y10 y11 y12 y13 y14 y15 y16 y17 rest
 unfolding over
-center_taken y0 y1 y2 y3 y4 y5 y6 y7 y8 y9 y10 y11 y12 y13 y14 y15 y16 y17 rest at none = refl
-center_taken y0 y1 y2 y3 y4 y5 y6 y7 y8 y9 y10 y11 y12 y13 y14 y15 y16 y17 rest at (some l) = refl
+center_taken y0 y1 y2 y3 y4 y5 y6 y7 y8 y9 y10 y11 y12 y13 y14 y15 y16 y17 rest at None = refl
+center_taken y0 y1 y2 y3 y4 y5 y6 y7 y8 y9 y10 y11 y12 y13 y14 y15 y16 y17 rest at (Some l) = refl
 
 -- a side's reference: the lane's own, or a new boundary's
 left-taken : (y0 y1 y2 y3 y4 y5 y6 y7 y8 y9 y10 y11 y12 y13 y14 y15 y16 y17 : ℕ) (rest : List ℕ) (id : ℕ) (p : SidePlan) → flag (not (eqb y3 0)) ≡ y3
-    → ref_onto (is_fresh (counted p)) 2 id (lane18 y0 y1 y2 y3 y4 y5 y6 y7 y8 y9 y10 y11 y12 y13 y14 y15 y16 y17 rest)
+    → ref_onto (fresh_id (counted p) id) 2 (lane18 y0 y1 y2 y3 y4 y5 y6 y7 y8 y9 y10 y11 y12 y13 y14 y15 y16 y17 rest)
     ≡ lane18 y0 y1 (plan_ref p id (record { boundary = y2; reversed = not (eqb y3 0) })).boundary (flag (plan_ref p id (record { boundary = y2; reversed = not (eqb y3 0) })).reversed) y4 y5 y6 y7 y8 y9 y10 y11 y12 y13 y14 y15 y16 y17 rest
 unfolding over
 left-taken y0 y1 y2 y3 y4 y5 y6 y7 y8 y9 y10 y11 y12 y13 y14 y15 y16 y17 rest id kept h = ap (λ z. lane18 y0 y1 y2 z y4 y5 y6 y7 y8 y9 y10 y11 y12 y13 y14 y15 y16 y17 rest) (sym h)
@@ -96,7 +96,7 @@ left-taken y0 y1 y2 y3 y4 y5 y6 y7 y8 y9 y10 y11 y12 y13 y14 y15 y16 y17 rest id
 left-taken y0 y1 y2 y3 y4 y5 y6 y7 y8 y9 y10 y11 y12 y13 y14 y15 y16 y17 rest id (fresh l) h = refl
 
 right-taken : (y0 y1 y2 y3 y4 y5 y6 y7 y8 y9 y10 y11 y12 y13 y14 y15 y16 y17 : ℕ) (rest : List ℕ) (id : ℕ) (p : SidePlan) → flag (not (eqb y5 0)) ≡ y5
-    → ref_onto (is_fresh (counted p)) 4 id (lane18 y0 y1 y2 y3 y4 y5 y6 y7 y8 y9 y10 y11 y12 y13 y14 y15 y16 y17 rest)
+    → ref_onto (fresh_id (counted p) id) 4 (lane18 y0 y1 y2 y3 y4 y5 y6 y7 y8 y9 y10 y11 y12 y13 y14 y15 y16 y17 rest)
     ≡ lane18 y0 y1 y2 y3 (plan_ref p id (record { boundary = y4; reversed = not (eqb y5 0) })).boundary (flag (plan_ref p id (record { boundary = y4; reversed = not (eqb y5 0) })).reversed) y6 y7 y8 y9 y10 y11 y12 y13 y14 y15 y16 y17 rest
 unfolding over
 right-taken y0 y1 y2 y3 y4 y5 y6 y7 y8 y9 y10 y11 y12 y13 y14 y15 y16 y17 rest id kept h = ap (λ z. lane18 y0 y1 y2 y3 y4 z y6 y7 y8 y9 y10 y11 y12 y13 y14 y15 y16 y17 rest) (sym h)
@@ -180,6 +180,9 @@ module _ (x0 x1 x2 x3 x4 x5 x6 x7 x8 x9 x10 x11 x12 x13 x14 x15 x16 x17 n m : �
       abbrev taken : Taken
       taken = taken_of (plan_of tol a b pl pr) next reach
 
+      abbrev start : ℕ
+      start = center_at (plan_of tol a b pl pr) reach
+
       -- the lane after a merge; `z` says whether it takes over
       abbrev linked : Bool → Lane
       linked z =
@@ -195,10 +198,10 @@ module _ (x0 x1 x2 x3 x4 x5 x6 x7 x8 x9 x10 x11 x12 x13 x14 x15 x16 x17 n m : �
           let h = own_line x0 x1 x2 x3 x4 x5 x6 x7 x8 x9 x10 x11 x12 x13 x14 x15 x16 x17 n m ps ss lp ls c f (mark 6 row) o in
           laid-row x0 x1 x2 x3 x4 x5 x6 x7 x8 x9 x10 x11 x12 x13 x14 x15 x16 x17 n m ps ss lp ls x7 (after false) ∙ (rw (own3 x0 x1 x2 x3 x4 x5 x6 x7 x8 x9 x10 x11 x12 x13 x14 x15 x16 x17 n m ps ss lp ls c f, own5 x0 x1 x2 x3 x4 x5 x6 x7 x8 x9 x10 x11 x12 x13 x14 x15 x16 x17 n m ps ss lp ls c f, own6 x0 x1 x2 x3 x4 x5 x6 x7 x8 x9 x10 x11 x12 x13 x14 x15 x16 x17 n m ps ss lp ls c f, own9 x0 x1 x2 x3 x4 x5 x6 x7 x8 x9 x10 x11 x12 x13 x14 x15 x16 x17 n m ps ss lp ls c f, own10 x0 x1 x2 x3 x4 x5 x6 x7 x8 x9 x10 x11 x12 x13 x14 x15 x16 x17 n m ps ss lp ls c f, own11 x0 x1 x2 x3 x4 x5 x6 x7 x8 x9 x10 x11 x12 x13 x14 x15 x16 x17 n m ps ss lp ls c f, h.0, h.1) (sym (links a.id b.id up)))
 
-      taker : x0 ≡ a.id → lane_laid row (taken.start, after true) ≡ takes_over taken b.successors (comes_from a.id b.id row)
+      taker : x0 ≡ a.id → lane_laid row (start, after true) ≡ takes_over taken b.successors (comes_from a.id b.id row)
       unfolding lane_of
       taker e =
-          laid-row x0 x1 x2 x3 x4 x5 x6 x7 x8 x9 x10 x11 x12 x13 x14 x15 x16 x17 n m ps ss lp ls taken.start (after true) ∙ (rw (own9 x0 x1 x2 x3 x4 x5 x6 x7 x8 x9 x10 x11 x12 x13 x14 x15 x16 x17 n m ps ss lp ls c f, own10 x0 x1 x2 x3 x4 x5 x6 x7 x8 x9 x10 x11 x12 x13 x14 x15 x16 x17 n m ps ss lp ls c f, own11 x0 x1 x2 x3 x4 x5 x6 x7 x8 x9 x10 x11 x12 x13 x14 x15 x16 x17 n m ps ss lp ls c f) (sym takes))
+          laid-row x0 x1 x2 x3 x4 x5 x6 x7 x8 x9 x10 x11 x12 x13 x14 x15 x16 x17 n m ps ss lp ls start (after true) ∙ (rw (own9 x0 x1 x2 x3 x4 x5 x6 x7 x8 x9 x10 x11 x12 x13 x14 x15 x16 x17 n m ps ss lp ls c f, own10 x0 x1 x2 x3 x4 x5 x6 x7 x8 x9 x10 x11 x12 x13 x14 x15 x16 x17 n m ps ss lp ls c f, own11 x0 x1 x2 x3 x4 x5 x6 x7 x8 x9 x10 x11 x12 x13 x14 x15 x16 x17 n m ps ss lp ls c f) (sym takes))
         where
           qs : List ℕ
           qs = q a.id b.id up
@@ -211,21 +214,21 @@ module _ (x0 x1 x2 x3 x4 x5 x6 x7 x8 x9 x10 x11 x12 x13 x14 x15 x16 x17 n m : �
 
           takes : takes_over taken b.successors (comes_from a.id b.id row)
               ≡ lane18 x0 x1 (plan_ref pl next (ref_at 2 row)).boundary (flag (plan_ref pl next (ref_at 2 row)).reversed) (plan_ref pr (next + plan_ids pl) (ref_at 4 row)).boundary
-              (flag (plan_ref pr (next + plan_ids pl) (ref_at 4 row)).reversed) (present center) (start_or x7 taken.start center) (size_or x8 center) x9 x10 x11 x12 x13
+              (flag (plan_ref pr (next + plan_ids pl) (ref_at 4 row)).reversed) (present center) (start_or x7 start center) (size_or x8 center) x9 x10 x11 x12 x13
               (slot_mark (freed b.id (slot_at 14 row))) (slot_lane x15 (freed b.id (slot_at 14 row))) (slot_mark (freed b.id (slot_at 16 row))) (slot_lane x17 (freed b.id (slot_at 16 row)))
               (ids_onto ps qs ++ ids_onto ss b.successors)
           takes =
               ap (takes_over taken b.successors) (links a.id b.id up ∙ ap (λ z. relinks a.id b.id up (ids_onto ps qs ++ z)) empty)
-              ∙ (ap (λ z. set_list 35 b.successors (center_onto taken.center taken.start taken.size (ref_onto taken.right 4 taken.other z))) (left-taken _ _ _ _ _ _ _ _ _ _ _ _ _ _ _ _ _ _ _ next pl (own3 x0 x1 x2 x3 x4 x5 x6 x7 x8 x9 x10 x11 x12 x13 x14 x15 x16 x17 n m ps ss lp ls c f))
-              ∙ (ap (λ z. set_list 35 b.successors (center_onto taken.center taken.start taken.size z)) (right-taken _ _ _ _ _ _ _ _ _ _ _ _ _ _ _ _ _ _ _ taken.other pr (own5 x0 x1 x2 x3 x4 x5 x6 x7 x8 x9 x10 x11 x12 x13 x14 x15 x16 x17 n m ps ss lp ls c f))
-              ∙ (ap (set_list 35 b.successors) (center_taken _ _ _ _ _ _ _ _ _ _ _ _ _ _ _ _ _ _ _ taken.start center)
+              ∙ (ap (λ z. set_list 35 b.successors (center_onto taken.center (ref_onto taken.right 4 z))) (left-taken _ _ _ _ _ _ _ _ _ _ _ _ _ _ _ _ _ _ _ next pl (own3 x0 x1 x2 x3 x4 x5 x6 x7 x8 x9 x10 x11 x12 x13 x14 x15 x16 x17 n m ps ss lp ls c f))
+              ∙ (ap (λ z. set_list 35 b.successors (center_onto taken.center z)) (right-taken _ _ _ _ _ _ _ _ _ _ _ _ _ _ _ _ _ _ _ (next + side_ids (counted pl)) pr (own5 x0 x1 x2 x3 x4 x5 x6 x7 x8 x9 x10 x11 x12 x13 x14 x15 x16 x17 n m ps ss lp ls c f))
+              ∙ (ap (set_list 35 b.successors) (center_taken _ _ _ _ _ _ _ _ _ _ _ _ _ _ _ _ _ _ _ start center)
               ∙ rw (side-ids pl) (after-set _ _ _ _ _ _ _ _ _ _ _ _ _ _ _ _ _ _ (ids_onto ps qs) ss b.successors 0 (onto-length ps qs 16 lp few_before') ls few))))
 
-      pub plain-merged : lane_laid row (cond (eqb x0 a.id) taken.start x7, after_merge tol next a b pl pr (lane_of c row)) ≡ row_merged a.id b.id taken b.successors row
+      pub plain-merged : lane_laid row (cond (eqb x0 a.id) start x7, after_merge tol next a b pl pr (lane_of c row)) ≡ row_merged a.id b.id taken b.successors row
       unfolding lane_of
       plain-merged = go (eqb x0 a.id) refl
         where
-          go : (z : Bool) → eqb x0 a.id ≡ z → lane_laid row (cond z taken.start x7, after z) ≡ cond z (takes_over taken b.successors (comes_from a.id b.id row)) (comes_from a.id b.id row)
+          go : (z : Bool) → eqb x0 a.id ≡ z → lane_laid row (cond z start x7, after z) ≡ cond z (takes_over taken b.successors (comes_from a.id b.id row)) (comes_from a.id b.id row)
           go true e = taker (eqb-true x0 a.id e)
           go false e = other
 

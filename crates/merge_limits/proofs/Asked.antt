@@ -1,9 +1,9 @@
 -- What the code that decides a merge in numbers asks of sound tables. Assumes nothing.
+use Rattle.std.specs.Prelude.{Option, None, Some}
 use mathlib.Core.Path.{◌≡◌, refl, sym, subst}
 use Prim.Native.Nat.{ℕ, ◌≤◌}
 use mathlib.Core.Bool.{Bool, true, false, not, ◌&&◌, ◌||◌}
 use mathlib.Core.List.{List}
-use mathlib.Core.Option.{Option, none, some}
 use lib.Dec.{leb}
 use lib.Ieee.{Float}
 use lib.ListN.{length}
@@ -32,8 +32,8 @@ pub side-many : (q : SidePlan) (r : BoundaryRef) → side_points (counted q) ≡
 side-many q r = L.side-points q r
 
 pub center_many : (o : Option Line) → center_points (count_of o) ≡ length (points_or o)
-center_many none = refl
-center_many (some l) = refl
+center_many None = refl
+center_many (Some l) = refl
 
 -- ---- explicit centrelines
 

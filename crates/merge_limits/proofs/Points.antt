@@ -1,10 +1,10 @@
 -- The points and the boundaries that a merge's code counts are those of the merged map. Assumes nothing.
+use Rattle.std.specs.Prelude.{Option, None, Some}
 use mathlib.Core.Path.{◌≡◌, refl, sym, ap, ◌∙◌}
 use Prim.Native.Nat.{ℕ, zero, suc, ◌+◌}
 use native.Mathlib.Omega.{arith}
 use mathlib.Core.Bool.{Bool, true, false, not, cond}
 use mathlib.Core.List.{List, [], ◌∷◌, ◌++◌, map, map-append}
-use mathlib.Core.Option.{Option, none, some}
 use lib.Dec.{eqb}
 use lib.Ieee.{Float}
 use lib.ListN.{length, take, drop, length-map, length-append}
@@ -173,10 +173,10 @@ module _ {tol : Tolerance} {counter : ℕ} {t : Tables} {one two i j : ℕ} {p :
 
   joint-points : (o : Option Line) → points_of (optional_line o) ≡ center_points (count_of o)
   unfolding S.total
-  joint-points none = refl
-  joint-points (some l) = omega arith
+  joint-points None = refl
+  joint-points (Some l) = omega arith
 
-  own-points : (w : List ℕ) (x : Bool) → all (stored c) (cond x (span_at 7 w ∷ []) []) ≡ true → points_of (optional_line (cond x (some (line_at c 7 w)) none)) ≡ cond x (word 8 w) 0
+  own-points : (w : List ℕ) (x : Bool) → all (stored c) (cond x (span_at 7 w ∷ []) []) ≡ true → points_of (optional_line (cond x (Some (line_at c 7 w)) None)) ≡ cond x (word 8 w) 0
   unfolding S.total
   own-points w true h = let e = line-long c (span_at 7 w) (all_head (stored c) (span_at 7 w) [] h) in omega arith
   own-points w false h = refl

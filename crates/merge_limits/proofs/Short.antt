@@ -1,9 +1,9 @@
 -- The lines of a merged map keep the limit of a line exactly where those that the code draws do. Assumes nothing.
+use Rattle.std.specs.Prelude.{Option, None, Some, Ok}
 use mathlib.Core.Path.{◌≡◌, refl, sym, ap, ◌∙◌, subst}
 use Prim.Native.Nat.{ℕ, ◌+◌}
 use mathlib.Core.Bool.{Bool, true, false, not, ◌&&◌, ◌||◌, cond, true≢false}
 use mathlib.Core.List.{[], ◌∷◌, map}
-use mathlib.Core.Option.{Option, none, some}
 use lib.Dec.{eqb, leb}
 use lib.Ieee.{Float}
 use lib.ListN.{length}
@@ -19,7 +19,6 @@ use Rattle.entities.specs.Records.{Line, Lane, Boundary, Map}
 use Rattle.rules.specs.Names.{Side, Tolerance}
 use Rattle.rules.specs.Map.{lane, boundary, boundary_on, oriented_in, oriented_boundary, lanes_using_boundary}
 use Rattle.rules.specs.Sound.{lines, optional_line}
-use Rattle.rules.specs.Edit.{yield}
 use Rattle.rules.specs.Merge.{SidePlan, kept, in_place, fresh, joined_lines, side_plan, plan_ids, plan_joins, plan_line, redrawn, joined_boundary, new_boundary, joined_center, links_after, merged_lane, after_merge}
 use Rattle.soundness.proofs.Back.{five-of}
 use Rattle.soundness.proofs.Whole.{all_lines}
@@ -43,14 +42,14 @@ use Rattle.merge_limits.proofs.Points.{joins-is}
 
 -- the boundary that a side is joined in is there
 abbrev pub There : Map → BoundaryRef → SidePlan → Type 0
-There m r q = plan_joins q r r.boundary ≡ true → (x : Boundary) × (boundary m r.boundary ≡ some x)
+There m r q = plan_joins q r r.boundary ≡ true → (x : Boundary) × (boundary m r.boundary ≡ Some x)
 
 joined-there : (m : Map) (join : Float) (alone : Bool) (ra rb : BoundaryRef) (oa ob : Option Boundary) → boundary m ra.boundary ≡ oa
-    → (q : SidePlan) → joined_lines join alone ra.boundary rb.boundary (oriented_in ra oa) (oriented_in rb ob) ≡ yield q → There m ra q
-joined-there m join alone ra rb none ob ea q h j = absurd (no-yield (R.BoundaryAbsent ra.boundary) q h)
-joined-there m join alone ra rb (some x) ob ea q h j = (x, ea)
+    → (q : SidePlan) → joined_lines join alone ra.boundary rb.boundary (oriented_in ra oa) (oriented_in rb ob) ≡ Ok q → There m ra q
+joined-there m join alone ra rb None ob ea q h j = absurd (no-yield (R.BoundaryAbsent ra.boundary) q h)
+joined-there m join alone ra rb (Some x) ob ea q h j = (x, ea)
 
-pub side-there : (tol : Tolerance) (m : Map) (side : Side) (a b : Lane) (q : SidePlan) → side_plan tol m side a b ≡ yield q → There m (boundary_on side a) q
+pub side-there : (tol : Tolerance) (m : Map) (side : Side) (a b : Lane) (q : SidePlan) → side_plan tol m side a b ≡ Ok q → There m (boundary_on side a) q
 unfolding side_plan oriented_boundary
 side-there tol m side a b q h =
     let ra = boundary_on side a in
@@ -58,9 +57,9 @@ side-there tol m side a b q h =
     go (eqb ra.boundary rb.boundary) (same_numbers (lanes_using_boundary m.lanes ra.boundary) (a.id ∷ []) && same_numbers (lanes_using_boundary m.lanes rb.boundary) (b.id ∷ [])) h
   where
     go : (same alone : Bool)
-        → cond same (yield kept) (joined_lines tol.join alone (boundary_on side a).boundary (boundary_on side b).boundary
+        → cond same (Ok kept) (joined_lines tol.join alone (boundary_on side a).boundary (boundary_on side b).boundary
         (oriented_in (boundary_on side a) (boundary m (boundary_on side a).boundary)) (oriented_in (boundary_on side b) (boundary m (boundary_on side b).boundary)))
-        ≡ yield q → There m (boundary_on side a) q
+        ≡ Ok q → There m (boundary_on side a) q
     go true alone h = subst (There m (boundary_on side a)) (yields h) (λ e. absurd (true≢false (sym e)))
     go false alone h = joined-there m tol.join alone (boundary_on side a) (boundary_on side b) (boundary m (boundary_on side a).boundary) (boundary m (boundary_on side b).boundary) refl q h
 
@@ -94,7 +93,7 @@ short-new m (fresh l) id r f h =
 
 -- ---- the merged map
 
-module _ (tol : Tolerance) (next : ℕ) (m : Map) (a b : Lane) (pl pr : SidePlan) (ea : lane m a.id ≡ some a) (apart : eqb a.id b.id ≡ false)
+module _ (tol : Tolerance) (next : ℕ) (m : Map) (a b : Lane) (pl pr : SidePlan) (ea : lane m a.id ≡ Some a) (apart : eqb a.id b.id ≡ false)
     (fl : Planned m a.left.boundary pl) (fr : Planned m a.right.boundary pr) (tl : There m a.left pl) (tr : There m a.right pr) where
   abbrev after : Map
   after = merged_map tol next m a b pl pr
@@ -150,17 +149,17 @@ module _ (tol : Tolerance) (next : ℕ) (m : Map) (a b : Lane) (pl pr : SidePlan
     halves = both_of ok (keep still (map joint-boundary m.boundaries)) (new_ones next m a pl pr) h
 
     -- a boundary that is joined in place stays
-    stays-short : (n : ℕ) (x : Boundary) → boundary m n ≡ some x → (plan_joins pl a.left x.id || plan_joins pr a.right x.id) ≡ true → short (joint-boundary x).geometry ≡ true
+    stays-short : (n : ℕ) (x : Boundary) → boundary m n ≡ Some x → (plan_joins pl a.left x.id || plan_joins pr a.right x.id) ≡ true → short (joint-boundary x).geometry ≡ true
     unfolding boundary
     stays-short n x e j =
         let own : (joint-boundary x).id ≡ x.id = joined-id pl pr a x in
-        let there : find (λ y. eqb y.id n) (map joint-boundary m.boundaries) ≡ some (joint-boundary x) = found_map (λ y. y.id) joint-boundary (joined-id pl pr a) n m.boundaries ∙ ap (changed_by joint-boundary) e in
+        let there : find (λ y. eqb y.id n) (map joint-boundary m.boundaries) ≡ Some (joint-boundary x) = found_map (λ y. y.id) joint-boundary (joined-id pl pr a) n m.boundaries ∙ ap (changed_by joint-boundary) e in
         let used : still (joint-boundary x) ≡ true = joined-stays tol next a b pl pr m ea apart (joint-boundary x) (ap (λ i. plan_joins pl a.left i || plan_joins pr a.right i) own ∙ j) in
         found_all (λ y. eqb y.id n) ok (keep still (map joint-boundary m.boundaries)) (joint-boundary x)
         (found-keep still (λ y. eqb y.id n) (joint-boundary x) (map joint-boundary m.boundaries) there used) halves.0
 
     -- its id
-    id-there : (n : ℕ) (x : Boundary) → boundary m n ≡ some x → n ≡ x.id
+    id-there : (n : ℕ) (x : Boundary) → boundary m n ≡ Some x → n ≡ x.id
     unfolding boundary
     id-there n x e = sym (eqb-true x.id n (found-passes (λ y. eqb y.id n) m.boundaries x e))
 
@@ -170,7 +169,7 @@ module _ (tol : Tolerance) (next : ℕ) (m : Map) (a b : Lane) (pl pr : SidePlan
     left-needs : (overdrawn sides || short (plan_line pl a.left)) ≡ true
     left-needs = go (plan_joins pl a.left a.left.boundary) refl
       where
-        one : (x : Boundary) → boundary m a.left.boundary ≡ some x → plan_joins pl a.left x.id ≡ true → (z : Bool) → plan_joins pr a.right x.id ≡ z
+        one : (x : Boundary) → boundary m a.left.boundary ≡ Some x → plan_joins pl a.left x.id ≡ true → (z : Bool) → plan_joins pr a.right x.id ≡ z
             → (overdrawn sides || short (plan_line pl a.left)) ≡ true
         one x e j true f = or_left (overdrawn sides) (short (plan_line pl a.left)) (both-over x.id j f)
         one x e j false f =
@@ -200,8 +199,8 @@ module _ (tol : Tolerance) (next : ℕ) (m : Map) (a b : Lane) (pl pr : SidePlan
   center_needs : all center_ok after.lanes ≡ true → all short (optional_line joint) ≡ true
   unfolding lane
   center_needs h =
-      let here : lane after a.id ≡ some (after_merge tol next a b pl pr a) =
-      lane-after tol next a b pl pr m a.id ∙ (ap (λ z. cond z none (changed_by (after_merge tol next a b pl pr) (lane m a.id))) apart ∙ ap (changed_by (after_merge tol next a b pl pr)) ea) in
+      let here : lane after a.id ≡ Some (after_merge tol next a b pl pr a) =
+      lane-after tol next a b pl pr m a.id ∙ (ap (λ z. cond z None (changed_by (after_merge tol next a b pl pr) (lane m a.id))) apart ∙ ap (changed_by (after_merge tol next a b pl pr)) ea) in
       ap (λ z. all short (optional_line (cond z (merged_lane tol.join pl pr next a b (links_after a.id b a)) (links_after a.id b a)).centerline)) (sym (eq-eqb a.id a.id refl))
       ∙ found_all (λ l. eqb l.id a.id) center_ok after.lanes (after_merge tol next a b pl pr a) here h
 
@@ -248,8 +247,8 @@ module _ (tol : Tolerance) (next : ℕ) (m : Map) (a b : Lane) (pl pr : SidePlan
 
   center_count : (o : Option Line) → all short (optional_line o) ≡ leb (center_points (count_of o)) 256
   unfolding all
-  center_count none = refl
-  center_count (some l) = go (short l)
+  center_count None = refl
+  center_count (Some l) = go (short l)
     where
       go : (z : Bool) → (z && true) ≡ z
       go true = refl

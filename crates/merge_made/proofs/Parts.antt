@@ -1,4 +1,5 @@
 -- The steps of a merge put together: lists, tables, and the two tests of room. Assumes nothing.
+use Rattle.std.specs.Prelude.{Err}
 use mathlib.Core.Path.{◌≡◌, refl, sym, ap, ◌∙◌, subst}
 use Prim.Native.Nat.{ℕ, ◌+◌, ◌*◌, ◌/◌, ◌^◌, ◌≤◌, ◌<◌}
 use native.Mathlib.Omega.{arith}
@@ -17,9 +18,8 @@ use Rattle.rules.specs.Edit.{refs, up_from}
 use Rattle.tables.specs.View.{Tables, word, tables_of}
 use Rattle.layout.specs.Layout.{line_tables}
 use Rattle.lookup.specs.Lookup.{row_at}
-use Rattle.report.specs.Report.{listed, warned, counter_behind}
+use Rattle.report.specs.Report.{listed, warned, counter_behind, changed}
 use Rattle.report.specs.declared.Counts.{Counts}
-use Rattle.report.specs.declared.Answer.TheVariants.{Changed, Refused}
 use Rattle.report.proofs.Warnings.{room}
 use Rattle.room.specs.Room.{lists_fit, ids_left}
 use Rattle.merge_plan.specs.declared.Joined.{Joined}
@@ -76,8 +76,8 @@ module _ (join : Float) (p : Plan) (next : ℕ) (gone : List ℕ) (i j : ℕ) (t
 
 -- an accepted call's end, part by part
 ended_same : {k k₁ : ℕ} {u v : Tables} {a b : Answered} {q r : Counts} → k ≡ k₁ → u ≡ v → a ≡ b → q ≡ r
-    → ◌≡◌ {A = Ended} (ended (record { counter = k; tables = u; created = a.created; modified = a.modified; deleted = a.deleted; warnings = a.warnings }) (Changed q))
-    (ended (record { counter = k₁; tables = v; created = b.created; modified = b.modified; deleted = b.deleted; warnings = b.warnings }) (Changed r))
+    → ◌≡◌ {A = Ended} (ended (record { counter = k; tables = u; created = a.created; modified = a.modified; deleted = a.deleted; warnings = a.warnings }) (changed q))
+    (ended (record { counter = k₁; tables = v; created = b.created; modified = b.modified; deleted = b.deleted; warnings = b.warnings }) (changed r))
 ended_same a b c d = rw (a, b, c, d)
 
 module _ (join : Float) (i j : ℕ) (p : Plan) (gone joined : List ℕ) (l : Lent) where
@@ -99,7 +99,7 @@ module _ (join : Float) (i j : ℕ) (p : Plan) (gone joined : List ℕ) (l : Len
   abbrev places : Bool
   places = lists_fit n l.created l.modified l.deleted l.warnings
 
-  pub no-map-room : (b : Bool) → b ≡ fit → b ≡ false → ended l (Refused NoRoom) ≡ merge_made join i j p gone joined l
+  pub no-map-room : (b : Bool) → b ≡ fit → b ≡ false → ended l (Err NoRoom) ≡ merge_made join i j p gone joined l
   unfolding merge_made
   no-map-room b e f = rw (sym e ∙ f)
 
@@ -117,7 +117,7 @@ module _ (join : Float) (i j : ℕ) (p : Plan) (gone joined : List ℕ) (l : Len
       placed : q ≡ places
       placed = qe ∙ ap (λ (z : Counts). lists_fit z l.created l.modified l.deleted l.warnings) counts-are
 
-      pub no-list-room : q ≡ false → ended l (Refused NoRoom) ≡ merge_made join i j p gone joined l
+      pub no-list-room : q ≡ false → ended l (Err NoRoom) ≡ merge_made join i j p gone joined l
       unfolding merge_made
       no-list-room h = rw (sym e ∙ f, sym placed ∙ h)
 
@@ -151,11 +151,11 @@ module _ (join : Float) (i j : ℕ) (p : Plan) (gone joined : List ℕ) (l : Len
 
         pub merge-made : (x : ℕ) → x ≡ next_id l.counter → (u : Tables) → u ≡ written join p x gone i j t → (c d y z : List ℕ)
             → lists c d y z ≡ lists_written s x m.created gone joined notices t.lanes t.roads t.junctions t.rules (lists l.created l.modified l.deleted l.warnings)
-            → ended (record { counter = counter_behind l.counter (Changed m); tables = u; created = c; modified = d; deleted = y; warnings = z }) (Changed m) ≡ merge_made join i j p gone joined l
+            → ended (record { counter = counter_behind l.counter (changed m); tables = u; created = c; modified = d; deleted = y; warnings = z }) (changed m) ≡ merge_made join i j p gone joined l
         unfolding merge_made
         merge-made x xe u ue c d y z le =
             rw (sym e ∙ f, sym placed ∙ h)
-            (ended_same (ap (λ k. counter_behind l.counter (Changed k)) counts-are) (ue ∙ ap (λ k. written join p k gone i j t) xe)
+            (ended_same (ap (λ k. counter_behind l.counter (changed k)) counts-are) (ue ∙ ap (λ k. written join p k gone i j t) xe)
             (le ∙ same xe own ne (ap (λ (k : Counts). k.created) counts-are)) counts-are)
           where
             same : {x y s r v k : ℕ} {ns ms : List Issue} → x ≡ y → s ≡ r → ns ≡ ms → v ≡ k
@@ -182,7 +182,7 @@ module _ (join : Float) (i j : ℕ) (p : Plan) (l : Lent) (a b : ℕ) (ae : a �
   left_is : r ≡ ids_left l.counter (side_ids p.left + side_ids p.right)
   left_is = re ∙ (ap (λ z. ids_left l.counter (z + b)) ae ∙ ap (λ z. ids_left l.counter (side_ids p.left + z)) be)
 
-  pub no-ids : r ≡ false → ended l (Refused NoIds) ≡ merge_found join i j p l
+  pub no-ids : r ≡ false → ended l (Err NoIds) ≡ merge_found join i j p l
   unfolding merge_found
   no-ids f = rw (sym left_is ∙ f)
 

@@ -13,9 +13,8 @@ use Rattle.apart.specs.Marks.{within}
 use Rattle.store.specs.Rows.{on_rows}
 use Rattle.layout.specs.Layout.{line_tables, counted_lines, last_point}
 use Rattle.lookup.specs.Lookup.{row_at}
-use Rattle.report.specs.Report.{listed, warned}
+use Rattle.report.specs.Report.{listed, warned, changed}
 use Rattle.report.specs.declared.Counts.{Counts}
-use Rattle.report.specs.declared.Answer.TheVariants.{Changed}
 use Rattle.mentions.specs.declared.Rows.TheVariants.{Roads, Junctions, Rules}
 use Rattle.mentions.specs.Naming.{table_formed, forgets, rule_replaces}
 use Rattle.room.specs.Room.{ids_left, lists_fit}
@@ -140,7 +139,7 @@ merge_made join i j p gone joined l =
       deleted = listed l.deleted (leaving second gone);
       warnings = warned l.warnings ws;
     })
-    (Changed n))
+    (changed n))
     (refusing l NoRoom))
     (refusing l NoRoom)
 

@@ -4,6 +4,7 @@
 ghost use Rattle.std.specs.Prelude.{◌≡◌, ◌+◌, ◌*◌, ◌≤◌, length};
 ghost use Rattle.report.specs.Report.{counter_behind};
 ghost use Rattle.step.specs.Step as S;
+ghost use Rattle.lent.specs.Lent.{map_tables, given, SameSlices, SameLists};
 ghost use Rattle.merge_lists.specs.Changes as C;
 ghost use Rattle.merge_made.specs.Parts as P;
 
@@ -11,7 +12,7 @@ use entities::{Refusal, Side};
 use mentions::Rows;
 use merge_lists::Notices;
 use merge_plan::{Plan, side_ids};
-use report::{Answer, Counts};
+use report::{Answer, Change, Counts};
 use tables::LANE;
 
 // Boundaries that go, at most, and that are joined in place.
@@ -85,25 +86,19 @@ fn write_named(roads: &mut [u64], junctions: &mut [u64], rules: &mut [u64], firs
 }
 
 // All tables.
-fn write(
-    join: f64,
-    lanes: &mut [u64],
-    i: usize,
-    j: usize,
-    boundaries: &mut [u64],
-    roads: &mut [u64],
-    junctions: &mut [u64],
-    rules: &mut [u64],
-    stop_lines: &mut [u64],
-    crosswalks: &mut [u64],
-    coordinates: &mut [f64],
-    plan: Plan,
-    next: u64,
-    gone: &[u64],
-)
-    requires { P.Writable join plan next gone.now i j (S.tables_of lanes.old boundaries.old roads.old junctions.old rules.old stop_lines.old crosswalks.old coordinates.old) }
-    ensures { S.tables_of lanes.new boundaries.new roads.new junctions.new rules.new stop_lines.new crosswalks.new coordinates.new ≡ P.written join plan next gone.now i j (S.tables_of lanes.old boundaries.old roads.old junctions.old rules.old stop_lines.old crosswalks.old coordinates.old) }
+fn write(join: f64, map: &mut lent::Map, i: usize, j: usize, plan: Plan, next: u64, gone: &[u64])
+    requires { P.Writable join plan next gone.now i j (map_tables map.old) }
+    ensures made { map_tables map.new ≡ P.written join plan next gone.now i j (map_tables map.old) }
+    ensures same { SameSlices map.old map.new }
 {
+    let lanes = &mut *map.lanes;
+    let boundaries = &mut *map.boundaries;
+    let roads = &mut *map.roads;
+    let junctions = &mut *map.junctions;
+    let rules = &mut *map.rules;
+    let stop_lines = &mut *map.stop_lines;
+    let crosswalks = &mut *map.crosswalks;
+    let coordinates = &mut *map.coordinates;
     let first = lanes[1 + i * LANE];
     let second = lanes[1 + j * LANE];
     let reach = reach::lines_reach(lanes, boundaries, stop_lines, crosswalks);
@@ -130,27 +125,31 @@ fn write(
 fn merge_with(
     counter: u64,
     join: f64,
-    lanes: &mut [u64],
+    map: &mut lent::Map,
     i: usize,
     j: usize,
-    boundaries: &mut [u64],
-    roads: &mut [u64],
-    junctions: &mut [u64],
-    rules: &mut [u64],
-    stop_lines: &mut [u64],
-    crosswalks: &mut [u64],
-    coordinates: &mut [f64],
     plan: Plan,
     gone: &[u64],
     joined: &[u64],
-    created: &mut [u64],
-    modified: &mut [u64],
-    deleted: &mut [u64],
-    warnings: &mut [u64],
+    lists: &mut lent::Lists,
 ) -> Answer
-    requires { P.Decided counter join i j plan gone.now joined.now (S.tables_of lanes.old boundaries.old roads.old junctions.old rules.old stop_lines.old crosswalks.old coordinates.old) }
-    ensures { S.ended (S.lent_of (counter_behind counter result) lanes.new boundaries.new roads.new junctions.new rules.new stop_lines.new crosswalks.new coordinates.new created.new modified.new deleted.new warnings.new) result ≡ P.merge_made join i j plan gone.now joined.now (S.lent_of counter lanes.old boundaries.old roads.old junctions.old rules.old stop_lines.old crosswalks.old coordinates.old created.old modified.old deleted.old warnings.old) }
+    requires { P.Decided counter join i j plan gone.now joined.now (map_tables map.old) }
+    ensures made { S.ended (given (counter_behind counter result) map.new lists.new) result ≡ P.merge_made join i j plan gone.now joined.now (given counter map.old lists.old) }
+    ensures same { SameSlices map.old map.new }
+    ensures same_lists { SameLists lists.old lists.new }
 {
+    let lanes = &mut *map.lanes;
+    let boundaries = &mut *map.boundaries;
+    let roads = &mut *map.roads;
+    let junctions = &mut *map.junctions;
+    let rules = &mut *map.rules;
+    let stop_lines = &mut *map.stop_lines;
+    let crosswalks = &mut *map.crosswalks;
+    let coordinates = &mut *map.coordinates;
+    let created = &mut *lists.created;
+    let modified = &mut *lists.modified;
+    let deleted = &mut *lists.deleted;
+    let warnings = &mut *lists.warnings;
     let next = room::next_id(counter);
     let left = plan.left;
     let right = plan.right;
@@ -178,10 +177,10 @@ fn merge_with(
         plan,
         gone,
     ) {
-        return Answer::Refused(Refusal::NoRoom);
+        return Err(Refusal::NoRoom);
     }
     if !room::lists_fit(counts, created, modified, deleted, warnings) {
-        return Answer::Refused(Refusal::NoRoom);
+        return Err(Refusal::NoRoom);
     }
     write_lists(
         second,
@@ -199,52 +198,34 @@ fn merge_with(
         deleted,
         warnings,
     );
-    write(
-        join,
-        lanes,
-        i,
-        j,
-        boundaries,
-        roads,
-        junctions,
-        rules,
-        stop_lines,
-        crosswalks,
-        coordinates,
-        plan,
-        next,
-        gone,
-    );
-    Answer::Changed(counts)
+    write(join, map, i, j, plan, next, gone);
+    Ok(Change {
+        counts,
+        second: None,
+    })
 }
 
 // The same with what goes and what is joined in place, found here.
 pub fn merge_found(
     counter: u64,
     join: f64,
-    lanes: &mut [u64],
+    map: &mut lent::Map,
     i: usize,
     j: usize,
-    boundaries: &mut [u64],
-    roads: &mut [u64],
-    junctions: &mut [u64],
-    rules: &mut [u64],
-    stop_lines: &mut [u64],
-    crosswalks: &mut [u64],
-    coordinates: &mut [f64],
     plan: Plan,
-    created: &mut [u64],
-    modified: &mut [u64],
-    deleted: &mut [u64],
-    warnings: &mut [u64],
+    lists: &mut lent::Lists,
 ) -> Answer
-    requires { P.MayMerge counter join i j plan (S.tables_of lanes.old boundaries.old roads.old junctions.old rules.old stop_lines.old crosswalks.old coordinates.old) }
-    ensures { S.ended (S.lent_of (counter_behind counter result) lanes.new boundaries.new roads.new junctions.new rules.new stop_lines.new crosswalks.new coordinates.new created.new modified.new deleted.new warnings.new) result ≡ P.merge_found join i j plan (S.lent_of counter lanes.old boundaries.old roads.old junctions.old rules.old stop_lines.old crosswalks.old coordinates.old created.old modified.old deleted.old warnings.old) }
+    requires { P.MayMerge counter join i j plan (map_tables map.old) }
+    ensures made { S.ended (given (counter_behind counter result) map.new lists.new) result ≡ P.merge_found join i j plan (given counter map.old lists.old) }
+    ensures same { SameSlices map.old map.new }
+    ensures same_lists { SameLists lists.old lists.new }
 {
+    let lanes = &mut *map.lanes;
+    let boundaries = &mut *map.boundaries;
     let left = plan.left;
     let right = plan.right;
     if !room::ids_left(counter, side_ids(left) + side_ids(right)) {
-        return Answer::Refused(Refusal::NoIds);
+        return Err(Refusal::NoIds);
     }
     let one = lookup::boundary_ref(lanes, i, Side::Left).boundary;
     let two = lookup::boundary_ref(lanes, i, Side::Right).boundary;
@@ -255,22 +236,12 @@ pub fn merge_found(
     merge_with(
         counter,
         join,
-        lanes,
+        map,
         i,
         j,
-        boundaries,
-        roads,
-        junctions,
-        rules,
-        stop_lines,
-        crosswalks,
-        coordinates,
         plan,
         &gone[..n],
         &joined[..m],
-        created,
-        modified,
-        deleted,
-        warnings,
+        lists,
     )
 }

@@ -1,10 +1,11 @@
 -- Rows that are read for a merge: a row's own place, how many points its line has, and document 01's plan of a side by the rows. Assumes nothing.
+use Rattle.std.specs.Prelude.{Option, None, Some, Err, Ok}
+use Rattle.rules.specs.Names.{Point3}
 use mathlib.Core.Path.{◌≡◌, refl, sym, ap, ◌∙◌}
 use Prim.Native.Nat.{ℕ, suc, ◌+◌, ◌-◌, ◌*◌, ◌≤◌, ◌<◌}
 use native.Mathlib.Omega.{arith}
 use mathlib.Core.Bool.{Bool, true, false, not, ◌&&◌, cond}
 use mathlib.Core.List.{List, [], ◌∷◌, reverse}
-use mathlib.Core.Option.{Option, none, some}
 use lib.Dec.{eqb}
 use lib.ListN.{length, get_or, drop, length-drop, length-take}
 use lib.Seq.{drop-drop}
@@ -12,17 +13,15 @@ use lib.Ieee.{Float}
 use borrow.Author.Tests.{eqb-true, eqb-false, eq-eqb, ne_eqb}
 use Rattle.lists.specs.Rows.{keys}
 use Rattle.lists.specs.Select.{same_numbers}
-use Rattle.lists.specs.declared.Found.TheVariants.{At, Nothing}
 use Rattle.lists.proofs.Booleans.{or_right}
 use Rattle.lists.proofs.Rows.{length-keys, get_d_reads, row-at}
 use Rattle.polyline.specs.Polyline.{points, first, last, meeting, skipped, concat}
 use Rattle.polyline.proofs.Points.{length-points}
 use Rattle.polyline.proofs.Lines.{skipped-few, length-concat}
-use Rattle.polyline.specs.declared.OptionPoint3.{OptionPoint3}
 use Rattle.entities.specs.Records.{Line}
 use Rattle.rules.specs.Names.{Side, Left, Right, BoundaryRef, BoundaryAbsent}
 use Rattle.rules.specs.Map.{boundary, oriented_boundary, first_of, last_of, uses, lanes_using_boundary}
-use Rattle.rules.specs.Edit.{Res, yield}
+use Rattle.rules.specs.Edit.{Res}
 use Rattle.rules.specs.Merge.{SidePlan, kept, joined, joined_lines, side_plan}
 use Rattle.tables.specs.View.{word, mark, ref_at, part, rows, lane_of}
 use Rattle.tables.specs.Formed.{span_at, stored}
@@ -31,12 +30,11 @@ use Rattle.lookup.proofs.Laws.{sorted-ascends, sorted-row, stored-room, part-few
 use Rattle.lookup.proofs.Center.{oriented-few}
 use Rattle.merge_plan.specs.Deciding.{SideRows, lane_in, drawn_lanes, side_told, side_plan_in, joined_length, both_alone}
 use Rattle.merge_plan.specs.declared.Joined.TheVariants.{Kept, InPlace, Fresh}
-use Rattle.merge_plan.specs.declared.SidePlanned.TheVariants.{Refused, Joins}
 
 -- ---- rows
 
 -- row i is where its own id is found
-pub own-place : (limit s : ℕ) (t : List ℕ) → sorted_table limit s t ≡ true → (i : ℕ) → i < word 0 t → place_of s t (word 0 (row_at s t i)) ≡ At i
+pub own-place : (limit s : ℕ) (t : List ℕ) → sorted_table limit s t ≡ true → (i : ℕ) → i < word 0 t → place_of s t (word 0 (row_at s t i)) ≡ Some i
 unfolding place_of keys
 own-place limit s t h i l =
     let k : i < length (keys s (word 0 t) (drop 1 t)) = rw (length-keys s (word 0 t) (drop 1 t)) l in
@@ -73,19 +71,19 @@ stored-long c start n h = go (eqb n 0) refl
     go false e = let r = stored-room c start n h (eqb-false n 0 e) in unfold part in rw (length-points, length-take, length-drop) (omega arith)
 
 module _ (c : List Float) (lanes boundaries : List ℕ) (i : ℕ) (side : Side) (s : all_stored 5 2 c boundaries ≡ true) (x : ℕ)
-    (q : place_of 5 boundaries (ref_at (side_word side) (row_at 52 lanes i)).boundary ≡ At x) where
+    (q : place_of 5 boundaries (ref_at (side_word side) (row_at 52 lanes i)).boundary ≡ Some x) where
   abbrev stands : Line
   stands = points (part c (word 2 (row_at 5 boundaries x)) (word 3 (row_at 5 boundaries x)))
 
   abbrev turned : Bool
   turned = mark (suc (side_word side)) (row_at 52 lanes i)
 
-  side-there : side_line c lanes boundaries i side ≡ some (cond turned (reverse stands) stands)
+  side-there : side_line c lanes boundaries i side ≡ Some (cond turned (reverse stands) stands)
   side-there =
       oriented-there c boundaries (row_at 52 lanes i) side (ref_at (side_word side) (row_at 52 lanes i)) refl x q (part c (word 2 (row_at 5 boundaries x)) (word 3 (row_at 5 boundaries x))) refl
 
   -- a boundary that is present has a line
-  pub side-some : side_line c lanes boundaries i side ≡ some (points_or (side_line c lanes boundaries i side))
+  pub side-some : side_line c lanes boundaries i side ≡ Some (points_or (side_line c lanes boundaries i side))
   side-some = rw side-there
 
   -- along the lane it has as many points as its row says
@@ -101,17 +99,17 @@ module _ (c : List Float) (lanes boundaries : List ℕ) (i : ℕ) (side : Side) 
 
 last-of : (o : Option Line) → last_of o ≡ last (points_or o)
 unfolding last
-last-of none = refl
-last-of (some l) = refl
+last-of None = refl
+last-of (Some l) = refl
 
 first-of : (o : Option Line) → first_of o ≡ first (points_or o)
 unfolding first
-first-of none = refl
-first-of (some l) = refl
+first-of None = refl
+first-of (Some l) = refl
 
 -- two lines of `one` and `two` points that are joined, and the points where they meet
 module _ (join : Float) (o p : Option Line) (one two : ℕ) (eo : length (points_or o) ≡ one) (ep : length (points_or p) ≡ two)
-    (end start : OptionPoint3) (ee : end ≡ last_of o) (es : start ≡ first_of p) (m : ℕ) (em : m ≡ meeting join end start) where
+    (end start : Option Point3) (ee : end ≡ last_of o) (es : start ≡ first_of p) (m : ℕ) (em : m ≡ meeting join end start) where
   met : m ≡ skipped join (points_or o) (points_or p)
   unfolding skipped
   met = rw (em, ee, es, last-of o, first-of p)
@@ -183,37 +181,37 @@ module _ (join : Float) (c : List Float) (lanes boundaries : List ℕ) (d : Draw
   unfolding oriented_boundary boundary
   drawn-same n = refl
 
-  planned-side : plan ≡ cond (eqb one two) (yield kept) (joined_lines join (both_alone lanes i one j two) one two (side_line c lanes boundaries i side) (side_line c lanes boundaries j side))
+  planned-side : plan ≡ cond (eqb one two) (Ok kept) (joined_lines join (both_alone lanes i one j two) one two (side_line c lanes boundaries i side) (side_line c lanes boundaries j side))
   unfolding side_plan
   planned-side =
       rw (ea, eb, side-ref c (row_at 52 lanes i) side, side-ref c (row_at 52 lanes j) side, drawn-same i, drawn-same j, own_alone c lanes d.lanes_are_sorted i l side, own_alone c lanes d.lanes_are_sorted j k side)
 
   -- a boundary that both lanes name
-  pub side-kept : one ≡ two → Joins Kept ≡ side_told plan
+  pub side-kept : one ≡ two → Ok Kept ≡ side_told plan
   side-kept e = sym (ap side_told planned-side ∙ rw (eq-eqb one two e))
 
   module _ (n : one ≡ two → ⊥) where
-    pub first_absent : place_of 5 boundaries one ≡ Nothing → Refused (BoundaryAbsent one) ≡ side_told plan
+    pub first_absent : place_of 5 boundaries one ≡ None → Err (BoundaryAbsent one) ≡ side_told plan
     first_absent q = sym (ap side_told planned-side ∙ rw (ne_eqb one two n, oriented-absent c boundaries (row_at 52 lanes i) side ra ea q))
 
-    module _ (x : ℕ) (q : place_of 5 boundaries one ≡ At x) where
-      first_some : side_line c lanes boundaries i side ≡ some (points_or (side_line c lanes boundaries i side))
+    module _ (x : ℕ) (q : place_of 5 boundaries one ≡ Some x) where
+      first_some : side_line c lanes boundaries i side ≡ Some (points_or (side_line c lanes boundaries i side))
       first_some = side-some c lanes boundaries i side d.boundaries_stored x (rw ea at q)
 
-      pub second-absent : place_of 5 boundaries two ≡ Nothing → Refused (BoundaryAbsent two) ≡ side_told plan
+      pub second-absent : place_of 5 boundaries two ≡ None → Err (BoundaryAbsent two) ≡ side_told plan
       second-absent r = sym (ap side_told planned-side ∙ rw (ne_eqb one two n, first_some, oriented-absent c boundaries (row_at 52 lanes j) side rb eb r))
 
-      module _ (y : ℕ) (r : place_of 5 boundaries two ≡ At y) where
+      module _ (y : ℕ) (r : place_of 5 boundaries two ≡ Some y) where
         -- both boundaries are present
         pub side-rows : SideRows lanes i j side boundaries x y c
         side-rows = record { drawable = d; first = l; second = k; first_boundary = rw ea at q; second_boundary = rw eb at r }
 
-        side-joined : plan ≡ yield (joined (both_alone lanes i one j two) (concat join (points_or (side_line c lanes boundaries i side)) (points_or (side_line c lanes boundaries j side))))
+        side-joined : plan ≡ Ok (joined (both_alone lanes i one j two) (concat join (points_or (side_line c lanes boundaries i side)) (points_or (side_line c lanes boundaries j side))))
         side-joined = planned-side ∙ rw (ne_eqb one two n, first_some, side-some c lanes boundaries j side d.boundaries_stored y (rw eb at r))
 
         module _ (m : ℕ) (em : m ≡ joined_length join (side_line c lanes boundaries i side) (side_line c lanes boundaries j side)) (b : Bool) (f : b ≡ both_alone lanes i one j two) where
-          pub side_in_place : b ≡ true → Joins (InPlace m) ≡ side_told plan
+          pub side_in_place : b ≡ true → Ok (InPlace m) ≡ side_told plan
           side_in_place t = sym (ap side_told side-joined ∙ rw (← f, t, em))
 
-          pub side-fresh : b ≡ false → Joins (Fresh m) ≡ side_told plan
+          pub side-fresh : b ≡ false → Ok (Fresh m) ≡ side_told plan
           side-fresh t = sym (ap side_told side-joined ∙ rw (← f, t, em))

@@ -1,10 +1,11 @@
 -- What the words that are read say of two lanes: whether one follows the other, their joined centreline, what differs and which neighbour is dropped. Assumes nothing.
+use Rattle.std.specs.Prelude.{Option, None, Some, Err, Ok}
+use Rattle.rules.specs.Names.{Point3}
 use mathlib.Core.Path.{◌≡◌, refl, sym, ap, ◌∙◌}
 use Prim.Native.Nat.{ℕ, suc, ◌+◌, ◌-◌, ◌*◌, ◌≤◌, ◌<◌}
 use native.Mathlib.Omega.{arith}
 use mathlib.Core.Bool.{Bool, true, false, not, ◌&&◌, ◌||◌, cond}
 use mathlib.Core.List.{List, [], ◌∷◌}
-use mathlib.Core.Option.{Option, none, some}
 use lib.Dec.{eqb}
 use lib.ListN.{length, get_or}
 use lib.Ieee.{Float, binary64, of_bits, ne}
@@ -12,27 +13,21 @@ use borrow.Author.Tests.{eq-eqb, ne_eqb}
 use Rattle.lists.specs.Select.{same_numbers}
 use Rattle.lists.proofs.Booleans.{or_right, or-false, and-false}
 use Rattle.polyline.specs.Polyline.{points, first, last, meeting}
-use Rattle.polyline.specs.declared.OptionPoint3.{OptionPoint3}
 use Rattle.entities.specs.Types.{same, opposing, lane_entity}
 use Rattle.entities.specs.Records.{Line, Issue}
 use Rattle.rules.specs.Names.{Side, Left, Right, Neighbor, Refusal, NeighborDropped}
 use Rattle.rules.specs.Map.{names, neighbor_on}
-use Rattle.rules.specs.Edit.{Res, refuse, yield, warning, when}
+use Rattle.rules.specs.Edit.{Res, warning, when}
 use Rattle.rules.specs.Merge.{SidePlan, joined_center, speeds_differ, conflict, dropped}
 use Rattle.tables.specs.View.{word, ids_at, option_at, slot_at, part, lane_of}
 use Rattle.tables.specs.Formed.{stored, lane_formed}
 use Rattle.row_tests.specs.Good.{all_rows}
 use Rattle.store.proofs.Marks.{LaneMarks, lane-marks}
 use Rattle.lookup.specs.Lookup.{row_at, centers_stored, count_of}
-use Rattle.lookup.specs.declared.OptionCount.{OptionCount}
-use Rattle.lookup.specs.declared.OptionCount.TheVariants.{None, Some}
 use Rattle.lookup.proofs.Laws.{word_in, next_in, row_line, row-passes}
 use Rattle.lookup.proofs.Center.{center_stored, center_short}
 use Rattle.merge_plan.specs.Deciding.{lane_in, counted, holds_only, follows, side_told, center_plan, both_plans, plan_told, speed_of, speed_words, slot_word}
 use Rattle.merge_plan.specs.declared.Joined.{Joined}
-use Rattle.merge_plan.specs.declared.SidePlanned.{SidePlanned}
-use Rattle.merge_plan.specs.declared.SidePlanned.TheVariants.{Refused, Joins}
-use Rattle.merge_plan.specs.declared.Planned.TheVariants as N
 use Rattle.merge_plan.proofs.Laws.{id-read, stored-long, met-few, joined-long}
 
 -- ---- may they be merged
@@ -85,12 +80,12 @@ module _ (c : List Float) (lanes : List ℕ) (i : ℕ) where
   center_mark : get_or lanes (1 + i * 52 + 6) 0 ≡ word 6 (row_at 52 lanes i)
   center_mark = word_in 52 lanes i 6 (omega arith)
 
-  pub no_center : get_or lanes (1 + i * 52 + 6) 0 ≡ 0 → (lane_in c lanes i).centerline ≡ none
+  pub no_center : get_or lanes (1 + i * 52 + 6) 0 ≡ 0 → (lane_in c lanes i).centerline ≡ None
   unfolding lane_of
   no_center z = let e : word 6 (row_at 52 lanes i) ≡ 0 = sym center_mark ∙ z in rw e
 
   module _ (z : get_or lanes (1 + i * 52 + 6) 0 ≡ 0 → ⊥) where
-    pub center_there : (lane_in c lanes i).centerline ≡ some (points (part c (get_or lanes (1 + i * 52 + 7) 0) (get_or lanes (1 + i * 52 + 7 + 1) 0)))
+    pub center_there : (lane_in c lanes i).centerline ≡ Some (points (part c (get_or lanes (1 + i * 52 + 7) 0) (get_or lanes (1 + i * 52 + 7 + 1) 0)))
     unfolding lane_of
     center_there =
         let e : eqb (word 6 (row_at 52 lanes i)) 0 ≡ false = ne_eqb (word 6 (row_at 52 lanes i)) 0 (λ e. z (center_mark ∙ e)) in
@@ -123,9 +118,9 @@ module _ (join : Float) (c : List Float) (lanes : List ℕ) (i j : ℕ) where
   pub second_uncentered : get_or lanes (1 + j * 52 + 6) 0 ≡ 0 → None ≡ count_of (center_plan join c lanes i j)
   second_uncentered z = go (lane_in c lanes i).centerline (lane_in c lanes j).centerline (no_center c lanes j z)
     where
-      go : (o p : Option Line) → p ≡ none → None ≡ count_of (joined_center join o p)
-      go none p e = refl
-      go (some l) p e = rw e
+      go : (o p : Option Line) → p ≡ None → None ≡ count_of (joined_center join o p)
+      go None p e = refl
+      go (Some l) p e = rw e
 
   module _ (h : centers_stored c lanes ≡ true) (l : i < word 0 lanes) (k : j < word 0 lanes)
       (y : get_or lanes (1 + i * 52 + 6) 0 ≡ 0 → ⊥) (z : get_or lanes (1 + j * 52 + 6) 0 ≡ 0 → ⊥)
@@ -136,42 +131,42 @@ module _ (join : Float) (c : List Float) (lanes : List ℕ) (i j : ℕ) where
     second-long : length (points ys) ≡ get_or lanes (1 + j * 52 + 8) 0
     second-long = rw eb (center_long c lanes j z h k)
 
-    module _ (end start : OptionPoint3) (ee : end ≡ last (points xs)) (es : start ≡ first (points ys)) (m : ℕ) (em : m ≡ meeting join end start) where
+    module _ (end start : Option Point3) (ee : end ≡ last (points xs)) (es : start ≡ first (points ys)) (m : ℕ) (em : m ≡ meeting join end start) where
       -- points that are dropped are there
       pub centers-meet : m ≤ get_or lanes (1 + j * 52 + 8) 0
-      centers-meet = met-few join (some (points xs)) (some (points ys)) (get_or lanes (1 + i * 52 + 8) 0) (get_or lanes (1 + j * 52 + 8) 0) first-long second-long end start ee es m em
+      centers-meet = met-few join (Some (points xs)) (Some (points ys)) (get_or lanes (1 + i * 52 + 8) 0) (get_or lanes (1 + j * 52 + 8) 0) first-long second-long end start ee es m em
 
       pub centers-joined : Some (get_or lanes (1 + i * 52 + 8) 0 + get_or lanes (1 + j * 52 + 8) 0 - m) ≡ count_of (center_plan join c lanes i j)
       centers-joined =
           rw (center_there c lanes i y, center_there c lanes j z, ← ea, ← eb)
-          (ap Some (joined-long join (some (points xs)) (some (points ys)) (get_or lanes (1 + i * 52 + 8) 0) (get_or lanes (1 + j * 52 + 8) 0) first-long second-long end start ee es m em))
+          (ap Some (joined-long join (Some (points xs)) (Some (points ys)) (get_or lanes (1 + i * 52 + 8) 0) (get_or lanes (1 + j * 52 + 8) 0) first-long second-long end start ee es m em))
 
 -- ---- both sides
 
-module _ (l r : Res SidePlan) (x y : SidePlanned) (ex : x ≡ side_told l) (ey : y ≡ side_told r) (center count : OptionCount) (ec : center ≡ count) where
-  pub left-refused : (z : Refusal) → x ≡ Refused z → N.Refused z ≡ plan_told count (both_plans l r)
+module _ (l r : Res SidePlan) (x y : Res Joined) (ex : x ≡ side_told l) (ey : y ≡ side_told r) (center count : Option ℕ) (ec : center ≡ count) where
+  pub left-refused : (z : Refusal) → x ≡ Err z → Err z ≡ plan_told count (both_plans l r)
   left-refused z e = go l (sym e ∙ ex)
     where
-      go : (l : Res SidePlan) → Refused z ≡ side_told l → N.Refused z ≡ plan_told count (both_plans l r)
-      go (refuse s) f = cc
-      go (yield p) f = let z : ◌≡◌ {A = ℕ} 0 1 = cc in absurd (omega arith)
+      go : (l : Res SidePlan) → Err z ≡ side_told l → Err z ≡ plan_told count (both_plans l r)
+      go (Err s) f = cc
+      go (Ok p) f = let z : ◌≡◌ {A = ℕ} 0 1 = cc in absurd (omega arith)
 
-  module _ (a : Joined) (ea : x ≡ Joins a) where
-    pub right-refused : (z : Refusal) → y ≡ Refused z → N.Refused z ≡ plan_told count (both_plans l r)
+  module _ (a : Joined) (ea : x ≡ Ok a) where
+    pub right-refused : (z : Refusal) → y ≡ Err z → Err z ≡ plan_told count (both_plans l r)
     right-refused z e = go l r (sym ea ∙ ex) (sym e ∙ ey)
       where
-        go : (l r : Res SidePlan) → Joins a ≡ side_told l → Refused z ≡ side_told r → N.Refused z ≡ plan_told count (both_plans l r)
-        go (refuse s) r f g = let z : ◌≡◌ {A = ℕ} 0 1 = cc in absurd (omega arith)
-        go (yield p) (refuse s) f g = cc
-        go (yield p) (yield q) f g = let z : ◌≡◌ {A = ℕ} 0 1 = cc in absurd (omega arith)
+        go : (l r : Res SidePlan) → Ok a ≡ side_told l → Err z ≡ side_told r → Err z ≡ plan_told count (both_plans l r)
+        go (Err s) r f g = let z : ◌≡◌ {A = ℕ} 0 1 = cc in absurd (omega arith)
+        go (Ok p) (Err s) f g = cc
+        go (Ok p) (Ok q) f g = let z : ◌≡◌ {A = ℕ} 0 1 = cc in absurd (omega arith)
 
-    pub both-join : (b : Joined) → y ≡ Joins b → N.Merges (record { left = a; right = b; center = center }) ≡ plan_told count (both_plans l r)
+    pub both-join : (b : Joined) → y ≡ Ok b → Ok (record { left = a; right = b; center = center }) ≡ plan_told count (both_plans l r)
     both-join b e = go l r (sym ea ∙ ex) (sym e ∙ ey)
       where
-        go : (l r : Res SidePlan) → Joins a ≡ side_told l → Joins b ≡ side_told r → N.Merges (record { left = a; right = b; center = center }) ≡ plan_told count (both_plans l r)
-        go (refuse s) r f g = let z : ◌≡◌ {A = ℕ} 0 1 = cc in absurd (omega arith)
-        go (yield p) (refuse s) f g = let z : ◌≡◌ {A = ℕ} 0 1 = cc in absurd (omega arith)
-        go (yield p) (yield q) f g =
+        go : (l r : Res SidePlan) → Ok a ≡ side_told l → Ok b ≡ side_told r → Ok (record { left = a; right = b; center = center }) ≡ plan_told count (both_plans l r)
+        go (Err s) r f g = let z : ◌≡◌ {A = ℕ} 0 1 = cc in absurd (omega arith)
+        go (Ok p) (Err s) f g = let z : ◌≡◌ {A = ℕ} 0 1 = cc in absurd (omega arith)
+        go (Ok p) (Ok q) f g =
             let u : a ≡ counted p = cc in
             let v : b ≡ counted q = cc in
             rw (u, v, ec)
@@ -183,14 +178,14 @@ cond-not true x y = refl
 cond-not false x y = refl
 
 speed_at : (w : List ℕ) → option_at 9 w ≡ speed_of (word 9 w) (word 10 w)
-speed_at w = cond-not (eqb (word 9 w) 0) (some (word 10 w)) none
+speed_at w = cond-not (eqb (word 9 w) 0) (Some (word 10 w)) None
 
 -- speed limits as they are read, with their marks
 module _ (one x two y : ℕ) where
   pub first-unlimited : one ≡ 0 → not (eqb two 0) ≡ speed_words one x two y
   first-unlimited e = rw (eq-eqb one 0 e) (go (eqb two 0))
     where
-      go : (b : Bool) → not b ≡ speeds_differ none (cond b none (some y))
+      go : (b : Bool) → not b ≡ speeds_differ None (cond b None (Some y))
       go true = refl
       go false = refl
 
@@ -246,7 +241,7 @@ slot-on Right w = refl
 names-slot : (k : ℕ) (w : List ℕ) (i : ℕ) → names (slot_at k w) i ≡ (not (eqb (word k w) 0) && eqb (word (suc k) w) i)
 names-slot k w i = go (eqb (word k w) 0) (eqb (word k w) 1)
   where
-    go : (a b : Bool) → names (cond a none (cond b (some (same (word (suc k) w))) (some (opposing (word (suc k) w))))) i ≡ (not a && eqb (word (suc k) w) i)
+    go : (a b : Bool) → names (cond a None (cond b (Some (same (word (suc k) w))) (Some (opposing (word (suc k) w))))) i ≡ (not a && eqb (word (suc k) w) i)
     go true b = refl
     go false true = refl
     go false false = refl
@@ -257,7 +252,7 @@ warned a n named = when (not named) (warning NeighborDropped (lane_entity a) (la
 dropped-slot : (a k : ℕ) (w : List ℕ) (f : Option Neighbor) → eqb (word k w) 0 ≡ false → dropped a (slot_at k w) f ≡ warned a (word (suc k) w) (names f (word (suc k) w))
 dropped-slot a k w f e = rw e (go (eqb (word k w) 1))
   where
-    go : (b : Bool) → dropped a (cond b (some (same (word (suc k) w))) (some (opposing (word (suc k) w)))) f ≡ warned a (word (suc k) w) (names f (word (suc k) w))
+    go : (b : Bool) → dropped a (cond b (Some (same (word (suc k) w))) (Some (opposing (word (suc k) w)))) f ≡ warned a (word (suc k) w) (names f (word (suc k) w))
     go true = refl
     go false = refl
 

@@ -1,26 +1,20 @@
 -- What merge_lanes decides before it writes: document 01's plans of both sides and of the centreline, with the number of points in place of a line. Nothing that a host
 -- calls rests on this page; the laws in proofs/ tie it to the rules.
-use Rattle.std.specs.Prelude.{◌≡◌, ℕ, ◌<◌, Bool, true, not, ◌&&◌, cond, List, [], ◌∷◌, eqb, length, Float}
-use Rattle.std.proofs.Math.Option.{Option, none, some}
+use Rattle.merge_plan.specs.declared.Plan.{Plan}
+use Rattle.std.specs.Prelude.{◌≡◌, ℕ, ◌<◌, Bool, true, not, ◌&&◌, cond, List, [], ◌∷◌, eqb, length, Float, Option, None, Some, Err, Ok}
 use Rattle.lists.specs.Select.{same_numbers}
-use Rattle.lists.specs.declared.Found.TheVariants.{At}
 use Rattle.polyline.specs.Polyline.{concat}
 use Rattle.entities.specs.Types.{preset}
 use Rattle.entities.specs.Records.{Line, Lane, Map}
 use Rattle.rules.specs.Names.{Tolerance, Side, Left, Right}
-use Rattle.rules.specs.Edit.{Res, refuse, yield, ◌>>=◌}
+use Rattle.rules.specs.Edit.{Res, ◌>>=◌}
 use Rattle.rules.specs.Merge.{SidePlan, kept, in_place, fresh, side_plan, joined_center, speeds_differ}
 use Rattle.tables.specs.View.{word, ref_at, rows, lane_of, boundary_of}
 use Rattle.tables.specs.Formed.{lane_formed}
 use Rattle.row_tests.specs.Good.{all_rows}
 use Rattle.lookup.specs.Lookup.{row_at, count_of, points_or, sorted_table, place_of, side_word, used_besides, Drawable}
-use Rattle.lookup.specs.declared.OptionCount.{OptionCount}
 use Rattle.merge_plan.specs.declared.Joined.{Joined}
 use Rattle.merge_plan.specs.declared.Joined.TheVariants.{Kept, InPlace, Fresh}
-use Rattle.merge_plan.specs.declared.SidePlanned.{SidePlanned}
-use Rattle.merge_plan.specs.declared.SidePlanned.TheVariants.{Refused, Joins}
-use Rattle.merge_plan.specs.declared.Planned.{Planned}
-use Rattle.merge_plan.specs.declared.Planned.TheVariants as N
 use Rattle.tables.specs.Columns.{boundary_words, lane_words, row_count, row_id}
 use Rattle.rules.specs.Limits.{max_lanes}
 
@@ -57,9 +51,9 @@ holds_only ids i = same_numbers ids (i ∷ [])
 
 -- ---- one side
 
-abbrev pub side_told : Res SidePlan → SidePlanned
-side_told (refuse r) = Refused r
-side_told (yield p) = Joins (counted p)
+abbrev pub side_told : Res SidePlan → Res Joined
+side_told (Err r) = Err r
+side_told (Ok p) = Ok (counted p)
 
 -- document 01's plan of a side for the lanes in rows i and j
 abbrev pub side_plan_in : Float → List Float → List ℕ → List ℕ → ℕ → ℕ → Side → Res SidePlan
@@ -75,11 +69,11 @@ abbrev pub both_plans : Res SidePlan → Res SidePlan → Res (SidePlan × SideP
 both_plans l r = do
   pl ← l
   pr ← r
-  yield (pl, pr)
+  Ok (pl, pr)
 
-abbrev pub plan_told : OptionCount → Res (SidePlan × SidePlan) → Planned
-plan_told center (refuse r) = N.Refused r
-plan_told center (yield p) = N.Merges (record { left = counted p.0; right = counted p.1; center = center })
+abbrev pub plan_told : Option ℕ → Res (SidePlan × SidePlan) → Res Plan
+plan_told center (Err r) = Err r
+plan_told center (Ok p) = Ok (record { left = counted p.0; right = counted p.1; center = center })
 
 -- "not mergeable: same lane, then successors of the first, then predecessors of the second": each gives 5 and the first lane
 abbrev pub follows : Lane → Lane → Bool
@@ -97,8 +91,8 @@ pub record SideRows (lanes : List ℕ) (i j : ℕ) (side : Side) (boundaries : L
   pub drawable : Drawable lanes boundaries c
   pub first : i < word row_count lanes
   pub second : j < word row_count lanes
-  pub first_boundary : place_of boundary_words boundaries (ref_at (side_word side) (row_at lane_words lanes i)).boundary ≡ At x
-  pub second_boundary : place_of boundary_words boundaries (ref_at (side_word side) (row_at lane_words lanes j)).boundary ≡ At y
+  pub first_boundary : place_of boundary_words boundaries (ref_at (side_word side) (row_at lane_words lanes i)).boundary ≡ Some x
+  pub second_boundary : place_of boundary_words boundaries (ref_at (side_word side) (row_at lane_words lanes j)).boundary ≡ Some y
 
 -- how many points two lines have when they are joined
 abbrev pub joined_length : Float → Option Line → Option Line → ℕ
@@ -110,7 +104,7 @@ both_alone lanes i one j two = not (used_besides lanes one (word row_id (row_at 
 
 -- a speed limit's mark and bits
 abbrev pub speed_of : ℕ → ℕ → Option ℕ
-speed_of m x = cond (eqb m 0) none (some x)
+speed_of m x = cond (eqb m 0) None (Some x)
 
 abbrev pub speed_words : ℕ → ℕ → ℕ → ℕ → Bool
 speed_words one x two y = speeds_differ (speed_of one x) (speed_of two y)
@@ -121,6 +115,6 @@ slot_word Left = 14
 slot_word Right = 16
 
 -- the whole plan
-abbrev pub planned : Float → List Float → List ℕ → List ℕ → ℕ → ℕ → Planned
+abbrev pub planned : Float → List Float → List ℕ → List ℕ → ℕ → ℕ → Res Plan
 planned join c lanes boundaries i j =
     plan_told (count_of (center_plan join c lanes i j)) (both_plans (side_plan_in join c lanes boundaries i j Left) (side_plan_in join c lanes boundaries i j Right))

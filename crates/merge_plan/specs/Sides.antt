@@ -1,11 +1,9 @@
 -- How a side or the centreline is merged, in numbers. Nothing that a host calls rests on this page.
-use Rattle.std.specs.Prelude.{ℕ, Bool, true, false, List}
+use Rattle.std.specs.Prelude.{ℕ, Bool, true, false, List, Option, unwrap_or}
 use Rattle.rules.specs.Names.{Side}
 use Rattle.tables.specs.View.{ref_at}
 use Rattle.tables.specs.Columns.{lane_words}
 use Rattle.lookup.specs.Lookup.{row_at, side_word}
-use Rattle.lookup.specs.declared.OptionCount.{OptionCount}
-use Rattle.lookup.specs.declared.OptionCount.TheVariants.{None, Some}
 use Rattle.merge_plan.specs.declared.Joined.{Joined}
 use Rattle.merge_plan.specs.declared.Joined.TheVariants.{Kept, InPlace, Fresh}
 
@@ -31,10 +29,5 @@ abbrev pub side_id : List ℕ → ℕ → Side → ℕ
 side_id lanes i side = (ref_at (side_word side) (row_at lane_words lanes i)).boundary
 
 -- how many points the joined centreline has, where there is one
-abbrev pub center_points : OptionCount → ℕ
-center_points None = 0
-center_points (Some n) = n
-
-abbrev pub is_some : OptionCount → Bool
-is_some None = false
-is_some (Some n) = true
+abbrev pub center_points : Option ℕ → ℕ
+center_points center = unwrap_or center 0

@@ -9,7 +9,6 @@ ghost use Rattle.merge_plan.specs.Sides as S;
 
 use entities::Refusal;
 use lists::both;
-use lookup::OptionCount;
 use tables::LANE;
 
 // How a side of two lanes is merged; of a joined line, the number of its points.
@@ -20,24 +19,12 @@ pub enum Joined {
     Fresh(usize),
 }
 
-#[derive(Clone, Copy)]
-pub enum SidePlanned {
-    Refused(Refusal),
-    Joins(Joined),
-}
-
 // Both sides, and how many points the joined explicit centreline has, where there is one.
 #[derive(Clone, Copy)]
 pub struct Plan {
     pub left: Joined,
     pub right: Joined,
-    pub center: OptionCount,
-}
-
-#[derive(Clone, Copy)]
-pub enum Planned {
-    Refused(Refusal),
-    Merges(Plan),
+    pub center: Option<usize>,
 }
 
 // ---- plans in numbers
@@ -71,25 +58,6 @@ pub fn is_fresh(plan: Joined) -> bool
         Joined::Kept => false,
         Joined::InPlace(_) => false,
         Joined::Fresh(_) => true,
-    }
-}
-
-// How many points the joined centreline has, where there is one.
-pub fn center_points(center: OptionCount) -> usize
-    ensures { result ≡ S.center_points center }
-{
-    match center {
-        OptionCount::None => 0,
-        OptionCount::Some(n) => n,
-    }
-}
-
-pub fn is_some(center: OptionCount) -> bool
-    ensures { result ≡ S.is_some center }
-{
-    match center {
-        OptionCount::None => false,
-        OptionCount::Some(_) => true,
     }
 }
 

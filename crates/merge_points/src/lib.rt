@@ -6,9 +6,8 @@ ghost use Rattle.lookup.specs.Lookup as K;
 ghost use Rattle.merge_plan.specs.Sides.{side_points, center_points};
 ghost use Rattle.merge_gone.specs.Leaving as R;
 
-use lookup::OptionCount;
 use merge_gone::Sides;
-use merge_plan::{Joined, center_points, side_points};
+use merge_plan::{Joined, side_points};
 use tables::{
     BOUNDARY, BOUNDARY_SIZE, CROSSWALK, CROSSWALK_LEFT_START, CROSSWALK_RIGHT_START, LANE,
     LANE_CENTERLINE, LANE_CENTERLINE_SIZE, STOP_LINE, STOP_LINE_START,
@@ -62,18 +61,16 @@ fn boundary_points(boundaries: &[u64], gone: &[u64], sides: Sides) -> usize
 {
     let n = boundaries[0] as usize;
     let mut points = 0;
-    let mut i = 0;
-    while i < n {
+    for i in 0..n {
         let at = 1 + i * BOUNDARY;
         let end = at + BOUNDARY;
         points += row_points(&boundaries[at..end], gone, sides);
-        i += 1;
     }
     points
 }
 
 // Points of a lane's explicit centreline after the merge.
-fn center_after(row: &[u64], first: u64, second: u64, center: OptionCount) -> usize
+fn center_after(row: &[u64], first: u64, second: u64, center: Option<usize>) -> usize
     requires { length row.now ≡ 52 }
     ensures { result ≡ R.center_after first second center row.now }
 {
@@ -82,7 +79,7 @@ fn center_after(row: &[u64], first: u64, second: u64, center: OptionCount) -> us
         return 0;
     }
     if id == first {
-        return center_points(center);
+        return center.unwrap_or(0);
     }
     if row[LANE_CENTERLINE] == 0 {
         return 0;
@@ -91,18 +88,16 @@ fn center_after(row: &[u64], first: u64, second: u64, center: OptionCount) -> us
 }
 
 // Points of the explicit centrelines.
-fn lane_points(lanes: &[u64], first: u64, second: u64, center: OptionCount) -> usize
+fn lane_points(lanes: &[u64], first: u64, second: u64, center: Option<usize>) -> usize
     requires { (K.sorted_table 1024 52 lanes.now ≡ true) × ((R.centers_short lanes.now ≡ true) × (center_points center ≤ 512)) }
     ensures { (result ≡ R.lane_points first second center lanes.now) × (result ≤ 524288) }
 {
     let n = lanes[0] as usize;
     let mut points = 0;
-    let mut i = 0;
-    while i < n {
+    for i in 0..n {
         let at = 1 + i * LANE;
         let end = at + LANE;
         points += center_after(&lanes[at..end], first, second, center);
-        i += 1;
     }
     points
 }
@@ -116,7 +111,7 @@ pub fn points_after(
     stop_lines: &[u64],
     crosswalks: &[u64],
     sides: Sides,
-    center: OptionCount,
+    center: Option<usize>,
     gone: &[u64],
 ) -> usize
     requires { R.Counting lanes.now i j boundaries.now stop_lines.now crosswalks.now sides center }

@@ -1,4 +1,5 @@
 -- Joined lines drawn into parts of the work. Assumes nothing.
+use Rattle.std.specs.Prelude.{Option, is_some}
 use mathlib.Core.Path.{◌≡◌, sym, ◌∙◌}
 use mathlib.Core.Bool.{Bool, true, false, cond}
 use mathlib.Core.List.{List, [], append-nil}
@@ -13,12 +14,11 @@ use Rattle.lists.specs.Rows.{over}
 use Rattle.lists.proofs.Rows.{over-nil, over-part}
 use Rattle.polyline.specs.Polyline.{flat}
 use Rattle.entities.specs.Records.{Line}
-use Rattle.lookup.specs.declared.OptionCount.{OptionCount}
 use Rattle.merge_plan.specs.declared.Joined.{Joined}
 use Rattle.merge_plan.specs.declared.Plan.{Plan}
 use Rattle.rules.specs.Names.{Left, Right}
 use Rattle.merge_draw.specs.Redrawing.{stored_line}
-use Rattle.merge_redraw.specs.Relaying.{side_points, is_kept, turned, side_floats, side_drawn, is_some, center_drawn, right_at, center_at, drawn_lines}
+use Rattle.merge_redraw.specs.Relaying.{side_points, is_kept, turned, side_floats, side_drawn, center_drawn, right_at, center_at, drawn_lines}
 
 -- a list written to the front of the part that begins at place a
 pub part-written : {A : Type 0} (w v l : List A) (a : ℕ) → a ≤ length w → v ≡ over (mid_of a (length w - a) w) 0 l → put_mid a (length w - a) w v ≡ over w a l
@@ -42,12 +42,12 @@ side-drawn p r b back l k e s w v a h f =
 
 -- ---- the centreline
 
-pub center_none : (o : OptionCount) (b : Bool) (l : List Float) → b ≡ is_some o → b ≡ false → (w : List Float) (a : ℕ) → w ≡ over w a (cond (is_some o) l [])
+pub center_none : (o : Option ℕ) (b : Bool) (l : List Float) → b ≡ is_some o → b ≡ false → (w : List Float) (a : ℕ) → w ≡ over w a (cond (is_some o) l [])
 center_none o b l k e w a =
     let z : is_some o ≡ false = sym k ∙ e in
     rw z (sym (over-nil w a))
 
-pub center_drawn_lem : (o : OptionCount) (b : Bool) (l : List Float) → b ≡ is_some o → b ≡ true → (w v : List Float) (a : ℕ) → a ≤ length w
+pub center_drawn_lem : (o : Option ℕ) (b : Bool) (l : List Float) → b ≡ is_some o → b ≡ true → (w v : List Float) (a : ℕ) → a ≤ length w
     → v ≡ over (mid_of a (length w - a) w) 0 l → put_mid a (length w - a) w v ≡ over w a (cond (is_some o) l [])
 center_drawn_lem o b l k e w v a h f =
     let z : is_some o ≡ true = sym k ∙ e in

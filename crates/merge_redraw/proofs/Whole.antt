@@ -26,6 +26,9 @@ module _ (join : Float) (p : Plan) (next reach : ℕ) (gone : List ℕ) (i j : �
   pub taken-asks : (next + side_ids p.left < 2 ^ 64) × (center_at p reach < 2 ^ 64)
   taken-asks = (h.ids, omega (arith, h.near, draw_asks.left_few, draw_asks.right_few))
 
+  pub id-fits : (m : ℕ) → m ≡ side_ids p.left → next + m < 2 ^ 64
+  id-fits m e = omega (arith, h.ids, e)
+
   pub right-fits : (n : ℕ) → n ≡ side_points p.left → reach + n < 2 ^ 64
   right-fits n e = omega (arith, h.near, draw_asks.left_few)
 
@@ -37,10 +40,10 @@ module _ (join : Float) (p : Plan) (next reach : ℕ) (gone : List ℕ) (i j : �
 
   -- ---- what they leave
 
-  module _ (taken : Taken) (te : taken ≡ taken_of p next reach) (n : ℕ) (ne : n ≡ side_points p.left)
-      (one two : Redrawn) (e1 : one ≡ redrawn_of lanes i Left boundaries p.left next reach) (e2 : two ≡ redrawn_of lanes i Right boundaries p.right taken.other (reach + n)) where
+  module _ (taken : Taken) (te : taken ≡ taken_of p next reach) (n m : ℕ) (ne : n ≡ side_points p.left) (me : m ≡ side_ids p.left)
+      (one two : Redrawn) (e1 : one ≡ redrawn_of lanes i Left boundaries p.left next reach) (e2 : two ≡ redrawn_of lanes i Right boundaries p.right (next + m) (reach + n)) where
     two_is : two ≡ redrawn_of lanes i Right boundaries p.right (next + side_ids p.left) (right_at p reach)
-    two_is = e2 ∙ (ap (λ k. redrawn_of lanes i Right boundaries p.right k.other (reach + n)) te ∙ ap (λ k. redrawn_of lanes i Right boundaries p.right (next + side_ids p.left) (reach + k)) ne)
+    two_is = e2 ∙ (ap (λ k. redrawn_of lanes i Right boundaries p.right (next + k) (reach + n)) me ∙ ap (λ k. redrawn_of lanes i Right boundaries p.right (next + side_ids p.left) (reach + k)) ne)
 
     pub redraw_asks : Redrawable gone one two boundaries
     redraw_asks = rw (e1, two_is) h.redrawable

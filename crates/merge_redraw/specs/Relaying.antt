@@ -1,11 +1,9 @@
 -- The tables with lines as a merge leaves them, in words: joined lines drawn into an array of work, rows that point there, and the layout. Nothing that a host calls rests on this page; the laws of merge_laid tie it to `laid` and the rules.
-use Rattle.std.specs.Prelude.{ℕ, ◌+◌, ◌*◌, ◌^◌, ◌≤◌, ◌<◌, ◌≡◌, Bool, true, false, not, cond, List, [], ◌∷◌, length, replicate, Float}
+use Rattle.std.specs.Prelude.{ℕ, ◌+◌, ◌*◌, ◌^◌, ◌≤◌, ◌<◌, ◌≡◌, Bool, true, false, not, cond, List, [], ◌∷◌, length, replicate, Float, Option, None, Some, is_some}
 use Rattle.std.specs.Float.{binary64}
 use Rattle.std.specs.Float.Ieee.{of_bits}
 use Rattle.lists.specs.Rows.{over}
 use Rattle.lists.specs.Select.{has}
-use Rattle.lists.specs.declared.Found.{Found}
-use Rattle.lists.specs.declared.Found.TheVariants.{At, Nothing}
 use Rattle.polyline.specs.Polyline.{flat}
 use Rattle.entities.specs.Records.{Line}
 use Rattle.rules.specs.Names.{Side, Left, Right}
@@ -16,11 +14,11 @@ use Rattle.tables.specs.Columns.{boundary_attributes, boundary_kind, boundary_wo
 use Rattle.store.specs.Rows.{kept_rows, on_rows, appended_rows}
 use Rattle.layout.specs.Layout.{line_tables, sourced, gathered, Gatherable}
 use Rattle.lookup.specs.Lookup.{row_at, place_of, side_word, sorted_table, centers_stored, Drawable}
-use Rattle.lookup.specs.declared.OptionCount.{OptionCount}
 use Rattle.merge_plan.specs.declared.Joined.{Joined}
 use Rattle.merge_plan.specs.declared.Joined.TheVariants.{Kept, InPlace, Fresh}
 use Rattle.merge_plan.specs.declared.Plan.{Plan}
-pub use Rattle.merge_plan.specs.Sides.{side_points, side_ids, is_fresh, center_points, is_some}
+pub use Rattle.merge_plan.specs.Sides.{side_points, side_ids}
+use Rattle.merge_draw.specs.declared.DrawnLine.{DrawnLine}
 use Rattle.merge_draw.specs.declared.Taken.{Taken}
 use Rattle.merge_draw.specs.Redrawing.{joined_side, joined_centers, stored_line, pointed_row, boundary_row, as_given, row_merged, LanesLinked}
 use Rattle.merge_redraw.specs.declared.Redrawn.{Redrawn}
@@ -45,7 +43,7 @@ side_floats p reversed l = cond (is_kept p) [] (flat (stored_line (turned p reve
 abbrev pub side_drawn : Float → List Float → List ℕ → List ℕ → ℕ → ℕ → Side → Joined → List Float
 side_drawn join c lanes boundaries i j side p = side_floats p (ref_at (side_word side) (row_at lane_words lanes i)).reversed (joined_side join c lanes boundaries i j side)
 
-abbrev pub center_drawn : Float → List Float → List ℕ → ℕ → ℕ → OptionCount → List Float
+abbrev pub center_drawn : Float → List Float → List ℕ → ℕ → ℕ → Option ℕ → List Float
 center_drawn join c lanes i j o = cond (is_some o) (flat (joined_centers join c lanes i j)) []
 
 -- where the lines lie, in points, the first of them from `at` on: the left one, then the right one, then the centreline
@@ -65,9 +63,9 @@ drawn_lines join c lanes boundaries i j p work =
 -- ---- boundaries
 
 -- the row of a boundary, where it is found
-abbrev pub row_found : List ℕ → Found → List ℕ
-row_found t (At x) = row_at boundary_words t x
-row_found t Nothing = []
+abbrev pub row_found : List ℕ → Option ℕ → List ℕ
+row_found t (Some x) = row_at boundary_words t x
+row_found t None = []
 
 -- what a side does to the table of boundaries: the first lane's boundary, and of a new one its id, with kind and attributes of the first lane's
 abbrev pub redrawn_of : List ℕ → ℕ → Side → List ℕ → Joined → ℕ → ℕ → Redrawn
@@ -109,18 +107,20 @@ pub record Redrawable (gone : List ℕ) (l r : Redrawn) (t : List ℕ) : Type 0 
 
 -- ---- lanes
 
+-- the id of a side's new boundary, where it has one
+abbrev pub fresh_id : Joined → ℕ → Option ℕ
+fresh_id Kept id = None
+fresh_id (InPlace n) id = None
+fresh_id (Fresh n) id = Some id
+
+-- the joined centreline, where there is one, from its count of points
+abbrev pub center_line : Option ℕ → ℕ → Option DrawnLine
+center_line None start = None
+center_line (Some n) start = Some (record { start = start; size = n })
+
 -- what the first lane takes over; `next` is the next id
 abbrev pub taken_of : Plan → ℕ → ℕ → Taken
-taken_of p next reach =
-    record {
-      left = is_fresh p.left;
-      boundary = next;
-      right = is_fresh p.right;
-      other = next + side_ids p.left;
-      center = is_some p.center;
-      start = center_at p reach;
-      size = center_points p.center;
-    }
+taken_of p next reach = record { left = fresh_id p.left next; right = fresh_id p.right (next + side_ids p.left); center = center_line p.center (center_at p reach) }
 
 -- the second lane's row goes first
 unfoldable pub lanes_redrawn : ℕ → ℕ → Taken → List ℕ → List ℕ → List ℕ
@@ -164,7 +164,7 @@ pub record Drawing (c : List Float) (lanes boundaries : List ℕ) (i j : ℕ) (p
   pub centered : is_some p.center ≡ true → (mark lane_centerline (row_at lane_words lanes i) ≡ true) × (mark lane_centerline (row_at lane_words lanes j) ≡ true)
 
 -- of drawing the centreline
-pub record CenterDrawing (c : List Float) (lanes : List ℕ) (i j : ℕ) (center : OptionCount) (work : List Float) (at : ℕ) : Type 0 where
+pub record CenterDrawing (c : List Float) (lanes : List ℕ) (i j : ℕ) (center : Option ℕ) (work : List Float) (at : ℕ) : Type 0 where
   pub sorted : sorted_table max_lanes lane_words lanes ≡ true
   pub centers : centers_stored c lanes ≡ true
   pub first : i < word row_count lanes

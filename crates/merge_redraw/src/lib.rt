@@ -9,8 +9,7 @@ ghost use Rattle.lookup.specs.Lookup as K;
 ghost use Rattle.merge_redraw.specs.Relaying as W;
 
 use entities::Side;
-use lookup::OptionCount;
-use merge_plan::{Joined, Plan, is_some, side_points};
+use merge_plan::{Joined, Plan, side_points};
 use tables::POINT;
 
 // What a side does to the table of boundaries: the boundary of the first lane, and of a new one the id, and kind and attributes of the first lane's.
@@ -90,14 +89,14 @@ fn draw_center(
     i: usize,
     j: usize,
     coordinates: &[f64],
-    center: OptionCount,
+    center: Option<usize>,
     work: &mut [f64],
     at: usize,
 )
     requires { W.CenterDrawing coordinates.now lanes.now i j center work.old at }
     ensures { work.new ≡ over work.old (at * 3) (W.center_drawn join coordinates.now lanes.now i j center) }
 {
-    if is_some(center) {
+    if center.is_some() {
         let from = at * POINT;
         merge_draw::join_center(join, lanes, i, j, coordinates, &mut work[from..]);
     }

@@ -6,7 +6,7 @@ ghost use Rattle.layout.specs.Layout as L;
 ghost use Rattle.merge_redraw.specs.Relaying as W;
 
 use entities::Side;
-use merge_plan::{Plan, side_points};
+use merge_plan::{Plan, side_ids, side_points};
 
 // Floats of the array of work: three lines of two times 256 points.
 const WORK: usize = 4608;
@@ -33,7 +33,7 @@ fn relay_in(
     let left = plan.left;
     let right = plan.right;
     let taken = merge_rows::taken_of(plan, next, reach);
-    let other = taken.other;
+    let other = next + side_ids(left) as u64;
     let right_at = reach + side_points(left);
     merge_redraw::draw(join, lanes, i, j, boundaries, coordinates, plan, work);
     let one = merge_rows::redrawn_of(lanes, i, Side::Left, boundaries, left, next, reach);

@@ -9,9 +9,8 @@ ghost use Rattle.merge_gone.specs.Leaving as R;
 
 use entities::Side;
 use lists::both;
-use lookup::OptionCount;
 use merge_gone::Sides;
-use merge_plan::{Plan, center_points, side_ids, side_points};
+use merge_plan::{Plan, side_ids, side_points};
 use tables::BOUNDARY;
 
 const MAX_BOUNDARIES: usize = 4096;
@@ -19,7 +18,7 @@ const MAX_BOUNDARIES: usize = 4096;
 const MAX_LINE_POINTS: usize = 256;
 
 // Whether the lines that are drawn have at most 256 points. Where both sides are joined in place in one boundary the right one's line stands.
-fn lines_fit(sides: Sides, center: OptionCount) -> bool
+fn lines_fit(sides: Sides, center: Option<usize>) -> bool
     ensures { result ≡ R.lines_fit sides center }
 {
     let left = sides.left;
@@ -33,7 +32,7 @@ fn lines_fit(sides: Sides, center: OptionCount) -> bool
             merge_gone::either(over, side_points(left) <= MAX_LINE_POINTS),
             side_points(right) <= MAX_LINE_POINTS,
         ),
-        center_points(center) <= MAX_LINE_POINTS,
+        center.unwrap_or(0) <= MAX_LINE_POINTS,
     )
 }
 

@@ -9,9 +9,8 @@ ghost use Rattle.merge_draw.specs.Redrawing.{LanesLinked};
 ghost use Rattle.merge_redraw.specs.Relaying as W;
 
 use entities::Side;
-use lists::Found;
-use merge_draw::Taken;
-use merge_plan::{Joined, Plan, center_points, is_fresh, is_some, side_ids, side_points};
+use merge_draw::{DrawnLine, Taken};
+use merge_plan::{Joined, Plan, side_ids, side_points};
 use merge_redraw::Redrawn;
 use tables::{BOUNDARY, BOUNDARY_ATTRIBUTES, BOUNDARY_KIND, LANE};
 
@@ -33,7 +32,7 @@ pub fn redrawn_of(
     let boundary = lookup::boundary_ref(lanes, i, side).boundary;
     let found = lookup::boundary(boundaries, boundary);
     match found {
-        Found::At(x) => Redrawn {
+        Some(x) => Redrawn {
             plan,
             boundary,
             id,
@@ -41,7 +40,7 @@ pub fn redrawn_of(
             attributes: boundaries[1 + x * BOUNDARY + BOUNDARY_ATTRIBUTES],
             start,
         },
-        Found::Nothing => Redrawn {
+        None => Redrawn {
             plan,
             boundary,
             id,
@@ -94,6 +93,27 @@ pub fn redraw_boundaries(t: &mut [u64], gone: &[u64], left: Redrawn, right: Redr
     add_side(t, right);
 }
 
+// The id of a side's new boundary, where it has one.
+fn fresh_id(plan: Joined, id: u64) -> Option<u64>
+    ensures { result ≡ W.fresh_id plan id }
+{
+    match plan {
+        Joined::Kept => None,
+        Joined::InPlace(_) => None,
+        Joined::Fresh(_) => Some(id),
+    }
+}
+
+// The joined centreline, where there is one, from its count of points.
+fn center_line(center: Option<usize>, start: usize) -> Option<DrawnLine>
+    ensures { result ≡ W.center_line center start }
+{
+    match center {
+        None => None,
+        Some(size) => Some(DrawnLine { start, size }),
+    }
+}
+
 // What the first lane takes over.
 pub fn taken_of(plan: Plan, next: u64, reach: usize) -> Taken
     requires { (next + W.side_ids plan.left < 2 ^ 64) × (W.center_at plan reach < 2 ^ 64) }
@@ -101,15 +121,12 @@ pub fn taken_of(plan: Plan, next: u64, reach: usize) -> Taken
 {
     let left = plan.left;
     let right = plan.right;
-    let center = plan.center;
+    let other = next + side_ids(left) as u64;
+    let start = reach + side_points(left) + side_points(right);
     Taken {
-        left: is_fresh(left),
-        boundary: next,
-        right: is_fresh(right),
-        other: next + side_ids(left) as u64,
-        center: is_some(center),
-        start: reach + side_points(left) + side_points(right),
-        size: center_points(center),
+        left: fresh_id(left, next),
+        right: fresh_id(right, other),
+        center: center_line(plan.center, start),
     }
 }
 

@@ -7,7 +7,7 @@ ghost use Rattle.tables.specs.Formed.{counted};
 ghost use Rattle.store.specs.Rows.{on_rows, appended_rows};
 ghost use Rattle.merge_draw.specs.Redrawing as D;
 
-use merge_draw::Taken;
+use merge_draw::{DrawnLine, Taken};
 use tables::{
     BOUNDARY, BOUNDARY_ATTRIBUTES, BOUNDARY_ID, BOUNDARY_KIND, BOUNDARY_SIZE, BOUNDARY_START, LANE,
     LANE_CENTERLINE, LANE_CENTERLINE_SIZE, LANE_CENTERLINE_START, LANE_ID, LANE_LEFT, LANE_RIGHT,
@@ -31,12 +31,10 @@ pub fn point_boundary(t: &mut [u64], id: u64, start: usize, size: usize)
     ensures { t.new ≡ on_rows 5 (D.pointed_row id start size) t.old }
 {
     let n = t[0] as usize;
-    let mut i = 0;
-    while i < n {
+    for i in 0..n {
         let at = 1 + i * BOUNDARY;
         let end = at + BOUNDARY;
         point_row(&mut t[at..end], id, start, size);
-        i += 1;
     }
 }
 
@@ -67,28 +65,34 @@ fn relink_row(row: &mut [u64], first: u64, second: u64)
     }
 }
 
-// A new boundary at place k of a lane's row.
-fn put_ref(row: &mut [u64], on: bool, k: usize, id: u64)
+// A new boundary, where there is one, at place k of a lane's row.
+fn put_ref(row: &mut [u64], k: usize, id: Option<u64>)
     requires { k + 2 ≤ length row.old }
-    ensures { row.new ≡ D.ref_onto on k id row.old }
+    ensures { row.new ≡ D.ref_onto id k row.old }
 {
-    if on {
-        row[k] = id;
-        row[k + 1] = 0;
+    match id {
+        None => {}
+        Some(id) => {
+            row[k] = id;
+            row[k + 1] = 0;
+        }
     }
 }
 
 // The joined centreline in a lane's row, or none.
-fn put_center(row: &mut [u64], on: bool, start: usize, size: usize)
+fn put_center(row: &mut [u64], center: Option<DrawnLine>)
     requires { length row.old ≡ 52 }
-    ensures { row.new ≡ D.center_onto on start size row.old }
+    ensures { row.new ≡ D.center_onto center row.old }
 {
-    if on {
-        row[LANE_CENTERLINE] = 1;
-        row[LANE_CENTERLINE_START] = start as u64;
-        row[LANE_CENTERLINE_SIZE] = size as u64;
-    } else {
-        row[LANE_CENTERLINE] = 0;
+    match center {
+        None => {
+            row[LANE_CENTERLINE] = 0;
+        }
+        Some(line) => {
+            row[LANE_CENTERLINE] = 1;
+            row[LANE_CENTERLINE_START] = line.start as u64;
+            row[LANE_CENTERLINE_SIZE] = line.size as u64;
+        }
     }
 }
 
@@ -97,9 +101,9 @@ fn take_over(row: &mut [u64], taken: Taken, successors: &[u64])
     requires { (length row.old ≡ 52) × (length successors.now ≤ 16) }
     ensures { row.new ≡ D.takes_over taken successors.now row.old }
 {
-    put_ref(row, taken.left, LANE_LEFT, taken.boundary);
-    put_ref(row, taken.right, LANE_RIGHT, taken.other);
-    put_center(row, taken.center, taken.start, taken.size);
+    put_ref(row, LANE_LEFT, taken.left);
+    put_ref(row, LANE_RIGHT, taken.right);
+    put_center(row, taken.center);
     row_lists::put_list(row, SUCCESSORS, successors);
 }
 
@@ -121,11 +125,9 @@ pub fn merge_rows(t: &mut [u64], first: u64, second: u64, taken: Taken, successo
     ensures { t.new ≡ on_rows 52 (D.row_merged first second taken successors.now) t.old }
 {
     let n = t[0] as usize;
-    let mut i = 0;
-    while i < n {
+    for i in 0..n {
         let at = 1 + i * LANE;
         let end = at + LANE;
         merge_row(&mut t[at..end], first, second, taken, successors);
-        i += 1;
     }
 }

@@ -11,7 +11,7 @@ ghost use Rattle.geometry.specs.Float.{◌-ᶠ◌, epsilon};
 ghost use Rattle.std.specs.Float.Ieee.{lt};
 
 use geometry::{Point2, Point3};
-use polyline::{NearestPoint, OptionNearest};
+use polyline::NearestPoint;
 
 // What segment i offers to `to`: it starts at p and at station `at`, and ends at q, `seg` further on.
 fn candidate(i: usize, at: f64, to: Point2, p: Point3, q: Point3, seg: f64) -> NearestPoint
@@ -41,7 +41,7 @@ fn nearer(best: NearestPoint, next: NearestPoint) -> NearestPoint
 fn square_to(p: Point3, to: Point2) -> f64
     ensures { result ≡ square p to }
 {
-    let d = p.xy().sub(to);
+    let d = p.xy() - to;
     d.dot(d)
 }
 
@@ -86,16 +86,16 @@ fn better(
     nearer(best, offered)
 }
 
-pub fn nearest_point(line: &[f64], to: Point2) -> OptionNearest
+pub fn nearest_point(line: &[f64], to: Point2) -> Option<NearestPoint>
     ensures { result ≡ L.nearest_point (points line.now) to }
 {
     let n = polyline::count(line);
     if n == 0 {
-        return OptionNearest::None;
+        return None;
     }
     let first = polyline::point(line, 0);
     if n == 1 {
-        return OptionNearest::Some(NearestPoint {
+        return Some(NearestPoint {
             point: first,
             distance: first.xy().distance(to),
             station: 0.0,
@@ -106,14 +106,12 @@ pub fn nearest_point(line: &[f64], to: Point2) -> OptionNearest
     let seg = first.distance(p);
     let mut best = candidate(0, 0.0, to, first, p, seg);
     let mut at = 0.0 + seg;
-    let mut i = 1;
-    while i + 1 < n {
+    for i in 1..n - 1 {
         let q = polyline::point(line, i + 1);
         let step = p.distance(q);
         best = better(best, i, at, to, p, q, step);
         at = at + step;
         p = q;
-        i += 1;
     }
-    OptionNearest::Some(best)
+    Some(best)
 }

@@ -13,8 +13,7 @@ pub fn each_once(ids: &[u64]) -> bool
     ensures { result ≡ distinct ids.now }
 {
     let mut seen = [false; MARKS];
-    let mut i = 0;
-    while i < ids.len() {
+    for i in 0..ids.len() {
         let mark = ids[i] as usize % MARKS;
         if seen[mark] {
             if lists::contains(&ids[..i], ids[i]) {
@@ -22,7 +21,6 @@ pub fn each_once(ids: &[u64]) -> bool
             }
         }
         seen[mark] = true;
-        i += 1;
     }
     true
 }

@@ -6,6 +6,7 @@ ghost use Rattle.step.specs.Step as S;
 ghost use Rattle.ops.specs.Calls.{Applied};
 
 use entities::{Command, Counter, Refusal, Tolerance};
+use lent::{Lists, Map};
 use report::Answer;
 
 // Map::apply: makes a command on the map that is lent, or refuses it. Every list of contents, whatever its length, has its answer.
@@ -40,9 +41,7 @@ pub fn apply(
         crosswalks,
         coordinates,
     ) {
-        return dispatch::dispatch(
-            next,
-            tolerance,
+        let mut map = Map {
             lanes,
             boundaries,
             roads,
@@ -51,12 +50,14 @@ pub fn apply(
             stop_lines,
             crosswalks,
             coordinates,
-            command,
+        };
+        let mut lists = Lists {
             created,
             modified,
             deleted,
             warnings,
-        );
+        };
+        return dispatch::dispatch(next, tolerance, &mut map, command, &mut lists);
     }
-    Answer::Refused(Refusal::Unsound)
+    Err(Refusal::Unsound)
 }

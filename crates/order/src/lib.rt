@@ -59,14 +59,12 @@ fn column_behind(
 {
     let n = t[0] as usize;
     let mut far = from;
-    let mut i = 0;
-    while i < n {
+    for i in 0..n {
         let row = 1 + i * stride;
         if has_line(t, row, marked) {
             let at = row + offset;
             far = line_behind(t[at], t[at + 1], reach, far);
         }
-        i += 1;
     }
     far
 }

@@ -1,4 +1,5 @@
 -- The lines that are made: how many points they have, and how a writer goes on, a piece at a time. Assumes nothing.
+use Rattle.std.specs.Prelude.{Option, None, Some}
 use mathlib.Core.Path.{◌≡◌, refl, sym, ap, ◌∙◌}
 use Prim.Native.Nat.{ℕ, zero, suc, ◌+◌, ◌-◌, ◌*◌, ◌≤◌, ◌<◌, max}
 use native.Mathlib.Nat.{add-zero}
@@ -18,10 +19,6 @@ use Rattle.lists.specs.Rows.{over}
 use Rattle.geometry.specs.Float.{◌+ᶠ◌, zeroᶠ, halfᶠ, clamp}
 use Rattle.geometry.specs.Point.{distance3, lerp3}
 use Rattle.geometry.specs.declared.Point3.{Point3}
-use Rattle.polyline.specs.declared.OptionPoint3.{OptionPoint3}
-use Rattle.polyline.specs.declared.OptionPoint3.TheVariants as P
-use Rattle.polyline.specs.declared.Located.{Located}
-use Rattle.polyline.specs.declared.Located.TheVariants as L
 use Rattle.polyline.specs.Polyline.{point_of, flat, first, last, line_length, locate, locate_from, point_in, point_at}
 use Rattle.polyline.specs.Polyline.{optional, optionally, inside, inner, between, slice, share, resample_from, resample_count}
 use Rattle.polyline.specs.Polyline.{skipped, meeting, concat, middle, centerline}
@@ -57,9 +54,9 @@ ends w₀ w k₀ k line l = sym (over_none w k) ∙ l.gives
 
 -- ---- at most one point
 
-pub optional-few : (p : OptionPoint3) → length (optional p) ≤ 1
-optional-few P.None = omega arith
-optional-few (P.Some p) = omega arith
+pub optional-few : (p : Option Point3) → length (optional p) ≤ 1
+optional-few None = omega arith
+optional-few (Some p) = omega arith
 
 pub optionally-few : (b : Bool) (p : Point3) → length (optionally b p) ≤ 1
 optionally-few true p = omega arith
@@ -72,11 +69,11 @@ counts-on b q n f g l rest h e k = omega (arith, ap length e, length-append (opt
 
 -- ---- a line of some points has a point at every station
 
-abbrev placed : Located → Bool
-placed L.Nothing = false
-placed (L.At i t) = true
+abbrev placed : Option (ℕ × Float) → Bool
+placed None = false
+placed (Some (i, t)) = true
 
-placed-cond : (b : Bool) (l m : Located) → placed l ≡ true → placed m ≡ true → placed (cond b l m) ≡ true
+placed-cond : (b : Bool) (l m : Option (ℕ × Float)) → placed l ≡ true → placed m ≡ true → placed (cond b l m) ≡ true
 placed-cond true l m h k = h
 placed-cond false l m h k = k
 
@@ -91,22 +88,22 @@ pub located : (ps : List Point3) (station : Float) → 0 < length ps → placed 
 unfolding locate
 located [] station h = absurd (omega arith)
 located (p ∷ []) station h = refl
-located (p ∷ q ∷ ps) station h = placed-cond (le station zeroᶠ) (L.At 0 zeroᶠ) (locate_from 0 zeroᶠ station p (q ∷ ps)) refl (placed-from 0 zeroᶠ station p (q ∷ ps))
+located (p ∷ q ∷ ps) station h = placed-cond (le station zeroᶠ) (Some (0, zeroᶠ)) (locate_from 0 zeroᶠ station p (q ∷ ps)) refl (placed-from 0 zeroᶠ station p (q ∷ ps))
 
-one-cond : (b : Bool) (p q : OptionPoint3) → length (optional p) ≡ 1 → length (optional q) ≡ 1 → length (optional (cond b p q)) ≡ 1
+one-cond : (b : Bool) (p q : Option Point3) → length (optional p) ≡ 1 → length (optional q) ≡ 1 → length (optional (cond b p q)) ≡ 1
 one-cond true p q h k = h
 one-cond false p q h k = k
 
-in_one : (ps : List Point3) (l : Located) → 0 < length ps → placed l ≡ true → length (optional (point_in ps l)) ≡ 1
+in_one : (ps : List Point3) (l : Option (ℕ × Float)) → 0 < length ps → placed l ≡ true → length (optional (point_in ps l)) ≡ 1
 unfolding point_in
-in_one ps L.Nothing h e = absurd (let z : ◌≡◌ {A = ℕ} 0 1 = cc in omega arith)
-in_one ps (L.At i t) h e = one-cond (ltb (suc i) (length ps)) _ (last ps) refl (rw (← last_some ps h))
+in_one ps None h e = absurd (let z : ◌≡◌ {A = ℕ} 0 1 = cc in omega arith)
+in_one ps (Some (i, t)) h e = one-cond (ltb (suc i) (length ps)) _ (last ps) refl (rw (← last_some ps h))
 
 pub point-at-one : (ps : List Point3) (station : Float) → 0 < length ps → length (optional (point_at ps station)) ≡ 1
 unfolding point_at
 point-at-one ps station h = in_one ps (locate ps station) h (located ps station h)
 
-pub point-at-empty : (ps : List Point3) (station : Float) → length ps ≡ 0 → point_at ps station ≡ P.None
+pub point-at-empty : (ps : List Point3) (station : Float) → length ps ≡ 0 → point_at ps station ≡ None
 unfolding point_at locate point_in
 point-at-empty ps station h = rw (no-point ps h)
 
@@ -246,11 +243,11 @@ reverse-ends ps i h = let e : length ps - i ≡ 0 = omega arith in rw e
 
 -- ---- concat
 
-meeting-few : (join : Float) (p q : OptionPoint3) → meeting join p q ≤ length (optional q)
+meeting-few : (join : Float) (p q : Option Point3) → meeting join p q ≤ length (optional q)
 unfolding meeting
-meeting-few join P.None q = omega arith
-meeting-few join (P.Some p) P.None = omega arith
-meeting-few join (P.Some p) (P.Some q) = go (lt (distance3 p q) join)
+meeting-few join None q = omega arith
+meeting-few join (Some p) None = omega arith
+meeting-few join (Some p) (Some q) = go (lt (distance3 p q) join)
   where
     go : (b : Bool) → cond b 1 0 ≤ 1
     go true = omega arith
@@ -272,18 +269,18 @@ module _ (join : Float) (ps qs : List Point3) where
 
 -- ---- centerline
 
-pub middle-one : (a b : OptionPoint3) → length (optional a) ≡ 1 → length (optional b) ≡ 1 → length (optional (middle a b)) ≡ 1
+pub middle-one : (a b : Option Point3) → length (optional a) ≡ 1 → length (optional b) ≡ 1 → length (optional (middle a b)) ≡ 1
 unfolding middle
-middle-one P.None b h k = h
-middle-one (P.Some p) P.None h k = k
-middle-one (P.Some p) (P.Some q) h k = refl
+middle-one None b h k = h
+middle-one (Some p) None h k = k
+middle-one (Some p) (Some q) h k = refl
 
-pub middle-goes : (a b : OptionPoint3) (l m : List Point3) → length (optional a) ≡ 1 → length (optional b) ≡ 1
+pub middle-goes : (a b : Option Point3) (l m : List Point3) → length (optional a) ≡ 1 → length (optional b) ≡ 1
     → zip_with (λ p q. lerp3 p q halfᶠ) (optional a ++ l) (optional b ++ m) ≡ optional (middle a b) ++ zip_with (λ p q. lerp3 p q halfᶠ) l m
 unfolding middle zip_with
-middle-goes P.None b l m h k = absurd (omega arith)
-middle-goes (P.Some p) P.None l m h k = absurd (omega arith)
-middle-goes (P.Some p) (P.Some q) l m h k = refl
+middle-goes None b l m h k = absurd (omega arith)
+middle-goes (Some p) None l m h k = absurd (omega arith)
+middle-goes (Some p) (Some q) l m h k = refl
 
 -- what is left of a centerline from number i on, of k points
 abbrev pub halved : List Point3 → List Point3 → ℕ → ℕ → ℕ → List Point3

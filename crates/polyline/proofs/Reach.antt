@@ -1,4 +1,5 @@
 -- Where every point of a line lies within ±2^24, so does every point of a line that is made of it. Assumes nothing.
+use Rattle.std.specs.Prelude.{Some, Option, None}
 use mathlib.Core.Path.{◌≡◌, refl, sym}
 use Prim.Native.Nat.{ℕ, zero, suc, ◌-◌, ◌<◌, max}
 use native.Mathlib.Omega.{arith}
@@ -16,9 +17,6 @@ use Rattle.geometry.specs.declared.Point3.{Point3}
 use Rattle.geometry.proofs.Both.{both}
 use Rattle.geometry.proofs.Order.{not-lt}
 use Rattle.geometry.proofs.Laws.{lerp_reach}
-use Rattle.polyline.specs.declared.OptionPoint3.TheVariants as P
-use Rattle.polyline.specs.declared.Located.{Located}
-use Rattle.polyline.specs.declared.Located.TheVariants as L
 use Rattle.polyline.specs.Polyline.{point_of, line_length, held, first, last, last_from, locate, locate_from, point_in, point_at}
 use Rattle.polyline.specs.Polyline.{optional, optionally, inside, inner, between, slice, first_piece, second_piece, share}
 use Rattle.polyline.specs.Polyline.{resample_from, resample_count, skipped, concat, centerline}
@@ -71,11 +69,11 @@ held-fraction t = number (eq t t) refl
 -- ---- locate
 
 -- the fraction of a place, if it is one
-abbrev sound : Located → Bool
-sound L.Nothing = true
-sound (L.At i t) = fraction t
+abbrev sound : Option (ℕ × Float) → Bool
+sound None = true
+sound (Some (i, t)) = fraction t
 
-sound-cond : (b : Bool) (l m : Located) → sound l ≡ true → sound m ≡ true → sound (cond b l m) ≡ true
+sound-cond : (b : Bool) (l m : Option (ℕ × Float)) → sound l ≡ true → sound m ≡ true → sound (cond b l m) ≡ true
 sound-cond true l m h k = h
 sound-cond false l m h k = k
 
@@ -83,7 +81,7 @@ sound-from : (i : ℕ) (here station : Float) (p : Point3) (qs : List Point3) �
 unfolding locate_from
 sound-from i here station p [] = one-fraction
 sound-from i here station p (q ∷ qs) =
-    sound-cond (le station (here +ᶠ distance3 p q) && lt zeroᶠ (distance3 p q)) (L.At i (held ((station -ᶠ here) /ᶠ distance3 p q)))
+    sound-cond (le station (here +ᶠ distance3 p q) && lt zeroᶠ (distance3 p q)) (Some (i, (held ((station -ᶠ here) /ᶠ distance3 p q))))
     (locate_from (suc i) (here +ᶠ distance3 p q) station q qs) (held-fraction ((station -ᶠ here) /ᶠ distance3 p q))
     (sound-from (suc i) (here +ᶠ distance3 p q) station q qs)
 
@@ -92,9 +90,9 @@ unfolding locate
 sound-locate [] station = refl
 sound-locate (p ∷ []) station = zero-fraction
 sound-locate (p ∷ q ∷ ps) station =
-    sound-cond (le station zeroᶠ) (L.At 0 zeroᶠ) (locate_from 0 zeroᶠ station p (q ∷ ps)) zero-fraction (sound-from 0 zeroᶠ station p (q ∷ ps))
+    sound-cond (le station zeroᶠ) (Some (0, zeroᶠ)) (locate_from 0 zeroᶠ station p (q ∷ ps)) zero-fraction (sound-from 0 zeroᶠ station p (q ∷ ps))
 
-pub locate-fraction : (ps : List Point3) (station : Float) (i : ℕ) (t : Float) → locate ps station ≡ L.At i t → fraction t ≡ true
+pub locate-fraction : (ps : List Point3) (station : Float) (i : ℕ) (t : Float) → locate ps station ≡ Some (i, t) → fraction t ≡ true
 locate-fraction ps station i t e = rw e at (sound-locate ps station)
 
 -- ---- points, one by one
@@ -114,13 +112,13 @@ unfolding last
 last-reach [] h = h
 last-reach (p ∷ ps) h = all_cons in_reach (last_from p ps) [] (last-from-reach p ps h) (all_nil in_reach)
 
-in_reach_lem : (ps : List Point3) (l : Located) → all in_reach ps ≡ true → sound l ≡ true → all in_reach (optional (point_in ps l)) ≡ true
+in_reach_lem : (ps : List Point3) (l : Option (ℕ × Float)) → all in_reach ps ≡ true → sound l ≡ true → all in_reach (optional (point_in ps l)) ≡ true
 unfolding point_in
-in_reach_lem ps L.Nothing h k = all_nil in_reach
-in_reach_lem ps (L.At i t) h k = go (ltb (suc i) (length ps)) refl
+in_reach_lem ps None h k = all_nil in_reach
+in_reach_lem ps (Some (i, t)) h k = go (ltb (suc i) (length ps)) refl
   where
     go : (b : Bool) → ltb (suc i) (length ps) ≡ b
-        → all in_reach (optional (cond b (P.Some (lerp3 (get_or ps i (point_of [])) (get_or ps (suc i) (point_of [])) t)) (last ps))) ≡ true
+        → all in_reach (optional (cond b (Some (lerp3 (get_or ps i (point_of [])) (get_or ps (suc i) (point_of [])) t)) (last ps))) ≡ true
     go true e =
         let l : suc i < length ps = ltb-true (suc i) (length ps) e in
         all_cons in_reach (lerp3 (at ps i) (at ps (suc i)) t) []

@@ -1,4 +1,5 @@
 -- The two pieces of a split at a station inside the line share the point there. Assumes nothing.
+use Rattle.std.specs.Prelude.{Option, None, Some}
 use mathlib.Core.Path.{◌≡◌, refl, sym, ap, ◌∙◌}
 use Prim.Native.Nat.{◌≤◌}
 use native.Mathlib.Omega.{arith}
@@ -9,8 +10,6 @@ use lib.ListN.{length}
 use Rattle.geometry.specs.Float.{zeroᶠ, clamp}
 use Rattle.geometry.specs.declared.Point3.{Point3}
 use Rattle.geometry.proofs.Order.{lt-le, le_not_lt, lt_not_le, le_lt_trans}
-use Rattle.polyline.specs.declared.OptionPoint3.{OptionPoint3}
-use Rattle.polyline.specs.declared.OptionPoint3.TheVariants as P
 use Rattle.polyline.specs.Polyline.{line_length, first, last, last_from, optional, point_at, between, slice, first_piece, second_piece}
 use Rattle.polyline.proofs.Lines.{point-at-one, slice-whole}
 use Rattle.polyline.proofs.Counts.{held_to}
@@ -20,16 +19,16 @@ unfolding last_from
 last-from-behind p q [] = refl
 last-from-behind p q (r ∷ l) = last-from-behind r q l
 
-pub last-behind : (l : List Point3) (o : OptionPoint3) → length (optional o) ≡ 1 → last (l ++ optional o) ≡ o
+pub last-behind : (l : List Point3) (o : Option Point3) → length (optional o) ≡ 1 → last (l ++ optional o) ≡ o
 unfolding last last_from
-last-behind l P.None h = absurd (omega arith)
-last-behind [] (P.Some q) h = refl
-last-behind (p ∷ l) (P.Some q) h = rw (last-from-behind p q l)
+last-behind l None h = absurd (omega arith)
+last-behind [] (Some q) h = refl
+last-behind (p ∷ l) (Some q) h = rw (last-from-behind p q l)
 
-pub first-before : (o : OptionPoint3) (l : List Point3) → length (optional o) ≡ 1 → first (optional o ++ l) ≡ o
+pub first-before : (o : Option Point3) (l : List Point3) → length (optional o) ≡ 1 → first (optional o ++ l) ≡ o
 unfolding first
-first-before P.None l h = absurd (omega arith)
-first-before (P.Some q) l h = refl
+first-before None l h = absurd (omega arith)
+first-before (Some q) l h = refl
 
 -- the ends of a slice whose interval is not empty
 module _ (ps : List Point3) (from to : Float) (h : 2 ≤ length ps) (t : le (held_to ps to) (held_to ps from) ≡ false) where

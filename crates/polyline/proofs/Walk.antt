@@ -1,4 +1,5 @@
 -- The reading functions, a point at a time: how each begins, takes a step and ends. Assumes nothing.
+use Rattle.std.specs.Prelude.{None, Some, Option}
 use mathlib.Core.Path.{◌≡◌, refl, ap}
 use Prim.Native.Nat.{ℕ, suc, ◌+◌, ◌-◌, ◌≤◌, ◌<◌}
 use native.Mathlib.Numerals.{add-one}
@@ -13,11 +14,7 @@ use Rattle.geometry.specs.Float.{◌+ᶠ◌, ◌-ᶠ◌, ◌/ᶠ◌, zeroᶠ, on
 use Rattle.geometry.specs.Point.{xy, distance2, distance3, lerp3}
 use Rattle.geometry.specs.declared.Point2.{Point2}
 use Rattle.geometry.specs.declared.Point3.{Point3}
-use Rattle.polyline.specs.declared.OptionPoint3.TheVariants as P
-use Rattle.polyline.specs.declared.Located.{Located}
-use Rattle.polyline.specs.declared.Located.TheVariants as L
 use Rattle.polyline.specs.declared.NearestPoint.{NearestPoint}
-use Rattle.polyline.specs.declared.OptionNearest.TheVariants as N
 use Rattle.polyline.specs.Polyline.{point_of, first, last, last_from, line_length, length_from, minus_zero, held, locate, locate_from}
 use Rattle.polyline.specs.Polyline.{candidate, nearer, nearest_point, nearest_from, point_at, point_in}
 
@@ -45,16 +42,16 @@ one-point (p ∷ q ∷ ps) h = absurd (omega arith)
 
 -- ---- first, last
 
-pub first-none : (ps : List Point3) → length ps ≡ 0 → P.None ≡ first ps
+pub first-none : (ps : List Point3) → length ps ≡ 0 → None ≡ first ps
 unfolding first
 first-none ps h = rw (no-point ps h)
 
-pub first_some : (ps : List Point3) → 0 < length ps → P.Some (at ps 0) ≡ first ps
+pub first_some : (ps : List Point3) → 0 < length ps → Some (at ps 0) ≡ first ps
 unfolding first
 first_some [] h = absurd (omega arith)
 first_some (p ∷ ps) h = refl
 
-pub last_none : (ps : List Point3) → length ps ≡ 0 → P.None ≡ last ps
+pub last_none : (ps : List Point3) → length ps ≡ 0 → None ≡ last ps
 unfolding last
 last_none ps h = rw (no-point ps h)
 
@@ -63,7 +60,7 @@ unfolding last_from
 last-at p [] = refl
 last-at p (q ∷ ps) = last-at q ps
 
-pub last_some : (ps : List Point3) → 0 < length ps → P.Some (at ps (length ps - 1)) ≡ last ps
+pub last_some : (ps : List Point3) → 0 < length ps → Some (at ps (length ps - 1)) ≡ last ps
 unfolding last
 last_some [] h = absurd (omega arith)
 last_some (p ∷ ps) h = let e : suc (length ps) - 1 ≡ length ps = omega arith in rw (e, last-at)
@@ -90,15 +87,15 @@ module _ (ps : List Point3) (i : ℕ) (sum : Float) (p : Point3) where
 
 -- ---- locate
 
-pub locate-none : (ps : List Point3) (station : Float) → length ps ≡ 0 → L.Nothing ≡ locate ps station
+pub locate-none : (ps : List Point3) (station : Float) → length ps ≡ 0 → None ≡ locate ps station
 unfolding locate
 locate-none ps station h = rw (no-point ps h)
 
-pub locate-one : (ps : List Point3) (station : Float) → length ps ≡ 1 → L.At 0 zeroᶠ ≡ locate ps station
+pub locate-one : (ps : List Point3) (station : Float) → length ps ≡ 1 → Some (0, zeroᶠ) ≡ locate ps station
 unfolding locate
 locate-one ps station h = rw (one-point ps h)
 
-pub locate-before : (ps : List Point3) (station : Float) → 1 < length ps → le station zeroᶠ ≡ true → L.At 0 zeroᶠ ≡ locate ps station
+pub locate-before : (ps : List Point3) (station : Float) → 1 < length ps → le station zeroᶠ ≡ true → Some (0, zeroᶠ) ≡ locate ps station
 unfolding locate
 locate-before [] station h t = absurd (omega arith)
 locate-before (p ∷ []) station h t = absurd (omega arith)
@@ -113,7 +110,7 @@ locate-begins (p ∷ q ∷ ps) station h t = rw t
 
 module _ (ps : List Point3) (i : ℕ) (here station : Float) (p : Point3) where
   pub locate-found : i + 1 < length ps → le station (here +ᶠ distance3 p (at ps (i + 1))) ≡ true → lt zeroᶠ (distance3 p (at ps (i + 1))) ≡ true
-      → locate_from i here station p (drop (i + 1) ps) ≡ L.At i (held ((station -ᶠ here) /ᶠ distance3 p (at ps (i + 1))))
+      → locate_from i here station p (drop (i + 1) ps) ≡ Some (i, (held ((station -ᶠ here) /ᶠ distance3 p (at ps (i + 1)))))
   unfolding locate_from
   locate-found h t u = rw (left-more ps (i + 1) h, t, u)
 
@@ -124,25 +121,25 @@ module _ (ps : List Point3) (i : ℕ) (here station : Float) (p : Point3) where
   unfolding locate_from
   locate-goes h t = rw (left-more ps (i + 1) h, t, ← add-one i)
 
-  pub locate-ends : length ps ≤ i + 1 → locate_from i here station p (drop (i + 1) ps) ≡ L.At (i - 1) oneᶠ
+  pub locate-ends : length ps ≤ i + 1 → locate_from i here station p (drop (i + 1) ps) ≡ Some ((i - 1), oneᶠ)
   unfolding locate_from
   locate-ends h = rw (left-none ps (i + 1) h)
 
 -- ---- nearest_point
 
-pub nearest-none : (ps : List Point3) (to : Point2) → length ps ≡ 0 → N.None ≡ nearest_point ps to
+pub nearest-none : (ps : List Point3) (to : Point2) → length ps ≡ 0 → None ≡ nearest_point ps to
 unfolding nearest_point
 nearest-none ps to h = rw (no-point ps h)
 
 pub nearest-one : (ps : List Point3) (to : Point2) → length ps ≡ 1
-    → N.Some (record { point = at ps 0; distance = distance2 (xy (at ps 0)) to; station = zeroᶠ; segment = 0 }) ≡ nearest_point ps to
+    → Some (record { point = at ps 0; distance = distance2 (xy (at ps 0)) to; station = zeroᶠ; segment = 0 }) ≡ nearest_point ps to
 unfolding nearest_point
 nearest-one [] to h = absurd (omega arith)
 nearest-one (p ∷ []) to h = refl
 nearest-one (p ∷ q ∷ ps) to h = absurd (omega arith)
 
 pub nearest-begins : (ps : List Point3) (to : Point2) → 1 < length ps → nearest_point ps to
-    ≡ N.Some (nearest_from 1 (zeroᶠ +ᶠ distance3 (at ps 0) (at ps 1)) to (candidate 0 zeroᶠ to (at ps 0) (at ps 1)) (at ps 1) (drop 2 ps))
+    ≡ Some (nearest_from 1 (zeroᶠ +ᶠ distance3 (at ps 0) (at ps 1)) to (candidate 0 zeroᶠ to (at ps 0) (at ps 1)) (at ps 1) (drop 2 ps))
 unfolding nearest_point
 nearest-begins [] to h = absurd (omega arith)
 nearest-begins (p ∷ []) to h = absurd (omega arith)
@@ -165,11 +162,11 @@ module _ (ps : List Point3) (i : ℕ) (here : Float) (to : Point2) (best : Neare
 -- ---- point_at
 
 -- the segment of a place
-abbrev segment : Located → ℕ
-segment L.Nothing = 0
-segment (L.At i t) = i
+abbrev segment : Option (ℕ × Float) → ℕ
+segment None = 0
+segment (Some (i, t)) = i
 
-segment-cond : (b : Bool) (l m : Located) (n : ℕ) → segment l ≤ n → segment m ≤ n → segment (cond b l m) ≤ n
+segment-cond : (b : Bool) (l m : Option (ℕ × Float)) (n : ℕ) → segment l ≤ n → segment m ≤ n → segment (cond b l m) ≤ n
 segment-cond true l m n h k = h
 segment-cond false l m n h k = k
 
@@ -177,12 +174,12 @@ segment-from : (i : ℕ) (here station : Float) (p : Point3) (qs : List Point3) 
 unfolding locate_from
 segment-from i here station p [] = omega arith
 segment-from i here station p (q ∷ qs) =
-    segment-cond (le station (here +ᶠ distance3 p q) && lt zeroᶠ (distance3 p q)) (L.At i (held ((station -ᶠ here) /ᶠ distance3 p q)))
+    segment-cond (le station (here +ᶠ distance3 p q) && lt zeroᶠ (distance3 p q)) (Some (i, (held ((station -ᶠ here) /ᶠ distance3 p q))))
     (locate_from (suc i) (here +ᶠ distance3 p q) station q qs) (i - 1 + suc (length qs)) (omega arith)
     (omega (arith, segment-from (suc i) (here +ᶠ distance3 p q) station q qs))
 
 -- a place lies on the line
-pub locate-inside : (ps : List Point3) (station : Float) (i : ℕ) (t : Float) → locate ps station ≡ L.At i t → i < length ps
+pub locate-inside : (ps : List Point3) (station : Float) (i : ℕ) (t : Float) → locate ps station ≡ Some (i, t) → i < length ps
 unfolding locate
 locate-inside [] station i t e = absurd (let z : ◌≡◌ {A = ℕ} 0 1 = cc in omega arith)
 locate-inside (p ∷ []) station i t e = omega (arith, ap segment e)
@@ -190,16 +187,16 @@ locate-inside (p ∷ q ∷ ps) station i t e =
     omega (
       arith,
       ap segment e,
-      segment-cond (le station zeroᶠ) (L.At 0 zeroᶠ) (locate_from 0 zeroᶠ station p (q ∷ ps)) (suc (length ps)) (omega arith)
+      segment-cond (le station zeroᶠ) (Some (0, zeroᶠ)) (locate_from 0 zeroᶠ station p (q ∷ ps)) (suc (length ps)) (omega arith)
           (omega (arith, segment-from 0 zeroᶠ station p (q ∷ ps))),
     )
 
-pub point-at-none : (ps : List Point3) (station : Float) → locate ps station ≡ L.Nothing → P.None ≡ point_at ps station
+pub point-at-none : (ps : List Point3) (station : Float) → locate ps station ≡ None → None ≡ point_at ps station
 unfolding point_at point_in
 point-at-none ps station e = rw e
 
-module _ (ps : List Point3) (station : Float) (i : ℕ) (t : Float) (e : locate ps station ≡ L.At i t) where
-  pub point-at_in : i + 1 < length ps → P.Some (lerp3 (at ps i) (at ps (i + 1)) t) ≡ point_at ps station
+module _ (ps : List Point3) (station : Float) (i : ℕ) (t : Float) (e : locate ps station ≡ Some (i, t)) where
+  pub point-at_in : i + 1 < length ps → Some (lerp3 (at ps i) (at ps (i + 1)) t) ≡ point_at ps station
   unfolding point_at point_in
   point-at_in h = rw (e, ← add-one i, lt-ltb (i + 1) (length ps) h)
 

@@ -1,5 +1,5 @@
 -- geometry/polyline.rs: a line is the list of its points. Stations are measured in three dimensions, nearest points in two.
-use Rattle.std.specs.Prelude.{ℕ, zero, suc, ◌-◌, ◌/◌, max, Bool, true, false, ◌&&◌, ◌||◌, cond, pos, ltb, length, get_or, drop, Float}
+use Rattle.std.specs.Prelude.{ℕ, zero, suc, ◌-◌, ◌/◌, max, Bool, true, false, ◌&&◌, ◌||◌, cond, pos, ltb, length, get_or, drop, Float, Option, None, Some}
 use mathlib.Core.List.{List, [], ◌∷◌, ◌++◌, zip_with}
 use Rattle.std.specs.Float.{nan, binary64}
 use Rattle.std.specs.Float.Ieee.{lt, le, eq, of_int, of_bits}
@@ -8,13 +8,7 @@ use Rattle.geometry.specs.Float.{◌+ᶠ◌, ◌-ᶠ◌, ◌*ᶠ◌, ◌/ᶠ◌,
 use Rattle.geometry.specs.Point.{xy, distance2, distance3, lerp3, project_on_segment}
 use Rattle.geometry.specs.declared.Point2.{Point2}
 use Rattle.geometry.specs.declared.Point3.{Point3}
-use Rattle.polyline.specs.declared.OptionPoint3.{OptionPoint3}
-use Rattle.polyline.specs.declared.OptionPoint3.TheVariants as P
-use Rattle.polyline.specs.declared.Located.{Located}
-use Rattle.polyline.specs.declared.Located.TheVariants as L
 use Rattle.polyline.specs.declared.NearestPoint.{NearestPoint}
-use Rattle.polyline.specs.declared.OptionNearest.{OptionNearest}
-use Rattle.polyline.specs.declared.OptionNearest.TheVariants as N
 
 -- ---- a line in lent memory: three coordinates a point
 
@@ -31,17 +25,17 @@ flat (p ∷ ps) = p.x ∷ p.y ∷ p.z ∷ flat ps
 
 -- ---- first, last, length
 
-unfoldable pub first : List Point3 → OptionPoint3
-first [] = P.None
-first (p ∷ ps) = P.Some p
+unfoldable pub first : List Point3 → Option Point3
+first [] = None
+first (p ∷ ps) = Some p
 
 unfoldable pub last_from : Point3 → List Point3 → Point3
 last_from p [] = p
 last_from p (q ∷ ps) = last_from q ps
 
-unfoldable pub last : List Point3 → OptionPoint3
-last [] = P.None
-last (p ∷ ps) = P.Some (last_from p ps)
+unfoldable pub last : List Point3 → Option Point3
+last [] = None
+last (p ∷ ps) = Some (last_from p ps)
 
 -- The distances from p along the points after it, added to `sum` one after the other.
 unfoldable pub length_from : Float → Point3 → List Point3 → Float
@@ -63,27 +57,27 @@ unfoldable pub held : Float → Float
 held t = cond (eq t t) (clamp t zeroᶠ oneᶠ) zeroᶠ
 
 -- Document 01: "`locate` skips segments of length 0." From segment i, which starts at p and at station `at`.
-unfoldable pub locate_from : ℕ → Float → Float → Point3 → List Point3 → Located
-locate_from i at station p [] = L.At (i - 1) oneᶠ
+unfoldable pub locate_from : ℕ → Float → Float → Point3 → List Point3 → Option (ℕ × Float)
+locate_from i at station p [] = Some ((i - 1), oneᶠ)
 locate_from i at station p (q ∷ ps) =
     let seg = distance3 p q in
     let rest = locate_from (suc i) (at +ᶠ seg) station q ps in
-    cond (le station (at +ᶠ seg) && lt zeroᶠ seg) (L.At i (held ((station -ᶠ at) /ᶠ seg))) rest
+    cond (le station (at +ᶠ seg) && lt zeroᶠ seg) (Some (i, (held ((station -ᶠ at) /ᶠ seg)))) rest
 
-unfoldable pub locate : List Point3 → Float → Located
-locate [] station = L.Nothing
-locate (p ∷ []) station = L.At 0 zeroᶠ
-locate (p ∷ q ∷ ps) station = cond (le station zeroᶠ) (L.At 0 zeroᶠ) (locate_from 0 zeroᶠ station p (q ∷ ps))
+unfoldable pub locate : List Point3 → Float → Option (ℕ × Float)
+locate [] station = None
+locate (p ∷ []) station = Some (0, zeroᶠ)
+locate (p ∷ q ∷ ps) station = cond (le station zeroᶠ) (Some (0, zeroᶠ)) (locate_from 0 zeroᶠ station p (q ∷ ps))
 
 -- Between points i and i + 1; a line of one point has only that.
-unfoldable pub point_in : List Point3 → Located → OptionPoint3
-point_in ps L.Nothing = P.None
-point_in ps (L.At i t) = cond (ltb (suc i) (length ps)) (P.Some (lerp3 (get_or ps i (point_of [])) (get_or ps (suc i) (point_of [])) t)) (last ps)
+unfoldable pub point_in : List Point3 → Option (ℕ × Float) → Option Point3
+point_in ps None = None
+point_in ps (Some (i, t)) = cond (ltb (suc i) (length ps)) (Some (lerp3 (get_or ps i (point_of [])) (get_or ps (suc i) (point_of [])) t)) (last ps)
 
-unfoldable pub point_at : List Point3 → Float → OptionPoint3
+unfoldable pub point_at : List Point3 → Float → Option Point3
 point_at ps station = point_in ps (locate ps station)
 
-unfoldable pub point_at_fraction : List Point3 → Float → OptionPoint3
+unfoldable pub point_at_fraction : List Point3 → Float → Option Point3
 point_at_fraction ps t = point_at ps (clamp t zeroᶠ oneᶠ *ᶠ line_length ps)
 
 -- ---- nearest_point
@@ -103,17 +97,17 @@ unfoldable pub nearest_from : ℕ → Float → Point2 → NearestPoint → Poin
 nearest_from i at to best p [] = best
 nearest_from i at to best p (q ∷ ps) = nearest_from (suc i) (at +ᶠ distance3 p q) to (nearer best (candidate i at to p q)) q ps
 
-unfoldable pub nearest_point : List Point3 → Point2 → OptionNearest
-nearest_point [] to = N.None
-nearest_point (p ∷ []) to = N.Some (record { point = p; distance = distance2 (xy p) to; station = zeroᶠ; segment = 0 })
-nearest_point (p ∷ q ∷ ps) to = N.Some (nearest_from 1 (zeroᶠ +ᶠ distance3 p q) to (candidate 0 zeroᶠ to p q) q ps)
+unfoldable pub nearest_point : List Point3 → Point2 → Option NearestPoint
+nearest_point [] to = None
+nearest_point (p ∷ []) to = Some (record { point = p; distance = distance2 (xy p) to; station = zeroᶠ; segment = 0 })
+nearest_point (p ∷ q ∷ ps) to = Some (nearest_from 1 (zeroᶠ +ᶠ distance3 p q) to (candidate 0 zeroᶠ to p q) q ps)
 
 -- ---- slice, split_at
 
 -- a point, if there is one, as a line
-abbrev pub optional : OptionPoint3 → List Point3
-optional P.None = []
-optional (P.Some p) = p ∷ []
+abbrev pub optional : Option Point3 → List Point3
+optional None = []
+optional (Some p) = p ∷ []
 
 -- a point as a line, where asked
 abbrev pub optionally : Bool → Point3 → List Point3
@@ -164,10 +158,10 @@ resample_count ps count = let n = max count 2 in resample_from ps (n - 1) 0 n
 
 -- Document 01: "`concat` drops the second line's first point only if the end distance is under 1e-6, and never averages." `join` is that 1e-6.
 -- How many points of the second line are dropped: 1, or 0 where a line is empty or they do not meet.
-unfoldable pub meeting : Float → OptionPoint3 → OptionPoint3 → ℕ
-meeting join P.None end = 0
-meeting join (P.Some p) P.None = 0
-meeting join (P.Some p) (P.Some q) = cond (lt (distance3 p q) join) 1 0
+unfoldable pub meeting : Float → Option Point3 → Option Point3 → ℕ
+meeting join None end = 0
+meeting join (Some p) None = 0
+meeting join (Some p) (Some q) = cond (lt (distance3 p q) join) 1 0
 
 unfoldable pub skipped : Float → List Point3 → List Point3 → ℕ
 skipped join ps qs = meeting join (last ps) (first qs)
@@ -176,10 +170,10 @@ unfoldable pub concat : Float → List Point3 → List Point3 → List Point3
 concat join ps qs = ps ++ drop (skipped join ps qs) qs
 
 -- half way between two points, if both are there
-unfoldable pub middle : OptionPoint3 → OptionPoint3 → OptionPoint3
-middle P.None q = P.None
-middle (P.Some p) P.None = P.None
-middle (P.Some p) (P.Some q) = P.Some (lerp3 p q halfᶠ)
+unfoldable pub middle : Option Point3 → Option Point3 → Option Point3
+middle None q = None
+middle (Some p) None = None
+middle (Some p) (Some q) = Some (lerp3 p q halfᶠ)
 
 -- Document 01: "`centerline` resamples both sides to the larger point count, at least 2." Nothing where a side is empty.
 unfoldable pub centerline : List Point3 → List Point3 → List Point3

@@ -14,30 +14,11 @@ use geometry::Point3;
 const POINT: usize = 3;
 
 #[derive(Clone, Copy)]
-pub enum OptionPoint3 {
-    None,
-    Some(Point3),
-}
-
-// A place on a line: a segment, and how far along it from 0 to 1.
-#[derive(Clone, Copy)]
-pub enum Located {
-    Nothing,
-    At(usize, f64),
-}
-
-#[derive(Clone, Copy)]
 pub struct NearestPoint {
     pub point: Point3,
     pub distance: f64,
     pub station: f64,
     pub segment: usize,
-}
-
-#[derive(Clone, Copy)]
-pub enum OptionNearest {
-    None,
-    Some(NearestPoint),
 }
 
 // How many points a line has.
@@ -71,23 +52,23 @@ pub fn put_point(out: &mut [f64], i: usize, p: Point3)
     out[at + 2] = p.z;
 }
 
-pub fn first(line: &[f64]) -> OptionPoint3
+pub fn first(line: &[f64]) -> Option<Point3>
     ensures { result ≡ L.first (points line.now) }
 {
     if count(line) == 0 {
-        return OptionPoint3::None;
+        return None;
     }
-    OptionPoint3::Some(point(line, 0))
+    Some(point(line, 0))
 }
 
-pub fn last(line: &[f64]) -> OptionPoint3
+pub fn last(line: &[f64]) -> Option<Point3>
     ensures { result ≡ L.last (points line.now) }
 {
     let n = count(line);
     if n == 0 {
-        return OptionPoint3::None;
+        return None;
     }
-    OptionPoint3::Some(point(line, n - 1))
+    Some(point(line, n - 1))
 }
 
 // A segment's root is finished after the next one's is begun, so that the two overlap.
@@ -101,14 +82,12 @@ pub fn length(line: &[f64]) -> f64
     let mut sum = -0.0;
     let mut p = point(line, 0);
     let mut segment = root::known(-0.0);
-    let mut i = 1;
-    while i < n {
+    for i in 1..n {
         let q = point(line, i);
         let next = p.begin_distance(q);
         sum = sum + root::finish(segment);
         segment = next;
         p = q;
-        i += 1;
     }
     sum + root::finish(segment)
 }
@@ -123,52 +102,51 @@ pub fn held(t: f64) -> f64
     0.0
 }
 
-pub fn locate(line: &[f64], station: f64) -> Located
+// A place on a line: a segment, and how far along it from 0 to 1.
+pub fn locate(line: &[f64], station: f64) -> Option<(usize, f64)>
     ensures { result ≡ L.locate (points line.now) station }
 {
     let n = count(line);
     if n == 0 {
-        return Located::Nothing;
+        return None;
     }
     if n == 1 {
-        return Located::At(0, 0.0);
+        return Some((0, 0.0));
     }
     if station <= 0.0 {
-        return Located::At(0, 0.0);
+        return Some((0, 0.0));
     }
     let mut at = 0.0;
     let mut p = point(line, 0);
-    let mut i = 0;
-    while i + 1 < n {
+    for i in 0..n - 1 {
         let q = point(line, i + 1);
         let seg = p.distance(q);
         let end = at + seg;
         if station <= end {
             if 0.0 < seg {
-                return Located::At(i, held((station - at) / seg));
+                return Some((i, held((station - at) / seg)));
             }
         }
         at = end;
         p = q;
-        i += 1;
     }
-    Located::At(i - 1, 1.0)
+    Some((n - 2, 1.0))
 }
 
-pub fn point_at(line: &[f64], station: f64) -> OptionPoint3
+pub fn point_at(line: &[f64], station: f64) -> Option<Point3>
     ensures { result ≡ L.point_at (points line.now) station }
 {
     let place = locate(line, station);
-    let Located::At(i, t) = place else {
-        return OptionPoint3::None;
+    let Some((i, t)) = place else {
+        return None;
     };
     if i + 1 < count(line) {
-        return OptionPoint3::Some(point(line, i).lerp(point(line, i + 1), t));
+        return Some(point(line, i).lerp(point(line, i + 1), t));
     }
     last(line)
 }
 
-pub fn point_at_fraction(line: &[f64], fraction: f64) -> OptionPoint3
+pub fn point_at_fraction(line: &[f64], fraction: f64) -> Option<Point3>
     ensures { result ≡ L.point_at_fraction (points line.now) fraction }
 {
     point_at(line, geometry::clamp(fraction, 0.0, 1.0) * length(line))

@@ -5,21 +5,19 @@ ghost use Rattle.std.specs.Prelude.{◌≡◌, true, length};
 ghost use Rattle.lists.specs.Rows.{keys, row_with};
 ghost use Rattle.lists.specs.Select.{ascending};
 
-use lists::Found;
-
-pub fn rank(ids: &[u64], id: u64) -> Found
+pub fn rank(ids: &[u64], id: u64) -> Option<usize>
     requires { ascending (keys 1 (length ids.now) ids.now) ≡ true }
     ensures { result ≡ row_with id (keys 1 (length ids.now) ids.now) }
 {
     let n = ids.len();
     if n == 0 {
-        return Found::Nothing;
+        return None;
     }
     if id < ids[0] {
-        return Found::Nothing;
+        return None;
     }
     if ids[n - 1] < id {
-        return Found::Nothing;
+        return None;
     }
     find::find_row(ids, 1, n, id)
 }

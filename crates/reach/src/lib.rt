@@ -34,11 +34,9 @@ fn column_reach(t: &[u64], stride: usize, offset: usize, most: usize) -> usize
 {
     let n = t[0] as usize;
     let mut far = most;
-    let mut i = 0;
-    while i < n {
+    for i in 0..n {
         let at = 1 + i * stride + offset;
         far = line_reach(t[at], t[at + 1], far);
-        i += 1;
     }
     far
 }
@@ -62,10 +60,8 @@ fn centers_reach(lanes: &[u64], most: usize) -> usize
 {
     let n = lanes[0] as usize;
     let mut far = most;
-    let mut i = 0;
-    while i < n {
+    for i in 0..n {
         far = center_reach(lanes, 1 + i * LANE, far);
-        i += 1;
     }
     far
 }

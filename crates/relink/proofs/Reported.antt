@@ -1,4 +1,5 @@
 -- What an edit of links and neighbours leaves, from what its parts leave. Assumes nothing.
+use Rattle.std.specs.Prelude.{Err}
 use mathlib.Core.Path.{◌≡◌, refl, sym, ap, ◌∙◌}
 use Prim.Native.Nat.{ℕ, ◌+◌, ◌*◌, ◌≤◌, ◌<◌}
 use native.Mathlib.Omega.{arith}
@@ -18,8 +19,7 @@ use Rattle.topology.specs.Topology.{lanes_changed, id_at}
 use Rattle.report.specs.declared.Counts.{Counts}
 use Rattle.report.specs.declared.Notice.{Notice}
 use Rattle.report.specs.declared.Notice.TheVariants as N
-use Rattle.report.specs.declared.Answer.TheVariants.{Changed, Refused}
-use Rattle.report.specs.Report.{listed, warned, issues, report_fits}
+use Rattle.report.specs.Report.{listed, warned, issues, report_fits, changed}
 use Rattle.relink.specs.Parts.{links_written, writing_links, pair_of, link_room, linking, unlinking}
 
 -- ---- notices
@@ -65,12 +65,12 @@ module _ (room : Bool) (after ids lanes modified warnings : List ℕ) (is : List
   pub done : (r : Bool) → r ≡ (room && report_fits (length ids) (length is) modified warnings) → r ≡ true
       → (lanes' modified' warnings' : List ℕ) (n : Counts) → lanes' ≡ after → n ≡ record { created = 0; modified = length ids; deleted = 0; warnings = length is }
       → modified' ≡ listed modified (E.refs LaneKind ids) → warnings' ≡ warned warnings is
-      → links_written lanes' modified' warnings' (Changed n) ≡ writing_links room after ids is lanes modified warnings
+      → links_written lanes' modified' warnings' (changed n) ≡ writing_links room after ids is lanes modified warnings
   unfolding writing_links
   done r e t lanes' modified' warnings' n a b c d = rw (sym e ∙ t, a, b, c, d)
 
   pub full : (r : Bool) → r ≡ (room && report_fits (length ids) (length is) modified warnings) → r ≡ false
-      → links_written lanes modified warnings (Refused NoRoom) ≡ writing_links room after ids is lanes modified warnings
+      → links_written lanes modified warnings (Err NoRoom) ≡ writing_links room after ids is lanes modified warnings
   unfolding writing_links
   full r e t = rw (sym e ∙ t)
 
@@ -119,12 +119,12 @@ module _ (t : List ℕ) (i j : ℕ) (linked gap : Bool) (md ws : List ℕ) (firs
   pub link-done : r ≡ true → (t' md' ws' : List ℕ) (c : Counts) → t' ≡ lanes_changed (E.link_in a b) t
       → (c ≡ record { created = 0; modified = length (take n arr); deleted = 0; warnings = length (issues first ++ issues second) })
       × ((md' ≡ listed md (E.refs LaneKind (take n arr))) × (ws' ≡ warned ws (issues first ++ issues second)))
-      → links_written t' md' ws' (Changed c) ≡ linking t i j linked gap md ws
+      → links_written t' md' ws' (changed c) ≡ linking t i j linked gap md ws
   link-done q t' md' ws' c f g =
       done (linked || link_room t i j) (lanes_changed (E.link_in a b) t) ids t md ws is r test q t' md' ws' c f
       (g.0 ∙ rw (named-ids, told)) (g.1.0 ∙ ap (λ z. listed md (E.refs LaneKind z)) named-ids) (g.1.1 ∙ ap (warned ws) told)
 
-  pub link-full : r ≡ false → links_written t md ws (Refused NoRoom) ≡ linking t i j linked gap md ws
+  pub link-full : r ≡ false → links_written t md ws (Err NoRoom) ≡ linking t i j linked gap md ws
   link-full q = full (linked || link_room t i j) (lanes_changed (E.link_in a b) t) ids t md ws is r test q
 
 module _ (t : List ℕ) (i j : ℕ) (linked : Bool) (md ws : List ℕ) (note : Notice) (n : ℕ) (arr : List ℕ)
@@ -165,10 +165,10 @@ module _ (t : List ℕ) (i j : ℕ) (linked : Bool) (md ws : List ℕ) (note : N
   pub unlink_done : r ≡ true → (t' md' ws' : List ℕ) (c : Counts) → t' ≡ lanes_changed (E.link_out from to) t
       → (c ≡ record { created = 0; modified = length (take n arr); deleted = 0; warnings = length (issues note ++ issues N.Nothing) })
       × ((md' ≡ listed md (E.refs LaneKind (take n arr))) × (ws' ≡ warned ws (issues note ++ issues N.Nothing)))
-      → links_written t' md' ws' (Changed c) ≡ unlinking t i j linked md ws
+      → links_written t' md' ws' (changed c) ≡ unlinking t i j linked md ws
   unlink_done q t' md' ws' c f g =
       done true (lanes_changed (E.link_out from to) t) left_out t md ws (E.when (not linked) (E.no_op from)) r out-test q t' md' ws' c f
       (g.0 ∙ rw (out-ids, noted)) (g.1.0 ∙ ap (λ z. listed md (E.refs LaneKind z)) out-ids) (g.1.1 ∙ ap (warned ws) noted)
 
-  pub unlink_full : r ≡ false → links_written t md ws (Refused NoRoom) ≡ unlinking t i j linked md ws
+  pub unlink_full : r ≡ false → links_written t md ws (Err NoRoom) ≡ unlinking t i j linked md ws
   unlink_full q = full true (lanes_changed (E.link_out from to) t) left_out t md ws (E.when (not linked) (E.no_op from)) r out-test q

@@ -1,7 +1,6 @@
 -- The parts of an edit of links and neighbours. Nothing that a host calls rests on this page: its contracts name `step` alone.
-use Rattle.std.specs.Prelude.{◌≡◌, ℕ, ◌<◌, Bool, true, not, ◌&&◌, ◌||◌, cond, List, [], ◌∷◌, ◌++◌, eqb, ltb, length}
+use Rattle.std.specs.Prelude.{◌≡◌, ℕ, ◌<◌, Bool, true, not, ◌&&◌, ◌||◌, cond, List, [], ◌∷◌, ◌++◌, eqb, ltb, length, Option, None, Some, Err}
 use Rattle.lists.specs.Select.{has, place, ascending}
-use Rattle.std.proofs.Math.Option.{Option, none, some}
 use Rattle.entities.specs.Types.{lane_entity, reciprocal_side}
 use Rattle.entities.specs.Records.{Issue}
 use Rattle.tables.specs.View.{word, ref_at}
@@ -10,9 +9,7 @@ use Rattle.lookup.specs.Lookup.{side_word}
 use Rattle.rules.specs.Names.{Side, Neighbor, NeighborDirection, NoRoom, LaneKind, GeometricGap, BoundaryUnshared}
 use Rattle.rules.specs.Edit.{refs, when, warning, no_op, link_in, link_out, same_slot, slot_after, reslotted}
 use Rattle.topology.specs.Topology.{id_at, links_at, lanes_changed, slot_held, beside_row}
-use Rattle.report.specs.Report.{listed, warned, report_fits}
-use Rattle.report.specs.declared.Answer.{Answer}
-use Rattle.report.specs.declared.Answer.TheVariants.{Changed, Refused}
+use Rattle.report.specs.Report.{listed, warned, report_fits, Answer, changed}
 use Rattle.tables.specs.Columns.{predecessors_at, row_count, successors_at}
 use Rattle.rules.specs.Limits.{max_links}
 
@@ -31,8 +28,8 @@ unfoldable pub writing_links : Bool → List ℕ → List ℕ → List Issue →
 writing_links room after ids is lanes modified warnings =
     cond (room && report_fits (length ids) (length is) modified warnings)
     (links_written after (listed modified (refs LaneKind ids)) (warned warnings is)
-    (Changed (record { created = 0; modified = length ids; deleted = 0; warnings = length is })))
-    (links_written lanes modified warnings (Refused NoRoom))
+    (changed (record { created = 0; modified = length ids; deleted = 0; warnings = length is })))
+    (links_written lanes modified warnings (Err NoRoom))
 
 -- two lanes in id order, once each
 abbrev pub pair_of : ℕ → ℕ → List ℕ
@@ -69,8 +66,8 @@ unlinking t i j linked modified warnings =
 
 -- the lane in a slot, among ids
 abbrev pub place_slot : Option Neighbor → List ℕ → List ℕ
-place_slot none ids = ids
-place_slot (some n) ids = place n.lane ids
+place_slot None ids = ids
+place_slot (Some n) ids = place n.lane ids
 
 -- the lanes whose slots are set or freed, in id order
 abbrev pub slot_ids : ℕ → Option Neighbor → Option Neighbor → Option Neighbor → List ℕ
@@ -89,10 +86,10 @@ reslotting t i side new other is modified warnings =
     (when (same_slot old new) (no_op a) ++ is) t modified warnings
 
 abbrev pub freeing : List ℕ → ℕ → Side → List ℕ → List ℕ → Relinked
-freeing t i side modified warnings = reslotting t i side none none [] modified warnings
+freeing t i side modified warnings = reslotting t i side None None [] modified warnings
 
 abbrev pub setting : List ℕ → ℕ → Side → ℕ → NeighborDirection → List ℕ → List ℕ → Relinked
 setting t i side j d modified warnings =
     let answer = reciprocal_side side d in
-    reslotting t i side (some (beside_row t j d)) (slot_held t j answer)
+    reslotting t i side (Some (beside_row t j d)) (slot_held t j answer)
     (when (unshared_issues t i side j answer) (warning BoundaryUnshared (lane_entity (id_at t i)) (lane_entity (id_at t j) ∷ []))) modified warnings

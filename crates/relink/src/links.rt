@@ -9,7 +9,7 @@ ghost use Rattle.relink.specs.Parts as P;
 
 use entities::{IssueCode, Refusal};
 use lists::both;
-use report::Answer;
+use report::{Answer, Change};
 use tables::{LANE, PREDECESSORS, SUCCESSORS};
 
 // Links in a list, at most.
@@ -86,7 +86,11 @@ pub fn link(
     if both(room, notices::fits(n, first, second, modified, warnings)) {
         let counts = notices::report(&ids[..n], first, second, modified, warnings);
         link_unless(lanes, i, j, linked);
-        return Answer::Changed(counts);
+        let change = Change {
+            counts,
+            second: None,
+        };
+        return Ok(change);
     }
-    Answer::Refused(Refusal::NoRoom)
+    Err(Refusal::NoRoom)
 }

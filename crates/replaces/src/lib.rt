@@ -43,11 +43,9 @@ pub fn replace(rules: &mut [u64], to: u64, from: u64)
     ensures { rules.new ≡ on_rows 330 (N.rule_replaces to from) rules.old }
 {
     let n = rules[0] as usize;
-    let mut i = 0;
-    while i < n {
+    for i in 0..n {
         let at = 1 + i * RULE;
         let end = at + RULE;
         replace_rule(&mut rules[at..end], to, from);
-        i += 1;
     }
 }

@@ -86,10 +86,10 @@ fn digest_of(
         crosswalks,
         coordinates,
     );
-    let a = digest::words(map, created);
-    let b = digest::words(a, modified);
-    let c = digest::words(b, deleted);
-    digest::words(c, warnings)
+    let a = digest::items(map, created);
+    let b = digest::items(a, modified);
+    let c = digest::items(b, deleted);
+    digest::items(c, warnings)
 }
 
 // The answer's numbers and the digest, as a line.
@@ -269,12 +269,12 @@ fn job_with_lists(
         old_crosswalks,
         old_coordinates,
     );
-    let e = digest::words(area, &created[..a]);
-    let f = digest::words(e, &modified[..b]);
-    let g = digest::words(f, &deleted[..c]);
+    let e = digest::items(area, &created[..a]);
+    let f = digest::items(e, &modified[..b]);
+    let g = digest::items(f, &deleted[..c]);
     let answer = end.answer;
     let told = job_words::tell(end.counter, answer);
-    print_job(rt, told, digest::words(g, &warnings[..d]))?;
+    print_job(rt, told, digest::items(g, &warnings[..d]))?;
     Ok(end.counter)
 }
 
@@ -350,7 +350,7 @@ fn make_job(
 ) -> io::Result<Behind> {
     let mut rows = [0; JOB_ROWS];
     let mut sizes = [0; 12];
-    let job = stream::read_words(s, at, &mut rows);
+    let job = stream::read_table(s, at, &mut rows);
     let next = stream::fill(s, job.next, &mut sizes);
     let left = job_with_area(
         rt,
@@ -374,7 +374,7 @@ fn make_job(
 
 // ---- the stream
 
-// What names the form of a stream: calls or jobs.
+// What names the form of a stream: calls or jobs. A number, as the stored stream has it.
 const CALLS: u64 = 3;
 
 const JOBS: u64 = 4;
@@ -446,8 +446,7 @@ fn each_call(
 ) -> io::Result<usize> {
     let mut at = from;
     let mut counter = first;
-    let mut i = 0;
-    while i < calls {
+    for i in 0..calls {
         let made = make_one(
             rt,
             form,
@@ -465,7 +464,6 @@ fn each_call(
         )?;
         at = made.next;
         counter = made.counter;
-        i += 1;
     }
     Ok(at)
 }
@@ -484,14 +482,14 @@ fn replay_map(
     crosswalks: &mut [u64],
     coordinates: &mut [f64],
 ) -> io::Result<usize> {
-    let a = stream::read_words(s, 0, lanes);
-    let b = stream::read_words(s, a.next, boundaries);
-    let c = stream::read_words(s, b.next, roads);
-    let d = stream::read_words(s, c.next, junctions);
-    let e = stream::read_words(s, d.next, rules);
-    let f = stream::read_words(s, e.next, stop_lines);
-    let g = stream::read_words(s, f.next, crosswalks);
-    let h = stream::read_floats(s, g.next, coordinates);
+    let a = stream::read_table(s, 0, lanes);
+    let b = stream::read_table(s, a.next, boundaries);
+    let c = stream::read_table(s, b.next, roads);
+    let d = stream::read_table(s, c.next, junctions);
+    let e = stream::read_table(s, d.next, rules);
+    let f = stream::read_table(s, e.next, stop_lines);
+    let g = stream::read_table(s, f.next, crosswalks);
+    let h = stream::read_table(s, g.next, coordinates);
     let counter = stream::number(s, h.next);
     let calls = stream::number(s, counter.next);
     let lanes_lent = a.size;
@@ -555,11 +553,9 @@ fn each_map(
     bytes: &mut [u8],
 ) -> io::Result<()> {
     let mut at = from;
-    let mut i = 0;
-    while i < maps {
+    for i in 0..maps {
         let n = file::window(file, at, bytes);
         at = file::behind(at, with_tables(rt, form, &bytes[..n])?);
-        i += 1;
     }
     Ok(())
 }

@@ -1,39 +1,43 @@
 -- A change set in the slices lent for it.
-use Rattle.std.specs.Prelude.{ℕ, ◌*◌, ◌/◌, Bool, true, ◌&&◌, List, [], ◌∷◌, ◌++◌, leb, length, take, drop}
-use Rattle.std.proofs.Math.Option.{Option, none, some}
+use Rattle.std.specs.Prelude.{ℕ, ◌*◌, ◌/◌, Bool, true, ◌&&◌, List, [], ◌∷◌, ◌++◌, leb, length, take, drop, Option, None, Some, Result, Ok, Err}
 use Rattle.lists.specs.Rows.{over}
 use Rattle.lists.specs.Select.{each}
 use Rattle.entities.specs.Types.{kind_number, severity_number, code_number, lane_entity, boundary_entity, refusal_number, refusal_entity}
-use Rattle.entities.specs.declared.OptionEntity.{OptionEntity}
-use Rattle.entities.specs.declared.OptionEntity.TheVariants.{None as NoEntity}
 use Rattle.entities.specs.Records.{Issue, ChangeSet}
 use Rattle.rules.specs.Ops.{counter_after}
-use Rattle.rules.specs.Names.{EntityKind, EntityRef, RuleKind, Severity, Warning, IssueCode, BoundaryUnshared, OrphanRule}
+use Rattle.rules.specs.Names.{EntityKind, EntityRef, RuleKind, Severity, Warning, IssueCode, BoundaryUnshared, OrphanRule, Refusal}
 use Rattle.rules.specs.Edit.{warning, no_op}
 use Rattle.store.specs.Store.{flag, writes}
 use Rattle.report.specs.declared.Counts.{Counts}
-use Rattle.report.specs.declared.Answer.{Answer}
-use Rattle.report.specs.declared.Answer.TheVariants.{Changed, Split, Refused}
+use Rattle.report.specs.declared.Change.{Change}
 use Rattle.report.specs.declared.Notice.{Notice}
 use Rattle.report.specs.declared.Notice.TheVariants.{Nothing, NoOp, Pair, Unshared, Pieces}
 
 -- ---- answers
 
+-- What a call answers: the change that it made, or its refusal.
+abbrev pub Answer : Type 0
+Answer = Result Change Refusal
+
+-- an accepted call's answer; a split's, with the second half of its lane
+abbrev pub changed : Counts → Answer
+changed n = Ok (record { counts = n; second = None })
+
+abbrev pub divided : Counts → ℕ → Answer
+divided n second = Ok (record { counts = n; second = Some second })
+
 -- The paper's number and entity of an answer: 0 and none of an accepted call.
 abbrev pub answer_number : Answer → ℕ
-answer_number (Changed n) = 0
-answer_number (Split n second) = 0
-answer_number (Refused r) = refusal_number r
+answer_number (Ok change) = 0
+answer_number (Err r) = refusal_number r
 
-abbrev pub answer_entity : Answer → OptionEntity
-answer_entity (Changed n) = NoEntity
-answer_entity (Split n second) = NoEntity
-answer_entity (Refused r) = refusal_entity r
+abbrev pub answer_entity : Answer → Option EntityRef
+answer_entity (Ok change) = None
+answer_entity (Err r) = refusal_entity r
 
 abbrev pub answer_counts : Answer → Counts
-answer_counts (Changed n) = n
-answer_counts (Split n second) = n
-answer_counts (Refused r) = record { created = 0; modified = 0; deleted = 0; warnings = 0 }
+answer_counts (Ok change) = change.counts
+answer_counts (Err r) = record { created = 0; modified = 0; deleted = 0; warnings = 0 }
 
 -- The counter behind a call: what is created has the ids that were allocated, and a refusal allocates none.
 abbrev pub counter_behind : ℕ → Answer → ℕ
@@ -67,8 +71,7 @@ counts cs = record { created = length cs.created; modified = length cs.modified;
 
 -- the answer of an accepted call: the four counts, and of a split the second half of its lane
 abbrev pub accepting : ChangeSet → Option ℕ → Answer
-accepting cs none = Changed (counts cs)
-accepting cs (some second) = Split (counts cs) second
+accepting cs second = Ok (record { counts = counts cs; second = second })
 
 -- ---- the parts of a report; nothing that a host calls rests on these
 

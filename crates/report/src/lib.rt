@@ -8,7 +8,7 @@ ghost use Rattle.rules.specs.Edit as E;
 ghost use Rattle.report.specs.declared.Notice.TheVariants as N;
 ghost use Rattle.report.specs.Report as R;
 
-use entities::{EntityKind, IssueCode, OptionEntity, Refusal};
+use entities::{EntityKind, EntityRef, IssueCode, Refusal};
 
 // Words of an entity and of a warning in a lent list.
 pub const ENTITY: usize = 2;
@@ -24,67 +24,64 @@ pub struct Counts {
     pub warnings: usize,
 }
 
-// What a call answers: a change, a change by a split with the second half of its lane, or a refusal.
+// What an accepted edit has come to: what it has filled, and of a split the second half of its lane.
 #[derive(Clone, Copy)]
-pub enum Answer {
-    Changed(Counts),
-    Split(Counts, u64),
-    Refused(Refusal),
+pub struct Change {
+    pub counts: Counts,
+    pub second: Option<u64>,
 }
 
-impl Answer {
-    // The paper's number: 0 for an accepted call.
-    pub fn number(self) -> u64
-        ensures { result ≡ R.answer_number self }
-    {
-        match self {
-            Answer::Changed(_) => 0,
-            Answer::Split(_, _) => 0,
-            Answer::Refused(r) => r.number(),
-        }
-    }
+// What a call answers.
+pub type Answer = Result<Change, Refusal>;
 
-    // The entity that a refusal names.
-    pub fn entity(self) -> OptionEntity
-        ensures { result ≡ R.answer_entity self }
-    {
-        match self {
-            Answer::Changed(_) => OptionEntity::None,
-            Answer::Split(_, _) => OptionEntity::None,
-            Answer::Refused(r) => r.entity(),
-        }
+// The paper's number: 0 for an accepted call.
+pub fn answer_number(answer: Answer) -> u64
+    ensures { result ≡ R.answer_number answer }
+{
+    match answer {
+        Ok(_) => 0,
+        Err(refusal) => u64::from(refusal),
     }
+}
 
-    // How many places of the lists an accepted call has filled; none for a refused one.
-    pub fn counts(self) -> Counts
-        ensures { result ≡ R.answer_counts self }
-    {
-        match self {
-            Answer::Changed(n) => n,
-            Answer::Split(n, _) => n,
-            Answer::Refused(_) => Counts {
-                created: 0,
-                modified: 0,
-                deleted: 0,
-                warnings: 0,
-            },
-        }
+// The entity that a refusal names.
+pub fn answer_entity(answer: Answer) -> Option<EntityRef>
+    ensures { result ≡ R.answer_entity answer }
+{
+    match answer {
+        Ok(_) => None,
+        Err(refusal) => refusal.entity(),
     }
+}
 
-    // The counter behind the call.
-    pub fn counter(self, counter: u64) -> u64
-        requires { R.counter_behind counter self < 2 ^ 64 }
-        ensures { result ≡ R.counter_behind counter self }
-    {
-        let ids = self.counts().created as u64;
-        if ids == 0 {
-            return counter;
-        }
-        if counter == 0 {
-            return ids + 1;
-        }
-        counter + ids
+// How many places of the lists an accepted call has filled; none for a refused one.
+pub fn answer_counts(answer: Answer) -> Counts
+    ensures { result ≡ R.answer_counts answer }
+{
+    match answer {
+        Ok(change) => change.counts,
+        Err(_) => Counts {
+            created: 0,
+            modified: 0,
+            deleted: 0,
+            warnings: 0,
+        },
     }
+}
+
+// The counter behind a call.
+pub fn counter_behind(counter: u64, answer: Answer) -> u64
+    requires { R.counter_behind counter answer < 2 ^ 64 }
+    ensures { result ≡ R.counter_behind counter answer }
+{
+    let ids = answer_counts(answer).created as u64;
+    if ids == 0 {
+        return counter;
+    }
+    if counter == 0 {
+        return ids + 1;
+    }
+    counter + ids
 }
 
 // ---- lanes named as modified
@@ -108,15 +105,13 @@ pub fn list_ids(kind: EntityKind, ids: &[u64], out: &mut [u64], at: usize) -> us
     requires { (at + length ids.now) * 2 ≤ length out.old }
     ensures { (result ≡ at + length ids.now) × (out.new ≡ over out.old (at * 2) (each R.entity_words (E.refs kind ids.now))) }
 {
-    let number = kind.number();
-    let mut i = 0;
-    while i < ids.len() {
+    let number = u64::from(kind);
+    for i in 0..ids.len() {
         let place = (at + i) * ENTITY;
         out[place] = number;
         out[place + 1] = ids[i];
-        i += 1;
     }
-    at + i
+    at + ids.len()
 }
 
 // The same of n ids that count up from the first.
@@ -124,15 +119,13 @@ pub fn list_up(kind: EntityKind, from: u64, n: usize, out: &mut [u64], at: usize
     requires { (from + n ≤ 2 ^ 64) × ((at + n) * 2 ≤ length out.old) }
     ensures { (result ≡ at + n) × (out.new ≡ over out.old (at * 2) (each R.entity_words (E.refs kind (E.up_from from n)))) }
 {
-    let number = kind.number();
-    let mut i = 0;
-    while i < n {
+    let number = u64::from(kind);
+    for i in 0..n {
         let place = (at + i) * ENTITY;
         out[place] = number;
         out[place + 1] = from + i as u64;
-        i += 1;
     }
-    at + i
+    at + n
 }
 
 // ---- warnings

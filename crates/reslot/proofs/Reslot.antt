@@ -1,18 +1,16 @@
 -- Slots of two rows set or freed: what they hold, the lanes named, and what a call leaves. Assumes nothing.
+use Rattle.std.specs.Prelude.{Option, None, Some, Err}
 use mathlib.Core.Path.{◌≡◌, refl, sym, ap, ◌∙◌}
 use Prim.Native.Nat.{ℕ, ◌+◌, ◌*◌, ◌≤◌}
 use native.Mathlib.Omega.{arith}
 use mathlib.Core.Bool.{Bool, true, false, not, cond, ◌&&◌}
 use mathlib.Core.List.{List, [], ◌∷◌, ◌++◌}
-use mathlib.Core.Option.{Option, none, some}
 use lib.Dec.{eqb}
 use lib.ListN.{length, get_or, take}
 use lib.Seq.{length-take-le}
 use Rattle.lists.specs.Select.{has, place, ascending}
 use Rattle.lists.proofs.Select.{ascending-place}
-use Rattle.entities.specs.declared.OptionNeighbor.{OptionNeighbor}
-use Rattle.entities.specs.declared.OptionNeighbor.TheVariants.{None, Some}
-use Rattle.entities.specs.Types.{lane_entity, reciprocal_side, neighbor_option}
+use Rattle.entities.specs.Types.{lane_entity, reciprocal_side}
 use Rattle.entities.specs.Records.{Issue}
 use Rattle.rules.specs.Names.{Side, BoundaryRef, Neighbor, NeighborDirection, Same, Opposite, LaneKind, BoundaryUnshared, NoRoom}
 use Rattle.rules.specs.Sound.{same_direction}
@@ -22,21 +20,16 @@ use Rattle.tables.specs.View.{ref_at}
 use Rattle.row_tests.specs.Returned.{lane_at}
 use Rattle.row_tests.proofs.Lanes.{id-at}
 use Rattle.lookup.specs.Lookup.{side_word}
-use Rattle.topology.specs.Topology.{id_at, lanes_changed, slot_held, beside_row, by_value}
+use Rattle.topology.specs.Topology.{id_at, lanes_changed, slot_held, beside_row}
 use Rattle.report.specs.declared.Counts.{Counts}
 use Rattle.report.specs.declared.Notice.{Notice}
 use Rattle.report.specs.declared.Notice.TheVariants as N
-use Rattle.report.specs.declared.Answer.TheVariants.{Changed, Refused}
-use Rattle.report.specs.Report.{listed, warned, issues, report_fits}
+use Rattle.report.specs.Report.{listed, warned, issues, report_fits, changed}
 use Rattle.lists.proofs.Place.{place-present, length-place}
 use Rattle.relink.specs.Parts as P
 use Rattle.relink.proofs.Reported.{no-op-issues, pair-issues, nothing-up, done, full}
 
 -- ---- what slots hold
-
-as_held : (o : Option Neighbor) → neighbor_option (by_value o) ≡ o
-as_held none = refl
-as_held (some n) = refl
 
 marks-same : (a b : NeighborDirection) → eqb (direction_mark a) (direction_mark b) ≡ same_direction a b
 marks-same Same Same = refl
@@ -44,8 +37,8 @@ marks-same Same Opposite = refl
 marks-same Opposite Same = refl
 marks-same Opposite Opposite = refl
 
-pub holds-both : (slot : OptionNeighbor) (n : Neighbor) (lane : ℕ) (d : NeighborDirection) (x y : ℕ) (r : Bool) → slot ≡ Some n → x ≡ direction_mark d → y ≡ direction_mark n.direction
-    → r ≡ (eqb lane n.lane && eqb x y) → r ≡ E.same_slot (neighbor_option slot) (some (record { lane = lane; direction = d }))
+pub holds-both : (slot : Option Neighbor) (n : Neighbor) (lane : ℕ) (d : NeighborDirection) (x y : ℕ) (r : Bool) → slot ≡ Some n → x ≡ direction_mark d → y ≡ direction_mark n.direction
+    → r ≡ (eqb lane n.lane && eqb x y) → r ≡ E.same_slot slot (Some (record { lane = lane; direction = d }))
 holds-both slot n lane d x y r e p q s = s ∙ rw (p, q, e, marks-same d n.direction)
 
 pub two-boundaries : (t : List ℕ) (i : ℕ) (side : Side) (j : ℕ) (answer : Side) (x y : BoundaryRef) → x ≡ ref_at (side_word side) (lane_at t i) → y ≡ ref_at (side_word answer) (lane_at t j)
@@ -55,12 +48,12 @@ two-boundaries t i side j answer x y p q =
 
 -- ---- lanes named
 
-pub none_named : (slot : OptionNeighbor) (w : List ℕ) (n : ℕ) → slot ≡ None → n ≤ length w
-    → (take n w ≡ P.place_slot (neighbor_option slot) (take n w)) × (n ≡ length (P.place_slot (neighbor_option slot) (take n w)))
+pub none_named : (slot : Option Neighbor) (w : List ℕ) (n : ℕ) → slot ≡ None → n ≤ length w
+    → (take n w ≡ P.place_slot slot (take n w)) × (n ≡ length (P.place_slot slot (take n w)))
 none_named slot w n e h = rw e (refl, sym (length-take-le n w h))
 
-pub one-named : (slot : OptionNeighbor) (m : Neighbor) (w v : List ℕ) (n r : ℕ) → slot ≡ Some m → (take r v ≡ place m.lane (take n w)) × (r ≡ length (place m.lane (take n w)))
-    → (take r v ≡ P.place_slot (neighbor_option slot) (take n w)) × (r ≡ length (P.place_slot (neighbor_option slot) (take n w)))
+pub one-named : (slot : Option Neighbor) (m : Neighbor) (w v : List ℕ) (n r : ℕ) → slot ≡ Some m → (take r v ≡ place m.lane (take n w)) × (r ≡ length (place m.lane (take n w)))
+    → (take r v ≡ P.place_slot slot (take n w)) × (r ≡ length (P.place_slot slot (take n w)))
 one-named slot m w v n r e p = rw e p
 
 -- at most k ids, in order
@@ -75,8 +68,8 @@ place-few k x ids f = (go (has x ids) refl, ascending-place x ids f.1)
     go false h = omega (arith, length-place x ids h, f.0)
 
 slot-few : (k : ℕ) (o : Option Neighbor) (ids : List ℕ) → Few k ids → Few (k + 1) (P.place_slot o ids)
-slot-few k none ids f = (omega (arith, f.0), f.1)
-slot-few k (some n) ids f = place-few k n.lane ids f
+slot-few k None ids f = (omega (arith, f.0), f.1)
+slot-few k (Some n) ids f = place-few k n.lane ids f
 
 -- the first n of w are at most k ids, in order
 abbrev pub Named : ℕ → ℕ → List ℕ → Type 0
@@ -99,7 +92,7 @@ pub all_named : (skip : Bool) (lane : ℕ) (old new other : Option Neighbor) (a 
     → (take r v4 ≡ P.place_slot other (take c v3)) × (r ≡ length (P.place_slot other (take c v3)))
     → (take r v4 ≡ cond skip [] (P.slot_ids lane old new other)) × (r ≡ length (cond skip [] (P.slot_ids lane old new other)))
 all_named skip lane old new other a b c r w v1 v2 v3 v4 s d e f p =
-    let q : take c v3 ≡ P.slot_ids lane old new none = f ∙ ap (P.place_slot new) (e ∙ ap (P.place_slot old) d) in
+    let q : take c v3 ≡ P.slot_ids lane old new None = f ∙ ap (P.place_slot new) (e ∙ ap (P.place_slot old) d) in
     rw s (p.0 ∙ ap (P.place_slot other) q, p.1 ∙ ap (λ z. length (P.place_slot other z)) q)
 
 pub ids_few : (skip : Bool) (lane : ℕ) (old new other : Option Neighbor) (n : ℕ) → n ≡ length (cond skip [] (P.slot_ids lane old new other)) → n ≤ 4
@@ -121,8 +114,8 @@ pub record Ends (t md ws : List ℕ) (n : ℕ) (ids : List ℕ) (told : List Iss
   pub fitting : r ≡ true → report_fits (length ids) (length told) md ws ≡ true
   pub changed : r ≡ true → (t' md' ws' : List ℕ) (c : Counts) → t' ≡ cond same t after
       → (c ≡ record { created = 0; modified = length ids; deleted = 0; warnings = length told }) × ((md' ≡ listed md (E.refs LaneKind ids)) × (ws' ≡ warned ws told))
-      → P.links_written t' md' ws' (Changed c) ≡ whole
-  pub refused : r ≡ false → P.links_written t md ws (Refused NoRoom) ≡ whole
+      → P.links_written t' md' ws' (changed c) ≡ whole
+  pub refused : r ≡ false → P.links_written t md ws (Err NoRoom) ≡ whole
 
 abbrev after_slot : List ℕ → ℕ → Side → Option Neighbor → Option Neighbor → List ℕ
 after_slot t i side new other = lanes_changed (E.reslotted (E.slot_after (id_at t i) side new (slot_held t i side) other)) t
@@ -176,23 +169,23 @@ module _ (t : List ℕ) (i : ℕ) (side : Side) (new other : Option Neighbor) (i
 
 -- a slot freed
 abbrev pub FreeEnds : List ℕ → ℕ → Side → List ℕ → List ℕ → Bool → Notice → ℕ → List ℕ → Bool → Type 0
-FreeEnds t i side md ws free first n arr r = Ends t md ws n (take n arr) (issues first ++ issues N.Nothing) r free (after_slot t i side none none) (P.freeing t i side md ws)
+FreeEnds t i side md ws free first n arr r = Ends t md ws n (take n arr) (issues first ++ issues N.Nothing) r free (after_slot t i side None None) (P.freeing t i side md ws)
 
-module _ (t : List ℕ) (i : ℕ) (side : Side) (md ws : List ℕ) (old : OptionNeighbor) (free : Bool) (first : Notice) (n : ℕ) (arr : List ℕ) (r : Bool) where
-  pub free-ends : old ≡ by_value (slot_held t i side) → free ≡ E.same_slot (neighbor_option old) none → first ≡ cond free (N.NoOp (get_or t (1 + i * 52) 0)) N.Nothing
-      → (take n arr ≡ cond free [] (P.slot_ids (get_or t (1 + i * 52) 0) (neighbor_option old) none none)) × (n ≡ length (cond free [] (P.slot_ids (get_or t (1 + i * 52) 0) (neighbor_option old) none none)))
+module _ (t : List ℕ) (i : ℕ) (side : Side) (md ws : List ℕ) (old : Option Neighbor) (free : Bool) (first : Notice) (n : ℕ) (arr : List ℕ) (r : Bool) where
+  pub free-ends : old ≡ slot_held t i side → free ≡ E.same_slot old None → first ≡ cond free (N.NoOp (get_or t (1 + i * 52) 0)) N.Nothing
+      → (take n arr ≡ cond free [] (P.slot_ids (get_or t (1 + i * 52) 0) old None None)) × (n ≡ length (cond free [] (P.slot_ids (get_or t (1 + i * 52) 0) old None None)))
       → r ≡ report_fits n (length (issues first ++ issues N.Nothing)) md ws → FreeEnds t i side md ws free first n arr r
   free-ends eo es e1 p er =
-      let held : neighbor_option old ≡ slot_held t i side = ap neighbor_option eo ∙ as_held (slot_held t i side) in
+      let held : old ≡ slot_held t i side = eo in
       let told = ap (λ z. issues z ++ []) e1 ∙ ap (λ z. z ++ []) (no-op-issues free (get_or t (1 + i * 52) 0)) in
-      reslot_ends t i side none none [] md ws (neighbor_option old) free (issues first ++ issues N.Nothing) n (take n arr) r held es told p er
+      reslot_ends t i side None None [] md ws old free (issues first ++ issues N.Nothing) n (take n arr) r held es told p er
 
 -- a lane set beside another
 abbrev pub SetEnds : List ℕ → ℕ → Side → ℕ → NeighborDirection → List ℕ → List ℕ → Bool → Notice → Notice → ℕ → List ℕ → Bool → Type 0
 SetEnds t i side j d md ws set first second n arr r =
-    Ends t md ws n (take n arr) (issues first ++ issues second) r set (after_slot t i side (some (beside_row t j d)) (slot_held t j (reciprocal_side side d))) (P.setting t i side j d md ws)
+    Ends t md ws n (take n arr) (issues first ++ issues second) r set (after_slot t i side (Some (beside_row t j d)) (slot_held t j (reciprocal_side side d))) (P.setting t i side j d md ws)
 
-module _ (t : List ℕ) (i : ℕ) (side : Side) (j : ℕ) (d : NeighborDirection) (md ws : List ℕ) (answer : Side) (old other : OptionNeighbor) (set : Bool) (first : Notice) (apart : Bool) (second : Notice)
+module _ (t : List ℕ) (i : ℕ) (side : Side) (j : ℕ) (d : NeighborDirection) (md ws : List ℕ) (answer : Side) (old other : Option Neighbor) (set : Bool) (first : Notice) (apart : Bool) (second : Notice)
     (n : ℕ) (arr : List ℕ) (r : Bool) where
   abbrev a : ℕ
   a = get_or t (1 + i * 52) 0
@@ -202,10 +195,10 @@ module _ (t : List ℕ) (i : ℕ) (side : Side) (j : ℕ) (d : NeighborDirection
 
   -- the lane in row j, as it is read
   abbrev read : ℕ → Option Neighbor
-  read z = some (record { lane = z; direction = d })
+  read z = Some (record { lane = z; direction = d })
 
   abbrev new : Option Neighbor
-  new = some (beside_row t j d)
+  new = Some (beside_row t j d)
 
   abbrev answered : Option Neighbor
   answered = slot_held t j (reciprocal_side side d)
@@ -216,10 +209,10 @@ module _ (t : List ℕ) (i : ℕ) (side : Side) (j : ℕ) (d : NeighborDirection
   abbrev apartness : Bool → ℕ → ℕ → List Issue
   apartness x y z = E.when x (E.warning BoundaryUnshared (lane_entity y) (lane_entity z ∷ []))
 
-  set-ids : neighbor_option other ≡ answered → cond set [] (P.slot_ids a (neighbor_option old) (read b) (neighbor_option other)) ≡ cond set [] (P.slot_ids a (neighbor_option old) new answered)
+  set-ids : other ≡ answered → cond set [] (P.slot_ids a old (read b) other) ≡ cond set [] (P.slot_ids a old new answered)
   set-ids h =
-      ap (λ z. cond set [] (P.slot_ids a (neighbor_option old) (read z) (neighbor_option other))) (id-at t j)
-      ∙ ap (λ z. cond set [] (P.slot_ids a (neighbor_option old) new z)) h
+      ap (λ z. cond set [] (P.slot_ids a old (read z) other)) (id-at t j)
+      ∙ ap (λ z. cond set [] (P.slot_ids a old new z)) h
 
   set-warned : answer ≡ reciprocal_side side d → apart ≡ P.unshared_issues t i side j answer → second ≡ cond apart (N.Pair BoundaryUnshared a b) N.Nothing
       → issues second ≡ apartness two (id_at t i) (id_at t j)
@@ -228,15 +221,15 @@ module _ (t : List ℕ) (i : ℕ) (side : Side) (j : ℕ) (d : NeighborDirection
       ∙ (pair-issues apart BoundaryUnshared a b
       ∙ (ap (λ z. apartness z a b) (ep ∙ ap (P.unshared_issues t i side j) ea) ∙ (ap (λ z. apartness two z b) (id-at t i) ∙ ap (apartness two (id_at t i)) (id-at t j))))
 
-  pub set-ends : answer ≡ reciprocal_side side d → old ≡ by_value (slot_held t i side) → other ≡ by_value (slot_held t j answer) → set ≡ E.same_slot (neighbor_option old) (read b)
+  pub set-ends : answer ≡ reciprocal_side side d → old ≡ slot_held t i side → other ≡ slot_held t j answer → set ≡ E.same_slot old (read b)
       → first ≡ cond set (N.NoOp a) N.Nothing → apart ≡ P.unshared_issues t i side j answer → second ≡ cond apart (N.Pair BoundaryUnshared a b) N.Nothing
-      → (take n arr ≡ cond set [] (P.slot_ids a (neighbor_option old) (read b) (neighbor_option other))) × (n ≡ length (cond set [] (P.slot_ids a (neighbor_option old) (read b) (neighbor_option other))))
+      → (take n arr ≡ cond set [] (P.slot_ids a old (read b) other)) × (n ≡ length (cond set [] (P.slot_ids a old (read b) other)))
       → r ≡ report_fits n (length (issues first ++ issues second)) md ws → SetEnds t i side j d md ws set first second n arr r
   set-ends ea eo eh es e1 ep e2 p er =
-      let held : neighbor_option old ≡ slot_held t i side = ap neighbor_option eo ∙ as_held (slot_held t i side) in
-      let others : neighbor_option other ≡ answered = ap neighbor_option eh ∙ (as_held (slot_held t j answer) ∙ ap (slot_held t j) ea) in
-      let same : set ≡ E.same_slot (neighbor_option old) new = es ∙ ap (λ z. E.same_slot (neighbor_option old) (read z)) (id-at t j) in
+      let held : old ≡ slot_held t i side = eo in
+      let others : other ≡ answered = eh ∙ ap (slot_held t j) ea in
+      let same : set ≡ E.same_slot old new = es ∙ ap (λ z. E.same_slot old (read z)) (id-at t j) in
       let told = ap (λ z. z ++ issues second) (ap issues e1 ∙ no-op-issues set a) ∙ ap (λ z. E.when set (E.no_op a) ++ z) (set-warned ea ep e2) in
       let ids = set-ids others in
-      reslot_ends t i side new answered (apartness two (id_at t i) (id_at t j)) md ws (neighbor_option old) set (issues first ++ issues second) n (take n arr) r held same told
+      reslot_ends t i side new answered (apartness two (id_at t i) (id_at t j)) md ws old set (issues first ++ issues second) n (take n arr) r held same told
       (p.0 ∙ ids, p.1 ∙ ap length ids) er

@@ -1,42 +1,30 @@
 // The parts of set_neighbor: the slots of two rows, set or freed.
 #![tactic(auto)]
 
-ghost use Rattle.std.specs.Prelude.{◌≡◌, true, cond, [], ◌≤◌, ◌<◌, length, take};
-ghost use Rattle.std.proofs.Math.Option.{none, some};
+ghost use Rattle.std.specs.Prelude.{◌≡◌, true, cond, [], ◌≤◌, ◌<◌, length, take, None, Some};
 ghost use Rattle.lists.specs.Select.{ascending};
 ghost use Rattle.entities.specs.Types.{reciprocal_side};
 ghost use Rattle.rules.specs.Edit as E;
 ghost use Rattle.tables.specs.View.{word};
 ghost use Rattle.row_tests.specs.Returned.{searchable};
 ghost use Rattle.topology.specs.Topology as T;
-ghost use Rattle.entities.specs.Types.{neighbor_option};
 ghost use Rattle.relink.specs.Parts as P;
 
-use entities::{NeighborDirection, OptionNeighbor, Side};
+use entities::{Neighbor, NeighborDirection, Side};
 use lists::both;
 
 // ---- what slots hold
 
-pub fn is_free(slot: OptionNeighbor) -> bool
-    ensures { result ≡ E.same_slot (neighbor_option slot) none }
+pub fn is_free(slot: Option<Neighbor>) -> bool
+    ensures { result ≡ E.same_slot slot None }
 {
-    match slot {
-        OptionNeighbor::None => true,
-        OptionNeighbor::Some(_) => false,
-    }
+    slot.is_none()
 }
 
-pub fn holds(slot: OptionNeighbor, lane: u64, direction: NeighborDirection) -> bool
-    ensures { result ≡ E.same_slot (neighbor_option slot) (some (record { lane = lane; direction = direction })) }
+pub fn holds(slot: Option<Neighbor>, lane: u64, direction: NeighborDirection) -> bool
+    ensures { result ≡ E.same_slot slot (Some (record { lane = lane; direction = direction })) }
 {
-    let OptionNeighbor::Some(n) = slot else {
-        return false;
-    };
-    let held = n.direction;
-    both(
-        lane == n.lane,
-        topology::direction_mark(direction) == topology::direction_mark(held),
-    )
+    slot == Some(Neighbor { lane, direction })
 }
 
 // Whether the boundaries between two rows are two.
@@ -52,11 +40,11 @@ pub fn unshared(lanes: &[u64], i: usize, side: Side, j: usize, answer: Side) -> 
 // ---- lanes named as modified
 
 // The lane in a slot put in its place among the first n ids.
-fn named_slot(ids: &mut [u64], n: usize, slot: OptionNeighbor) -> usize
+fn named_slot(ids: &mut [u64], n: usize, slot: Option<Neighbor>) -> usize
     requires { (n < length ids.old) × (ascending (take n ids.old) ≡ true) }
-    ensures { (take result ids.new ≡ P.place_slot (neighbor_option slot) (take n ids.old)) × (result ≡ length (P.place_slot (neighbor_option slot) (take n ids.old))) }
+    ensures { (take result ids.new ≡ P.place_slot slot (take n ids.old)) × (result ≡ length (P.place_slot slot (take n ids.old))) }
 {
-    let OptionNeighbor::Some(s) = slot else {
+    let Some(s) = slot else {
         return n;
     };
     report::named(ids, n, s.lane)
@@ -66,13 +54,13 @@ fn named_slot(ids: &mut [u64], n: usize, slot: OptionNeighbor) -> usize
 pub fn touched(
     skip: bool,
     lane: u64,
-    old: OptionNeighbor,
-    new: OptionNeighbor,
-    other: OptionNeighbor,
+    old: Option<Neighbor>,
+    new: Option<Neighbor>,
+    other: Option<Neighbor>,
     ids: &mut [u64],
 ) -> usize
     requires { 4 ≤ length ids.old }
-    ensures { (take result ids.new ≡ cond skip [] (P.slot_ids lane (neighbor_option old) (neighbor_option new) (neighbor_option other))) × (result ≡ length (cond skip [] (P.slot_ids lane (neighbor_option old) (neighbor_option new) (neighbor_option other)))) }
+    ensures { (take result ids.new ≡ cond skip [] (P.slot_ids lane old new other)) × (result ≡ length (cond skip [] (P.slot_ids lane old new other))) }
 {
     if skip {
         return 0;
@@ -88,7 +76,7 @@ pub fn touched(
 // The slot of row i on a side freed, unless it is.
 pub fn clear_unless(lanes: &mut [u64], i: usize, side: Side, free: bool)
     requires { (searchable lanes.old ≡ true) × (i < word 0 lanes.old) }
-    ensures { lanes.new ≡ cond free lanes.old (T.lanes_changed (E.reslotted (E.slot_after (T.id_at lanes.old i) side none (T.slot_held lanes.old i side) none)) lanes.old) }
+    ensures { lanes.new ≡ cond free lanes.old (T.lanes_changed (E.reslotted (E.slot_after (T.id_at lanes.old i) side None (T.slot_held lanes.old i side) None)) lanes.old) }
 {
     if free {
         return;
@@ -106,7 +94,7 @@ pub fn set_unless(
     set: bool,
 )
     requires { (searchable lanes.old ≡ true) × ((i < word 0 lanes.old) × ((j < word 0 lanes.old) × (j ≡ i → ⊥))) }
-    ensures { lanes.new ≡ cond set lanes.old (T.lanes_changed (E.reslotted (E.slot_after (T.id_at lanes.old i) side (some (T.beside_row lanes.old j direction)) (T.slot_held lanes.old i side) (T.slot_held lanes.old j (reciprocal_side side direction)))) lanes.old) }
+    ensures { lanes.new ≡ cond set lanes.old (T.lanes_changed (E.reslotted (E.slot_after (T.id_at lanes.old i) side (Some (T.beside_row lanes.old j direction)) (T.slot_held lanes.old i side) (T.slot_held lanes.old j (reciprocal_side side direction)))) lanes.old) }
 {
     if set {
         return;

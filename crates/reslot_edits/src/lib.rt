@@ -6,10 +6,8 @@ ghost use Rattle.tables.specs.View.{word};
 ghost use Rattle.row_tests.specs.Returned.{searchable};
 ghost use Rattle.relink.specs.Parts as P;
 
-use entities::{
-    IssueCode, Neighbor, NeighborDirection, OptionNeighbor, Refusal, Side, reciprocal_side,
-};
-use report::{Answer, Notice};
+use entities::{IssueCode, Neighbor, NeighborDirection, Refusal, Side, reciprocal_side};
+use report::{Answer, Change, Notice};
 use tables::LANE;
 
 // Frees the slot of row i on a side.
@@ -24,7 +22,7 @@ pub fn free_slot(
     ensures { P.links_written lanes.new modified.new warnings.new result ≡ P.freeing lanes.old i side modified.old warnings.old }
 {
     let lane = lanes[1 + i * LANE];
-    let nobody = OptionNeighbor::None;
+    let nobody = None;
     let old = topology::neighbor(lanes, i, side);
     let free = reslot::is_free(old);
     let first = report::no_op_where(free, lane);
@@ -34,9 +32,12 @@ pub fn free_slot(
     if notices::fits(n, first, second, modified, warnings) {
         let counts = notices::report(&ids[..n], first, second, modified, warnings);
         reslot::clear_unless(lanes, i, side, free);
-        return Answer::Changed(counts);
+        return Ok(Change {
+            counts,
+            second: None,
+        });
     }
-    Answer::Refused(Refusal::NoRoom)
+    Err(Refusal::NoRoom)
 }
 
 // Sets the lane in row j beside the lane in row i, another one.
@@ -55,7 +56,7 @@ pub fn set_slot(
     let answer = reciprocal_side(side, direction);
     let lane = lanes[1 + i * LANE];
     let beside = lanes[1 + j * LANE];
-    let new = OptionNeighbor::Some(Neighbor {
+    let new = Some(Neighbor {
         lane: beside,
         direction,
     });
@@ -70,7 +71,10 @@ pub fn set_slot(
     if notices::fits(n, first, second, modified, warnings) {
         let counts = notices::report(&ids[..n], first, second, modified, warnings);
         reslot::set_unless(lanes, i, side, j, direction, set);
-        return Answer::Changed(counts);
+        return Ok(Change {
+            counts,
+            second: None,
+        });
     }
-    Answer::Refused(Refusal::NoRoom)
+    Err(Refusal::NoRoom)
 }

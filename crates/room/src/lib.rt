@@ -79,10 +79,8 @@ pub fn column_points(t: &[u64], stride: usize, offset: usize) -> usize
 {
     let n = t[0] as usize;
     let mut points = 0;
-    let mut i = 0;
-    while i < n {
+    for i in 0..n {
         points += t[1 + i * stride + offset + 1] as usize;
-        i += 1;
     }
     points
 }

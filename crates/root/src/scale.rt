@@ -33,7 +33,7 @@ pub fn normal(bits: u64) -> Parts
     halved(bits % HIDDEN + HIDDEN, PLACES + bits / HIDDEN - 1)
 }
 
-// A subnormal's digits are moved up until there are 53.
+// A subnormal's digits are moved up until there are 53: the loop ends by the digits, not by a count.
 fn subnormal(digits: u64) -> Parts
     requires { (0 < digits) × (digits < 2 ^ 52) }
     ensures { Scaled (digits * 2 ^ 1074) result.digits result.odd result.half }

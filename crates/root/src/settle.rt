@@ -40,7 +40,8 @@ fn above(x: u64, y: u64) -> u64
 }
 
 // The search by halves, a digit a turn: `low` reaches below the root of a * 2 ^ 52 rounded up, `high` does not. It is hardly ever called, and a function that
-// goes on with its own answer is put into no other by the compiler: the first branch, which is never taken, keeps it out of the roots' way.
+// goes on with its own answer is put into no other by the compiler: the first branch, which is never taken, keeps it out of the roots' way. Numbers are searched here,
+// not a slice.
 pub fn bisect(a: u64) -> u64
     requires { (2 ^ 52 ≤ a) × (a ≤ 2 ^ 54 - 2) }
     ensures { Rounded a result }

@@ -1,10 +1,11 @@
-// Which row of a table fails a clause of soundness first. Clauses and tables are numbered as in specs/Clauses.antt.
+// Which row of a table fails a clause of soundness first. Clauses and tables are those of specs/Clauses.antt.
 #![tactic(auto)]
 
 ghost use Rattle.std.specs.Prelude.{◌≡◌, true, ◌+◌, ◌<◌, ◌≤◌, length, drop, get_or};
 ghost use Rattle.lists.specs.Rows.{keys};
 ghost use Rattle.tables.specs.View.{rows, word};
 ghost use Rattle.tables.specs.Formed.{counted};
+ghost use Rattle.row_faults.specs.Clauses.{clause_number, table_number};
 ghost use Rattle.row_faults.specs.First.{first_false, rises};
 ghost use Rattle.row_faults.specs.Passes as P;
 
@@ -17,33 +18,71 @@ use tables::{
     RULE_STOP_LINES, STOP_LINE_ATTRIBUTES, STOP_LINE_ID, SUCCESSORS,
 };
 
-// The clauses that are asked of rows by themselves.
-pub const MARKS: u64 = 2;
+// The clauses of soundness.
+#[derive(Clone, Copy)]
+pub enum Clause {
+    Counts,
+    Marks,
+    Kinds,
+    Ids,
+    Names,
+    Links,
+    Lines,
+    Repeats,
+    Points,
+    Returns,
+    Neighbors,
+}
 
-pub const KINDS: u64 = 3;
+impl From<Clause> for u64 {
+    ghost from_gives = { λ clause number. number ≡ clause_number clause };
 
-pub const NAMES: u64 = 5;
-
-pub const LINKS: u64 = 6;
-
-pub const LINES: u64 = 7;
-
-pub const REPEATS: u64 = 11;
+    fn from(clause: Clause) -> u64 {
+        match clause {
+            Clause::Counts => 1,
+            Clause::Marks => 2,
+            Clause::Kinds => 3,
+            Clause::Ids => 4,
+            Clause::Names => 5,
+            Clause::Links => 6,
+            Clause::Lines => 7,
+            Clause::Repeats => 11,
+            Clause::Points => 8,
+            Clause::Returns => 9,
+            Clause::Neighbors => 10,
+        }
+    }
+}
 
 // The tables.
-pub const LANE_TABLE: u64 = 0;
+#[derive(Clone, Copy)]
+pub enum Table {
+    Lane,
+    Boundary,
+    Road,
+    Junction,
+    Rule,
+    StopLine,
+    Crosswalk,
+    Coordinate,
+}
 
-pub const BOUNDARY_TABLE: u64 = 1;
+impl From<Table> for u64 {
+    ghost from_gives = { λ table number. number ≡ table_number table };
 
-pub const ROAD_TABLE: u64 = 2;
-
-pub const JUNCTION_TABLE: u64 = 3;
-
-pub const RULE_TABLE: u64 = 4;
-
-pub const STOP_LINE_TABLE: u64 = 5;
-
-pub const CROSSWALK_TABLE: u64 = 6;
+    fn from(table: Table) -> u64 {
+        match table {
+            Table::Lane => 0,
+            Table::Boundary => 1,
+            Table::Road => 2,
+            Table::Junction => 3,
+            Table::Rule => 4,
+            Table::StopLine => 5,
+            Table::Crosswalk => 6,
+            Table::Coordinate => 7,
+        }
+    }
+}
 
 // The largest kinds and counts.
 const LANE_KINDS: u64 = 7;
@@ -102,44 +141,35 @@ fn links_rise(w: &[u64]) -> bool
     false
 }
 
-fn lane_passes(clause: u64, w: &[u64], most: u64, coordinates: &[f64]) -> bool
+#[tactic(auto, unfolding(crate::specs::Passes::lane_passes))]
+fn lane_passes(clause: Clause, w: &[u64], most: u64, coordinates: &[f64]) -> bool
     requires { length w.now ≡ 52 }
     ensures { result ≡ P.lane_passes clause most coordinates.now w.now }
 {
-    if clause == MARKS {
-        return entity_tests::lane_formed(w);
+    match clause {
+        Clause::Marks => entity_tests::lane_formed(w),
+        Clause::Kinds => lane_kinds(w),
+        Clause::Names => lane_named(w, most),
+        Clause::Links => links_rise(w),
+        _ => entity_tests::lane_good(w, most, coordinates),
     }
-    if clause == KINDS {
-        return lane_kinds(w);
-    }
-    if clause == NAMES {
-        return lane_named(w, most);
-    }
-    if clause == LINKS {
-        return links_rise(w);
-    }
-    entity_tests::lane_good(w, most, coordinates)
 }
 
 // ---- rows with lines
 
 // What a clause asks for, of what was found of a row.
-fn drawn(clause: u64, kinds: bool, named: bool, good: bool) -> bool
+fn drawn(clause: Clause, kinds: bool, named: bool, good: bool) -> bool
     ensures { result ≡ P.drawn_passes clause kinds named good }
 {
-    if clause == MARKS {
-        return true;
+    match clause {
+        Clause::Marks => true,
+        Clause::Kinds => kinds,
+        Clause::Counts | Clause::Ids | Clause::Names | Clause::Links => named,
+        _ => good,
     }
-    if clause == KINDS {
-        return kinds;
-    }
-    if clause < LINES {
-        return named;
-    }
-    good
 }
 
-fn boundary_passes(clause: u64, w: &[u64], most: u64, coordinates: &[f64]) -> bool
+fn boundary_passes(clause: Clause, w: &[u64], most: u64, coordinates: &[f64]) -> bool
     requires { length w.now ≡ 5 }
     ensures { result ≡ P.boundary_passes clause most coordinates.now w.now }
 {
@@ -154,7 +184,7 @@ fn boundary_passes(clause: u64, w: &[u64], most: u64, coordinates: &[f64]) -> bo
     )
 }
 
-fn stop_line_passes(clause: u64, w: &[u64], most: u64, coordinates: &[f64]) -> bool
+fn stop_line_passes(clause: Clause, w: &[u64], most: u64, coordinates: &[f64]) -> bool
     requires { length w.now ≡ 4 }
     ensures { result ≡ P.stop_line_passes clause most coordinates.now w.now }
 {
@@ -166,7 +196,7 @@ fn stop_line_passes(clause: u64, w: &[u64], most: u64, coordinates: &[f64]) -> b
     )
 }
 
-fn crosswalk_passes(clause: u64, w: &[u64], most: u64, coordinates: &[f64]) -> bool
+fn crosswalk_passes(clause: Clause, w: &[u64], most: u64, coordinates: &[f64]) -> bool
     requires { length w.now ≡ 7 }
     ensures { result ≡ P.crosswalk_passes clause most coordinates.now w.now }
 {
@@ -183,19 +213,15 @@ fn crosswalk_passes(clause: u64, w: &[u64], most: u64, coordinates: &[f64]) -> b
 
 // ---- rows of lists
 
-fn listed(clause: u64, formed: bool, kinds: bool, named: bool, good: bool) -> bool
+fn listed(clause: Clause, formed: bool, kinds: bool, named: bool, good: bool) -> bool
     ensures { result ≡ P.listed_passes clause formed kinds named good }
 {
-    if clause == MARKS {
-        return formed;
+    match clause {
+        Clause::Marks => formed,
+        Clause::Kinds => kinds,
+        Clause::Repeats => good,
+        _ => named,
     }
-    if clause == KINDS {
-        return kinds;
-    }
-    if clause == REPEATS {
-        return good;
-    }
-    named
 }
 
 // A row's id, and the ids behind their count at place k.
@@ -211,7 +237,7 @@ fn list_named(w: &[u64], k: usize, most: u64) -> bool
     false
 }
 
-fn road_passes(clause: u64, w: &[u64], most: u64) -> bool
+fn road_passes(clause: Clause, w: &[u64], most: u64) -> bool
     requires { length w.now ≡ 68 }
     ensures { result ≡ P.road_passes clause most w.now }
 {
@@ -227,7 +253,7 @@ fn road_passes(clause: u64, w: &[u64], most: u64) -> bool
     )
 }
 
-fn junction_passes(clause: u64, w: &[u64], most: u64) -> bool
+fn junction_passes(clause: Clause, w: &[u64], most: u64) -> bool
     requires { length w.now ≡ 69 }
     ensures { result ≡ P.junction_passes clause most w.now }
 {
@@ -278,7 +304,7 @@ fn rule_named(w: &[u64], most: u64) -> bool
     false
 }
 
-fn rule_passes(clause: u64, w: &[u64], most: u64) -> bool
+fn rule_passes(clause: Clause, w: &[u64], most: u64) -> bool
     requires { length w.now ≡ 330 }
     ensures { result ≡ P.rule_passes clause most w.now }
 {
@@ -293,36 +319,28 @@ fn rule_passes(clause: u64, w: &[u64], most: u64) -> bool
 
 // ---- by table
 
-// Whether a row of a table passes a clause.
-fn row_passes(clause: u64, table: u64, w: &[u64], most: u64, coordinates: &[f64]) -> bool
+// Whether a row of a table passes a clause. The coordinates have no rows of their own, and count as the last table. The definitions speak of the pair, and a
+// closure for each pair would be no plainer.
+#[tactic(auto, unfolding(crate::specs::Passes::row_words, crate::specs::Passes::row_passes))]
+fn row_passes(clause: Clause, table: Table, w: &[u64], most: u64, coordinates: &[f64]) -> bool
     requires { length w.now ≡ P.row_words table }
     ensures { result ≡ P.row_passes clause table most coordinates.now w.now }
 {
-    if table == LANE_TABLE {
-        return lane_passes(clause, w, most, coordinates);
+    match table {
+        Table::Lane => lane_passes(clause, w, most, coordinates),
+        Table::Boundary => boundary_passes(clause, w, most, coordinates),
+        Table::Road => road_passes(clause, w, most),
+        Table::Junction => junction_passes(clause, w, most),
+        Table::Rule => rule_passes(clause, w, most),
+        Table::StopLine => stop_line_passes(clause, w, most, coordinates),
+        Table::Crosswalk | Table::Coordinate => crosswalk_passes(clause, w, most, coordinates),
     }
-    if table == BOUNDARY_TABLE {
-        return boundary_passes(clause, w, most, coordinates);
-    }
-    if table == ROAD_TABLE {
-        return road_passes(clause, w, most);
-    }
-    if table == JUNCTION_TABLE {
-        return junction_passes(clause, w, most);
-    }
-    if table == RULE_TABLE {
-        return rule_passes(clause, w, most);
-    }
-    if table == STOP_LINE_TABLE {
-        return stop_line_passes(clause, w, most, coordinates);
-    }
-    crosswalk_passes(clause, w, most, coordinates)
 }
 
 // The first row of a table that does not pass a clause; the count of rows where all do.
 pub fn first_failing(
-    clause: u64,
-    table: u64,
+    clause: Clause,
+    table: Table,
     t: &[u64],
     limit: u64,
     row: usize,
@@ -333,17 +351,14 @@ pub fn first_failing(
     ensures { result ≡ first_false (rows row (P.row_passes clause table most coordinates.now) t.now) }
 {
     let n = t[0] as usize;
-    let mut i = 0;
-    while i < n {
+    for i in 0..n {
         let at = 1 + i * row;
         let end = at + row;
-        if row_passes(clause, table, &t[at..end], most, coordinates) {
-            i += 1;
-        } else {
+        if !row_passes(clause, table, &t[at..end], most, coordinates) {
             return i;
         }
     }
-    i
+    n
 }
 
 // Whether the id of row i is above that of the row before it.
@@ -363,13 +378,10 @@ pub fn first_fallen(t: &[u64], limit: u64, row: usize) -> usize
     ensures { result ≡ first_false (rises (keys row (word 0 t.now) (drop 1 t.now))) }
 {
     let n = t[0] as usize;
-    let mut i = 0;
-    while i < n {
-        if rises_at(t, limit, row, i) {
-            i += 1;
-        } else {
+    for i in 0..n {
+        if !rises_at(t, limit, row, i) {
             return i;
         }
     }
-    i
+    n
 }

@@ -1,4 +1,5 @@
 -- Ids listed at the front of an array: one more of them, and a search by halves. Assumes nothing.
+use Rattle.std.specs.Prelude.{None, Some}
 use mathlib.Core.Path.{◌≡◌, refl, sym, ap, ◌∙◌}
 use Prim.Native.Nat.{ℕ, suc, ◌+◌, ◌-◌, ◌*◌, ◌/◌, ◌≤◌, ◌<◌}
 use native.Mathlib.Nat.{eq-or-lt_of_le}
@@ -12,7 +13,6 @@ use lib.ListN.{length, get_or, set, take, replicate, length-set, length-replicat
 use lib.Seq.{get_or-take, get_or-set_other, take-suc, take-suc-set, take_all, length-take-le}
 use borrow.Author.Tests.{ltb-true, ltb-false}
 use Rattle.lists.specs.Rows.{keys, row_with}
-use Rattle.lists.specs.declared.Found.TheVariants.{At, Nothing}
 use Rattle.lists.proofs.Select.{ascending-places}
 use Rattle.lists.proofs.Rows.{length-keys, key-at, row-at, row-none}
 use Rattle.row_ids.specs.Listed.{Spare, Listed, Ready}
@@ -73,7 +73,7 @@ module _ (ids : List ℕ) (n x : ℕ) (r : Ready n ids) (fits : x ≤ 1844674407
   not-below i j h l = ⊎_elim (λ e. rw e (omega arith)) (λ g. let p = rises i j g l in omega arith) (eq-or-lt_of_le h)
 
   -- a row that has the id is its row
-  pub search-found : (i : ℕ) → i < n → get_or ids i 0 ≡ x → At i ≡ row_with x (take n ids)
+  pub search-found : (i : ℕ) → i < n → get_or ids i 0 ≡ x → Some i ≡ row_with x (take n ids)
   search-found i h e = sym (row-at x i (take n ids) r.up (rw size h) (get_or-take n ids i 0 h ∙ e))
 
   pub search-all : Left ids n x 0 1024
@@ -132,7 +132,7 @@ module _ (ids : List ℕ) (n x : ℕ) (r : Ready n ids) (fits : x ≤ 1844674407
               rw z (search-lower (ltb-false (get_or ids (low + half - 1) 0) x t))
 
   module _ (low left : ℕ) (a : Left ids n x low left) (one : left ≤ 1) where
-    pub search-ends : (low < n → get_or ids low 0 ≡ x → ⊥) → Nothing ≡ row_with x (take n ids)
+    pub search-ends : (low < n → get_or ids low 0 ≡ x → ⊥) → None ≡ row_with x (take n ids)
     search-ends ne =
         sym (row-none x (take n ids) (λ k l e. let l : k < n = rw size at l in side k l (sym (get_or-take n ids k 0 l) ∙ e) (ltb k low) refl (ltb low k) refl))
       where

@@ -6,9 +6,7 @@ ghost use Rattle.std.specs.Prelude.{◌≡◌, cond, ◌*◌, ◌≤◌, ◌<◌
 ghost use Rattle.lists.specs.Rows.{keys, row_with};
 ghost use Rattle.row_ids.specs.Listed.{Spare, Listed, Ready};
 
-use lists::Found;
-
-// As many ids as a table can have rows.
+// As many ids as a table can have rows. The array is full, with a count n beside it: fixed memory, and a search whose size is known before.
 pub const ROOM: usize = 1024;
 
 // What stands where no id does: no word is larger.
@@ -19,10 +17,8 @@ pub fn list_ids(rows: &[u64], s: usize, n: usize, ids: &mut [u64])
     requires { (0 < s) × ((n * s ≤ length rows.now) × ((n ≤ 1024) × ((length ids.old ≡ 1024) × Spare 0 ids.old))) }
     ensures { Listed (keys s n rows.now) ids.new }
 {
-    let mut i = 0;
-    while i < n {
+    for i in 0..n {
         ids[i] = rows[i * s];
-        i += 1;
     }
 }
 
@@ -37,7 +33,7 @@ fn past(key: u64, id: u64, half: usize) -> usize
 }
 
 // The row of the first n that has an id, by halves of the whole array, whose size is known before.
-fn find_listed(ids: &[u64], n: usize, id: u64) -> Found
+fn find_listed(ids: &[u64], n: usize, id: u64) -> Option<usize>
     requires { Ready n ids.now }
     ensures { result ≡ row_with id (take n ids.now) }
 {
@@ -50,10 +46,10 @@ fn find_listed(ids: &[u64], n: usize, id: u64) -> Found
     }
     if low < n {
         if ids[low] == id {
-            return Found::At(low);
+            return Some(low);
         }
     }
-    Found::Nothing
+    None
 }
 
 // Where an id stands if no id between it and that of row `near` is missing; some row if not.
@@ -92,17 +88,17 @@ fn beside(ids: &[u64], n: usize, id: u64, near: usize) -> usize
 }
 
 // The row of the first n that has an id: most ids that a lane names stand where the difference of the ids says, or beside it. Nothing rests on these two looks.
-pub fn find_id(ids: &[u64], n: usize, id: u64, near: usize) -> Found
+pub fn find_id(ids: &[u64], n: usize, id: u64, near: usize) -> Option<usize>
     requires { (near < n) × Ready n ids.now }
     ensures { result ≡ row_with id (take n ids.now) }
 {
     let row = guess(ids, n, id, near);
     if ids[row] == id {
-        return Found::At(row);
+        return Some(row);
     }
     let next = beside(ids, n, id, near);
     if ids[next] == id {
-        return Found::At(next);
+        return Some(next);
     }
     find_listed(ids, n, id)
 }

@@ -8,13 +8,9 @@ ghost use Rattle.row_tests.specs.Returned as R;
 ghost use Rattle.row_faults.specs.First.{first_false};
 ghost use Rattle.row_returns.specs.Returns.{named_back};
 
-use lists::{Found, both};
+use lists::both;
+use row_faults::Clause;
 use tables::{LANE, LEFT_SLOT, PREDECESSORS, RIGHT_SLOT, SUCCESSORS};
-
-// The clause of links; the other is that of neighbours.
-pub const RETURNS: u64 = 9;
-
-pub const NEIGHBORS: u64 = 10;
 
 // Whether lane b is there, and its list at k has id.
 fn names_back(t: &[u64], k: usize, id: u64, b: u64) -> bool
@@ -23,7 +19,7 @@ fn names_back(t: &[u64], k: usize, id: u64, b: u64) -> bool
 {
     let n = t[0] as usize;
     let found = find::find_row(&t[1..], LANE, n, b);
-    let Found::At(j) = found else {
+    let Some(j) = found else {
         return false;
     };
     let at = 1 + j * LANE + k;
@@ -37,11 +33,8 @@ fn all_name_back(t: &[u64], k: usize, id: u64, ids: &[u64]) -> bool
     requires { (R.searchable t.now ≡ true) × ((k ≡ 18) ⊎ (k ≡ 35)) }
     ensures { result ≡ all (R.names_back t.now k id) ids.now }
 {
-    let mut i = 0;
-    while i < ids.len() {
-        if names_back(t, k, id, ids[i]) {
-            i += 1;
-        } else {
+    for i in 0..ids.len() {
+        if !names_back(t, k, id, ids[i]) {
             return false;
         }
     }
@@ -91,40 +84,38 @@ fn slot_returned(t: &[u64], k: usize, i: usize) -> bool
     }
     let n = t[0] as usize;
     let found = find::find_row(&t[1..], LANE, n, t[at + k + 1]);
-    let Found::At(j) = found else {
+    let Some(j) = found else {
         return false;
     };
     let answer = 1 + j * LANE + answer_place(k, mark);
     both(t[answer] == mark, t[answer + 1] == t[at])
 }
 
-// Whether row i passes one of the two clauses.
-fn named_back(clause: u64, t: &[u64], i: usize) -> bool
+// Whether row i passes the clause of links, or else that of neighbours.
+#[tactic(auto, unfolding(crate::specs::Returns::named_back, row_tests::specs::Returned::slots_returned))]
+fn named_back(clause: Clause, t: &[u64], i: usize) -> bool
     requires { (R.searchable t.now ≡ true) × (i < word 0 t.now) }
     ensures { result ≡ named_back clause t.now (R.lane_at t.now i) }
 {
-    if clause == RETURNS {
-        return lane_returned(t, i);
+    match clause {
+        Clause::Returns => lane_returned(t, i),
+        _ => both(
+            slot_returned(t, LEFT_SLOT, i),
+            slot_returned(t, RIGHT_SLOT, i),
+        ),
     }
-    both(
-        slot_returned(t, LEFT_SLOT, i),
-        slot_returned(t, RIGHT_SLOT, i),
-    )
 }
 
 // The first lane that is not named back; the count of lanes where all are.
-pub fn first_unreturned(clause: u64, t: &[u64]) -> usize
+pub fn first_unreturned(clause: Clause, t: &[u64]) -> usize
     requires { R.searchable t.now ≡ true }
     ensures { result ≡ first_false (rows 52 (named_back clause t.now) t.now) }
 {
     let n = t[0] as usize;
-    let mut i = 0;
-    while i < n {
-        if named_back(clause, t, i) {
-            i += 1;
-        } else {
+    for i in 0..n {
+        if !named_back(clause, t, i) {
             return i;
         }
     }
-    i
+    n
 }

@@ -1,4 +1,5 @@
 -- Rows of a lane table that can be searched: their words and lists, and the row that a search finds. Assumes nothing.
+use Rattle.std.specs.Prelude.{Option, None, Some}
 use mathlib.Core.Path.{◌≡◌, refl, sym, ◌∙◌}
 use Prim.Native.Nat.{ℕ, suc, ◌+◌, ◌-◌, ◌*◌, ◌≤◌, ◌<◌}
 use native.Mathlib.Omega.{arith}
@@ -12,8 +13,6 @@ use lib.Seq.{get_or-take, get_or-drop, drop-drop, take-take, take_all}
 use Rattle.lists.specs.Every.{all}
 use Rattle.lists.specs.Rows.{keys, row_with, later}
 use Rattle.lists.specs.Select.{ascending}
-use Rattle.lists.specs.declared.Found.{Found}
-use Rattle.lists.specs.declared.Found.TheVariants.{At, Nothing}
 use Rattle.lists.proofs.Every.{all_get_d}
 use Rattle.lists.proofs.Rows.{length-reads, get_d_reads, length-keys, drop-take}
 use Rattle.lists.proofs.Booleans.{and-fst, and-snd}
@@ -25,15 +24,15 @@ use Rattle.row_tests.proofs.Formed.{lane-before, lane-after}
 
 -- ---- a row that is found is one of the rows
 
-pub found_within : (x : ℕ) (ks : List ℕ) (j : ℕ) → row_with x ks ≡ At j → j < length ks
+pub found_within : (x : ℕ) (ks : List ℕ) (j : ℕ) → row_with x ks ≡ Some j → j < length ks
 unfolding row_with
 found_within x [] j e = let z : ◌≡◌ {A = ℕ} 0 1 = cc in omega arith
 found_within x (k ∷ ks) j e = go (eqb k x) (row_with x ks) (λ i q. found_within x ks i q) e
   where
-    go : (b : Bool) (r : Found) → ((i : ℕ) → r ≡ At i → i < length ks) → cond b (At 0) (later r) ≡ At j → j < suc (length ks)
+    go : (b : Bool) (r : Option ℕ) → ((i : ℕ) → r ≡ Some i → i < length ks) → cond b (Some 0) (later r) ≡ Some j → j < suc (length ks)
     go true r q f = let z : j ≡ 0 = cc in omega arith
-    go false (At i) q f = let z : j ≡ suc i = cc in omega (arith, q i refl)
-    go false Nothing q f = let z : ◌≡◌ {A = ℕ} 0 1 = cc in omega arith
+    go false (Some i) q f = let z : j ≡ suc i = cc in omega (arith, q i refl)
+    go false None q f = let z : ◌≡◌ {A = ℕ} 0 1 = cc in omega arith
 
 -- ---- words and lists of row j
 
@@ -111,14 +110,14 @@ module _ (t : List ℕ) (h : searchable t ≡ true) where
         ⊎_elim (λ e. rw e (omega (arith, a, lane-before (lane_at t j) row-formed))) (λ e. rw e (omega (arith, b, lane-after (lane_at t j) row-formed))) c
 
   -- a lane that is found is one of the rows
-  pub lane-found : (x j : ℕ) → row_with x (keys 52 (word 0 t) (drop 1 t)) ≡ At j → j < word 0 t
+  pub lane-found : (x j : ℕ) → row_with x (keys 52 (word 0 t) (drop 1 t)) ≡ Some j → j < word 0 t
   lane-found x j e = omega (arith, found_within x (keys 52 (word 0 t) (drop 1 t)) j e, length-keys 52 (word 0 t) (drop 1 t))
 
   -- what a search asks of the rows as they are lent, and what it gives
   pub search-may : (0 < 52) × ((word 0 t * 52 ≤ length (take (length t - 1) (drop 1 t))) × (ascending (keys 52 (word 0 t) (take (length t - 1) (drop 1 t))) ≡ true))
   search-may = rw (rows-lent t lanes-some) (omega arith, (lanes-room, lanes-ascend))
 
-  pub search-gives : (x : ℕ) (r : Found) → r ≡ row_with x (keys 52 (word 0 t) (take (length t - 1) (drop 1 t))) → row_with x (keys 52 (word 0 t) (drop 1 t)) ≡ r
+  pub search-gives : (x : ℕ) (r : Option ℕ) → r ≡ row_with x (keys 52 (word 0 t) (take (length t - 1) (drop 1 t))) → row_with x (keys 52 (word 0 t) (drop 1 t)) ≡ r
   search-gives x r e = sym (rw (rows-lent t lanes-some) at e)
 
 -- ---- slots
@@ -150,17 +149,17 @@ module _ (t : List ℕ) (i k : ℕ) (h : k + 2 ≤ 52) where
     lane : get_or t (1 + i * 52 + k + 1) 0 ≡ word (suc k) (lane_at t i)
     lane = next-at t i k (omega arith)
 
-    pub slot-absent : row_with (get_or t (1 + i * 52 + k + 1) 0) (keys 52 (word 0 t) (drop 1 t)) ≡ Nothing → false ≡ slot_answered t k (lane_at t i)
+    pub slot-absent : row_with (get_or t (1 + i * 52 + k + 1) 0) (keys 52 (word 0 t) (drop 1 t)) ≡ None → false ≡ slot_answered t k (lane_at t i)
     unfolding slot_answered row_test
     slot-absent q =
-        let f : row_with (word (suc k) (lane_at t i)) (keys 52 (word 0 t) (drop 1 t)) ≡ Nothing = rw lane at q in
+        let f : row_with (word (suc k) (lane_at t i)) (keys 52 (word 0 t) (drop 1 t)) ≡ None = rw lane at q in
         rw (marked, f)
 
-    pub slot-there : (j p : ℕ) → p + 2 ≤ 52 → row_with (get_or t (1 + i * 52 + k + 1) 0) (keys 52 (word 0 t) (drop 1 t)) ≡ At j → p ≡ answer_place k (get_or t (1 + i * 52 + k) 0)
+    pub slot-there : (j p : ℕ) → p + 2 ≤ 52 → row_with (get_or t (1 + i * 52 + k + 1) 0) (keys 52 (word 0 t) (drop 1 t)) ≡ Some j → p ≡ answer_place k (get_or t (1 + i * 52 + k) 0)
         → (eqb (get_or t (1 + j * 52 + p) 0) (get_or t (1 + i * 52 + k) 0) && eqb (get_or t (1 + j * 52 + p + 1) 0) (get_or t (1 + i * 52) 0)) ≡ slot_answered t k (lane_at t i)
     unfolding slot_answered row_test
     slot-there j p g q e =
-        let f : row_with (word (suc k) (lane_at t i)) (keys 52 (word 0 t) (drop 1 t)) ≡ At j = rw lane at q in
+        let f : row_with (word (suc k) (lane_at t i)) (keys 52 (word 0 t) (drop 1 t)) ≡ Some j = rw lane at q in
         let r : p ≡ answer_place k (word k (lane_at t i)) = rw mark-at at e in
         let l : p < 52 = omega arith in
         let m : suc p < 52 = omega arith in

@@ -1,11 +1,11 @@
 -- The words' tests of links and neighbours are the map's: a search in the lane table is a test of the lane with an id. Assumes nothing.
+use Rattle.std.specs.Prelude.{Option, None, Some}
 use mathlib.Core.Path.{◌≡◌, refl, sym, ap, ◌∙◌}
 use Prim.Native.Nat.{ℕ, zero, suc, ◌+◌, ◌*◌, ◌≤◌}
 use native.Mathlib.Omega.{arith}
 use native.Mathlib.Nat.{zero-mul}
 use mathlib.Core.Bool.{Bool, true, false, ◌&&◌, ◌||◌, cond}
 use mathlib.Core.List.{List, [], ◌∷◌, map}
-use mathlib.Core.Option.{Option, none, some}
 use lib.Dec.{eqb}
 use lib.ListN.{get_or, take, drop}
 use lib.Seq.{drop-drop}
@@ -13,8 +13,6 @@ use lib.Ieee.{Float}
 use Rattle.lists.specs.Every.{all}
 use Rattle.lists.specs.Rows.{reads, keys, row_with, later}
 use Rattle.lists.specs.Select.{any, find, has, ascending}
-use Rattle.lists.specs.declared.Found.{Found}
-use Rattle.lists.specs.declared.Found.TheVariants.{At, Nothing}
 use Rattle.lists.proofs.Booleans.{and-fst, and-snd, and-false}
 use Rattle.lists.proofs.Select.{on_found, any-one}
 use Rattle.entities.specs.Records.{Lane, Map}
@@ -36,9 +34,9 @@ all_same p q [] h = refl
 all_same p q (x ∷ xs) h = rw (h x, all_same p q xs h)
 
 -- a test of the row of s words that a search found
-abbrev by_row : ℕ → (List ℕ → Bool) → List ℕ → Found → Bool
-by_row s q w Nothing = false
-by_row s q w (At j) = q (take s (drop (j * s) w))
+abbrev by_row : ℕ → (List ℕ → Bool) → List ℕ → Option ℕ → Bool
+by_row s q w None = false
+by_row s q w (Some j) = q (take s (drop (j * s) w))
 
 module _ {B : Type 0} (s : ℕ) (dec : List ℕ → B) where
   -- a test of every record
@@ -61,11 +59,11 @@ module _ {B : Type 0} (s : ℕ) (dec : List ℕ → B) where
     found-reads i q (suc n) w =
         rw (h (take s w)) (go (eqb (get_or (take s w) 0 0) i) (find (λ x. eqb (key x) i) (reads s dec n (drop s w))) (row_with i (keys s n (drop s w))) (found-reads i q n (drop s w)))
       where
-        go : (b : Bool) (o : Option B) (r : Found) → on_found q o ≡ by_row s (λ v. q (dec v)) (drop s w) r
-            → on_found q (cond b (some (dec (take s w))) o) ≡ by_row s (λ v. q (dec v)) w (cond b (At 0) (later r))
+        go : (b : Bool) (o : Option B) (r : Option ℕ) → on_found q o ≡ by_row s (λ v. q (dec v)) (drop s w) r
+            → on_found q (cond b (Some (dec (take s w))) o) ≡ by_row s (λ v. q (dec v)) w (cond b (Some 0) (later r))
         go true o r e = rw zero-mul
-        go false o Nothing e = e
-        go false o (At j) e = let f : suc j * s ≡ s + j * s = omega arith in e ∙ rw (drop-drop, f)
+        go false o None e = e
+        go false o (Some j) e = let f : suc j * s ≡ s + j * s = omega arith in e ∙ rw (drop-drop, f)
 
 -- two tests of rows that agree where a third one holds
 reads_same : (s : ℕ) (f p q : List ℕ → Bool) → ((r : List ℕ) → f r ≡ true → p r ≡ q r)
@@ -79,7 +77,7 @@ reads_same s f p q h (suc n) w a =
 -- ---- slots, by their mark and lane
 
 abbrev slot_of : ℕ → ℕ → Option Neighbor
-slot_of x y = cond (eqb x 0) none (cond (eqb x 1) (some (same y)) (some (opposing y)))
+slot_of x y = cond (eqb x 0) None (cond (eqb x 1) (Some (same y)) (Some (opposing y)))
 
 abbrev mark_of : NeighborDirection → ℕ
 mark_of Same = 1
@@ -113,9 +111,9 @@ slot-on c Right w = refl
 
 -- ---- the lane table and the map's lanes
 
-row_here : (q : List ℕ → Bool) (t : List ℕ) (r : Found) → by_row 52 q (drop 1 t) r ≡ R.on_row q t r
-row_here q t Nothing = refl
-row_here q t (At j) = rw drop-drop
+row_here : (q : List ℕ → Bool) (t : List ℕ) (r : Option ℕ) → by_row 52 q (drop 1 t) r ≡ R.on_row q t r
+row_here q t None = refl
+row_here q t (Some j) = rw drop-drop
 
 module _ (c : List Float) (t : List ℕ) (h : R.searchable t ≡ true) where
   lane-key : (r : List ℕ) → (lane_of c r).id ≡ get_or r 0 0
@@ -136,9 +134,9 @@ module _ (c : List Float) (t : List ℕ) (h : R.searchable t ≡ true) where
   unfolding R.row_test
   test-same p q e i = go (row_with i (keys 52 (word 0 t) (drop 1 t))) refl
     where
-      go : (r : Found) → row_with i (keys 52 (word 0 t) (drop 1 t)) ≡ r → R.on_row p t r ≡ R.on_row q t r
-      go Nothing f = refl
-      go (At j) f = e (R.lane_at t j) (row-formed t h j (lane-found t h i j f))
+      go : (r : Option ℕ) → row_with i (keys 52 (word 0 t) (drop 1 t)) ≡ r → R.on_row p t r ≡ R.on_row q t r
+      go None f = refl
+      go (Some j) f = e (R.lane_at t j) (row-formed t h j (lane-found t h i j f))
 
   module _ (m : Map) (e : m.lanes ≡ rows 52 (lane_of c) t) where
     came : (a b : ℕ) → comes_from m a b ≡ R.names_back t 18 a b

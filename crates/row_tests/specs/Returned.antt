@@ -1,10 +1,8 @@
 -- Links and neighbours that name a lane back, in words of the lane table. Nothing above `sound` rests on this page.
-use Rattle.std.specs.Prelude.{ℕ, suc, ◌+◌, ◌*◌, Bool, false, ◌&&◌, ◌||◌, cond, List, eqb, take, drop}
+use Rattle.std.specs.Prelude.{ℕ, suc, ◌+◌, ◌*◌, Bool, false, ◌&&◌, ◌||◌, cond, List, eqb, take, drop, Option, None, Some}
 use Rattle.lists.specs.Every.{all}
 use Rattle.lists.specs.Rows.{keys, row_with}
 use Rattle.lists.specs.Select.{has, ascending}
-use Rattle.lists.specs.declared.Found.{Found}
-use Rattle.lists.specs.declared.Found.TheVariants.{At, Nothing}
 use Rattle.tables.specs.View.{word, ids_at, rows}
 use Rattle.tables.specs.Formed.{counted, lane_formed}
 use Rattle.tables.specs.Columns.{lane_words, left_slot, predecessors_at, right_slot, row_count, row_id, successors_at}
@@ -18,9 +16,9 @@ searchable t = counted max_lanes lane_words t && ascending (keys lane_words (wor
 abbrev pub lane_at : List ℕ → ℕ → List ℕ
 lane_at t j = take lane_words (drop (1 + j * lane_words) t)
 
-abbrev pub on_row : (List ℕ → Bool) → List ℕ → Found → Bool
-on_row q t Nothing = false
-on_row q t (At j) = q (lane_at t j)
+abbrev pub on_row : (List ℕ → Bool) → List ℕ → Option ℕ → Bool
+on_row q t None = false
+on_row q t (Some j) = q (lane_at t j)
 
 -- a test of the row with an id; false where there is none
 unfoldable pub row_test : (List ℕ → Bool) → List ℕ → ℕ → Bool

@@ -65,10 +65,8 @@ fn all_coordinates(line: &[f64], n: usize) -> bool
     ensures { result ≡ all coordinate (take n line.now) }
 {
     let mut good = true;
-    let mut i = 0;
-    while i < n {
+    for i in 0..n {
         good = both(good, coordinate(line[i]));
-        i += 1;
     }
     good
 }

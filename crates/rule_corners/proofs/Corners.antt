@@ -1,8 +1,8 @@
 -- Document 01's corners, as rows in the form of Cases.antt: each outcome is the oracle's answer, and each holds by computation.
+use Rattle.std.specs.Prelude.{None, Some}
 use mathlib.Core.Path.{refl}
 use mathlib.Core.Bool.{true, false}
 use mathlib.Core.List.{List, [], ◌∷◌}
-use mathlib.Core.Option.{none, some}
 use Prim.{tt}
 use Prim.Native.Nat.{ℕ, ◌-◌, ◌^◌}
 use lib.Ieee.{Float}
@@ -38,7 +38,7 @@ limited bits l =
       left = l.left;
       right = l.right;
       centerline = l.centerline;
-      speed_limit = some bits;
+      speed_limit = Some bits;
       one_way = l.one_way;
       turn_direction = l.turn_direction;
       attributes = l.attributes;
@@ -81,7 +81,7 @@ created-short-holds = refl
 abbrev created-exact : Case
 created-exact =
     lending ample (record { created = 3; modified = 64; deleted = 64; warnings = 64 })
-    (changing one (SplitLane 1 (Fraction n0·5) true) (halved_at n5) 106 (some 105) halving)
+    (changing one (SplitLane 1 (Fraction n0·5) true) (halved_at n5) 106 (Some 105) halving)
 
 created-exact-holds : Holds created-exact
 unfolding opened
@@ -112,7 +112,7 @@ ids-exact =
     changing (counting (2 ^ 64 - 4) (yard (plain 1 101 102 ∷ []) (e101 ∷ e102 ∷ []))) (SplitLane 1 (Fraction n0·5) true)
     (yard (linked [] ((2 ^ 64 - 2) ∷ []) (plain 1 101 102) ∷ linked (1 ∷ []) [] (plain (2 ^ 64 - 2) (2 ^ 64 - 4) (2 ^ 64 - 3)) ∷ [])
     (edge 101 (from n0 n5 n2) ∷ edge 102 (from n0 n5 -n2) ∷ edge (2 ^ 64 - 4) (from n5 n10 n2) ∷ edge (2 ^ 64 - 3) (from n5 n10 -n2) ∷ []))
-    (2 ^ 64 - 1) (some (2 ^ 64 - 2))
+    (2 ^ 64 - 1) (Some (2 ^ 64 - 2))
     (changes (the_lane (2 ^ 64 - 2) ∷ the_boundary (2 ^ 64 - 4) ∷ the_boundary (2 ^ 64 - 3) ∷ [])
     (the_lane 1 ∷ the_boundary 101 ∷ the_boundary 102 ∷ []) [] [])
 
@@ -125,7 +125,7 @@ abbrev spent : Case
 spent =
     changing (counting (2 ^ 64 - 1) (yard (plain 1 101 102 ∷ []) (e101 ∷ e102 ∷ []))) (DisconnectLanes 1 1)
     (yard (plain 1 101 102 ∷ []) (e101 ∷ e102 ∷ []))
-    (2 ^ 64 - 1) none
+    (2 ^ 64 - 1) None
     (changes [] [] [] (nothing-done 1 ∷ []))
 
 spent-holds : Holds spent
@@ -137,7 +137,7 @@ abbrev counter-zero : Case
 counter-zero =
     changing (counting 0 (yard (plain 0 0 0 ∷ []) (edge 0 (from n0 n10 n2) ∷ []))) (SplitLane 0 (Fraction n0·5) true)
     (yard (linked [] (2 ∷ []) (plain 0 0 0) ∷ linked (0 ∷ []) [] (plain 2 1 1) ∷ []) (edge 0 (from n0 n5 n2) ∷ edge 1 (from n5 n10 n2) ∷ []))
-    3 (some 2)
+    3 (Some 2)
     (changes (the_lane 2 ∷ the_boundary 1 ∷ []) (the_lane 0 ∷ the_boundary 0 ∷ []) [] [])
 
 counter-zero-holds : Holds counter-zero
@@ -149,7 +149,7 @@ abbrev counter-kept : Case
 counter-kept =
     changing (counting 0 (yard (plain 0 0 0 ∷ []) (edge 0 (from n0 n10 n2) ∷ []))) (DisconnectLanes 0 0)
     (yard (plain 0 0 0 ∷ []) (edge 0 (from n0 n10 n2) ∷ []))
-    0 none
+    0 None
     (changes [] [] [] (nothing-done 0 ∷ []))
 
 counter-kept-holds : Holds counter-kept
@@ -161,7 +161,7 @@ counter-kept-holds = refl
 -- "Where a neighbour has an explicit empty centreline the Rust panics; here it is refusal 7".
 abbrev neighbour_empty : Case
 neighbour_empty =
-    refusing (counting 104 (yard (beside none (some (same 2)) (plain 1 101 102) ∷ beside (some (same 1)) none (centred [] (plain 2 102 103)) ∷ [])
+    refusing (counting 104 (yard (beside None (Some (same 2)) (plain 1 101 102) ∷ beside (Some (same 1)) None (centred [] (plain 2 102 103)) ∷ [])
     (e101 ∷ e102 ∷ e103 ∷ []))) (SplitLane 1 (Fraction n0·5) true) (NoUsableLine 2)
 
 neighbour_empty-holds : Holds neighbour_empty
@@ -171,8 +171,8 @@ neighbour_empty-holds = refl
 -- "A neighbour's position is its nearest station to the split point, under the same rule": on one point that is 0.
 abbrev neighbour_point : Case
 neighbour_point =
-    refusing (counting 104 (yard (beside none (some (same 2)) (plain 1 101 102) ∷
-    beside (some (same 1)) none (centred (at n5 -n4 ∷ []) (plain 2 102 103)) ∷ []) (e101 ∷ e102 ∷ e103 ∷ []))) (SplitLane 1 (Fraction n0·5) true)
+    refusing (counting 104 (yard (beside None (Some (same 2)) (plain 1 101 102) ∷
+    beside (Some (same 1)) None (centred (at n5 -n4 ∷ []) (plain 2 102 103)) ∷ []) (e101 ∷ e102 ∷ e103 ∷ []))) (SplitLane 1 (Fraction n0·5) true)
     (PositionOutside 2)
 
 neighbour_point-holds : Holds neighbour_point
@@ -243,7 +243,7 @@ reversed =
     (SplitLane 1 (Fraction n0·5) true)
     (yard (linked [] (105 ∷ []) (turned false true (plain 1 101 104)) ∷ linked (1 ∷ []) [] (turned false true (plain 105 103 102)) ∷ [])
     (edge 101 (from n0 n5 n2) ∷ edge 102 (from n10 n5 -n2) ∷ edge 103 (from n5 n10 n2) ∷ edge 104 (from n5 n0 -n2) ∷ []))
-    106 (some 105)
+    106 (Some 105)
     halving
 
 reversed-holds : Holds reversed
@@ -256,7 +256,7 @@ both-sides =
     changing (counting 102 (yard (plain 1 101 101 ∷ []) (e101 ∷ []))) (SplitLane 1 (Fraction n0·5) true)
     (yard (linked [] (103 ∷ []) (plain 1 101 101) ∷ linked (1 ∷ []) [] (plain 103 102 102) ∷ [])
     (edge 101 (from n0 n5 n2) ∷ edge 102 (from n5 n10 n2) ∷ []))
-    104 (some 103)
+    104 (Some 103)
     (changes (the_lane 103 ∷ the_boundary 102 ∷ []) (the_lane 1 ∷ the_boundary 101 ∷ []) [] [])
 
 both-sides-holds : Holds both-sides
@@ -271,7 +271,7 @@ self-link =
     changing (counting 103 (yard (linked (1 ∷ []) (1 ∷ []) (plain 1 101 102) ∷ []) (e101 ∷ e102 ∷ []))) (SplitLane 1 (Fraction n0·5) true)
     (yard (linked (105 ∷ []) (105 ∷ []) (plain 1 101 102) ∷ linked (1 ∷ []) (1 ∷ []) (plain 105 103 104) ∷ [])
     (edge 101 (from n0 n5 n2) ∷ edge 102 (from n0 n5 -n2) ∷ edge 103 (from n5 n10 n2) ∷ edge 104 (from n5 n10 -n2) ∷ []))
-    106 (some 105)
+    106 (Some 105)
     halving
 
 self-link-holds : Holds self-link
@@ -281,11 +281,11 @@ self-link-holds = refl
 -- a lane beside itself, opposite: the halves are each other's opposite neighbours.
 abbrev self-beside : Case
 self-beside =
-    changing (counting 103 (yard (beside (some (opposing 1)) none (plain 1 101 102) ∷ []) (e101 ∷ e102 ∷ []))) (SplitLane 1 (Fraction n0·5) true)
-    (yard (linked [] (105 ∷ []) (beside (some (opposing 105)) none (plain 1 101 102)) ∷
-    linked (1 ∷ []) [] (beside (some (opposing 1)) none (plain 105 103 104)) ∷ [])
+    changing (counting 103 (yard (beside (Some (opposing 1)) None (plain 1 101 102) ∷ []) (e101 ∷ e102 ∷ []))) (SplitLane 1 (Fraction n0·5) true)
+    (yard (linked [] (105 ∷ []) (beside (Some (opposing 105)) None (plain 1 101 102)) ∷
+    linked (1 ∷ []) [] (beside (Some (opposing 1)) None (plain 105 103 104)) ∷ [])
     (edge 101 (from n0 n5 n2) ∷ edge 102 (from n0 n5 -n2) ∷ edge 103 (from n5 n10 n2) ∷ edge 104 (from n5 n10 -n2) ∷ []))
-    106 (some 105)
+    106 (Some 105)
     halving
 
 self-beside-holds : Holds self-beside
@@ -302,7 +302,7 @@ anchor_past =
     (furnished [] (stopping (201 ∷ []) (rule 301 2 (304 ∷ [])) ∷ []) (stop 201 (at n8 n2 ∷ at n8 -n2 ∷ []) ∷ []) []
     (yard (linked [] (304 ∷ []) (plain 1 101 102) ∷ linked (1 ∷ []) [] (plain 304 302 303) ∷ [])
     (edge 101 (from n0 n5 n2) ∷ edge 102 (from n0 n5 -n2) ∷ edge 302 (from n5 n10 n2) ∷ edge 303 (from n5 n10 -n2) ∷ [])))
-    305 (some 304)
+    305 (Some 304)
     (changes (the_lane 304 ∷ the_boundary 302 ∷ the_boundary 303 ∷ [])
     (the_lane 1 ∷ the_boundary 101 ∷ the_boundary 102 ∷ rule_entity 301 ∷ []) [] [])
 
@@ -318,7 +318,7 @@ anchor_before =
     (furnished [] (stopping (201 ∷ []) (rule 301 2 (1 ∷ [])) ∷ []) (stop 201 (at n2 n2 ∷ at n2 -n2 ∷ []) ∷ []) []
     (yard (linked [] (304 ∷ []) (plain 1 101 102) ∷ linked (1 ∷ []) [] (plain 304 302 303) ∷ [])
     (edge 101 (from n0 n5 n2) ∷ edge 102 (from n0 n5 -n2) ∷ edge 302 (from n5 n10 n2) ∷ edge 303 (from n5 n10 -n2) ∷ [])))
-    305 (some 304)
+    305 (Some 304)
     (changes (the_lane 304 ∷ the_boundary 302 ∷ the_boundary 303 ∷ []) (the_lane 1 ∷ the_boundary 101 ∷ the_boundary 102 ∷ []) [] [])
 
 anchor_before-holds : Holds anchor_before
@@ -334,7 +334,7 @@ crosswalk-past =
     (furnished [] (crossing 203 (rule 301 4 (304 ∷ [])) ∷ []) [] (walk 203 (at n4 n2 ∷ at n4 -n2 ∷ []) (at n10 n2 ∷ at n10 -n2 ∷ []) ∷ [])
     (yard (linked [] (304 ∷ []) (plain 1 101 102) ∷ linked (1 ∷ []) [] (plain 304 302 303) ∷ [])
     (edge 101 (from n0 n5 n2) ∷ edge 102 (from n0 n5 -n2) ∷ edge 302 (from n5 n10 n2) ∷ edge 303 (from n5 n10 -n2) ∷ [])))
-    305 (some 304)
+    305 (Some 304)
     (changes (the_lane 304 ∷ the_boundary 302 ∷ the_boundary 303 ∷ [])
     (the_lane 1 ∷ the_boundary 101 ∷ the_boundary 102 ∷ rule_entity 301 ∷ []) [] [])
 
@@ -351,7 +351,7 @@ crosswalk-before =
     (furnished [] (crossing 203 (rule 301 4 (1 ∷ [])) ∷ []) [] (walk 203 (at n0 n2 ∷ at n0 -n2 ∷ []) (at n6 n2 ∷ at n6 -n2 ∷ []) ∷ [])
     (yard (linked [] (304 ∷ []) (plain 1 101 102) ∷ linked (1 ∷ []) [] (plain 304 302 303) ∷ [])
     (edge 101 (from n0 n5 n2) ∷ edge 102 (from n0 n5 -n2) ∷ edge 302 (from n5 n10 n2) ∷ edge 303 (from n5 n10 -n2) ∷ [])))
-    305 (some 304)
+    305 (Some 304)
     (changes (the_lane 304 ∷ the_boundary 302 ∷ the_boundary 303 ∷ []) (the_lane 1 ∷ the_boundary 101 ∷ the_boundary 102 ∷ []) [] [])
 
 crosswalk-before-holds : Holds crosswalk-before
@@ -366,7 +366,7 @@ own-added =
     (furnished [] (rule 301 5 (7 ∷ 1 ∷ 304 ∷ 8 ∷ []) ∷ []) [] []
     (yard (linked [] (304 ∷ []) (plain 1 101 102) ∷ linked (1 ∷ []) [] (plain 304 302 303) ∷ [])
     (edge 101 (from n0 n5 n2) ∷ edge 102 (from n0 n5 -n2) ∷ edge 302 (from n5 n10 n2) ∷ edge 303 (from n5 n10 -n2) ∷ [])))
-    305 (some 304)
+    305 (Some 304)
     (changes (the_lane 304 ∷ the_boundary 302 ∷ the_boundary 303 ∷ [])
     (the_lane 1 ∷ the_boundary 101 ∷ the_boundary 102 ∷ rule_entity 301 ∷ []) [] [])
 
@@ -382,7 +382,7 @@ road_grown =
     (furnished (road 301 (8 ∷ 1 ∷ 304 ∷ 7 ∷ []) ∷ []) [] [] []
     (yard (linked [] (304 ∷ []) (plain 1 101 102) ∷ linked (1 ∷ []) [] (plain 304 302 303) ∷ [])
     (edge 101 (from n0 n5 n2) ∷ edge 102 (from n0 n5 -n2) ∷ edge 302 (from n5 n10 n2) ∷ edge 303 (from n5 n10 -n2) ∷ [])))
-    305 (some 304)
+    305 (Some 304)
     (changes (the_lane 304 ∷ the_boundary 302 ∷ the_boundary 303 ∷ [])
     (the_lane 1 ∷ the_boundary 101 ∷ the_boundary 102 ∷ road_entity 301 ∷ []) [] [])
 
@@ -398,7 +398,7 @@ rights =
     (furnished [] (ranking (1 ∷ 304 ∷ 7 ∷ []) (7 ∷ 1 ∷ 304 ∷ []) (rule 301 3 []) ∷ []) [] []
     (yard (linked [] (304 ∷ []) (plain 1 101 102) ∷ linked (1 ∷ []) [] (plain 304 302 303) ∷ [])
     (edge 101 (from n0 n5 n2) ∷ edge 102 (from n0 n5 -n2) ∷ edge 302 (from n5 n10 n2) ∷ edge 303 (from n5 n10 -n2) ∷ [])))
-    305 (some 304)
+    305 (Some 304)
     (changes (the_lane 304 ∷ the_boundary 302 ∷ the_boundary 303 ∷ [])
     (the_lane 1 ∷ the_boundary 101 ∷ the_boundary 102 ∷ rule_entity 301 ∷ []) [] [])
 
@@ -414,7 +414,7 @@ shared_kept =
     changing (counting 200 (yard (linked [] (2 ∷ []) (plain 1 101 199) ∷ linked (1 ∷ []) [] (plain 2 103 199) ∷ [])
     (e101 ∷ edge 103 (from n10 n20 n2) ∷ []))) (MergeLanes 1 2)
     (yard (plain 1 101 199 ∷ []) (edge 101 (at n0 n2 ∷ at n10 n2 ∷ at n20 n2 ∷ []) ∷ []))
-    200 none
+    200 None
     (changes [] (the_lane 1 ∷ the_boundary 101 ∷ []) (the_lane 2 ∷ the_boundary 103 ∷ []) [])
 
 shared-kept-holds : Holds shared_kept
@@ -429,7 +429,7 @@ in_place-reversed =
     (edge 101 (from n10 n0 n2) ∷ e102 ∷ edge 103 (from n20 n10 n2) ∷ edge 104 (from n10 n20 -n2) ∷ []))) (MergeLanes 1 2)
     (yard (turned true false (plain 1 101 102) ∷ []) (edge 101 (at n20 n2 ∷ at n10 n2 ∷ at n0 n2 ∷ []) ∷
     edge 102 (at n0 -n2 ∷ at n10 -n2 ∷ at n20 -n2 ∷ []) ∷ []))
-    105 none
+    105 None
     (changes [] (the_lane 1 ∷ the_boundary 101 ∷ the_boundary 102 ∷ []) (the_lane 2 ∷ the_boundary 103 ∷ the_boundary 104 ∷ []) [])
 
 in_place-reversed-holds : Holds in_place-reversed
@@ -444,7 +444,7 @@ fresh-forward =
     (edge 101 (from n10 n0 n2) ∷ e102 ∷ edge 103 (from n20 n10 n2) ∷ edge 104 (from n10 n20 -n2) ∷ []))) (MergeLanes 1 2)
     (yard (plain 1 105 102 ∷ plain 3 101 101 ∷ []) (edge 101 (from n10 n0 n2) ∷ edge 102 (at n0 -n2 ∷ at n10 -n2 ∷ at n20 -n2 ∷ []) ∷
     edge 105 (at n0 n2 ∷ at n10 n2 ∷ at n20 n2 ∷ []) ∷ []))
-    106 none
+    106 None
     (changes (the_boundary 105 ∷ []) (the_lane 1 ∷ the_boundary 102 ∷ []) (the_lane 2 ∷ the_boundary 103 ∷ the_boundary 104 ∷ [])
     (warns BoundaryUnshared (the_boundary 105) [] ∷ []))
 
@@ -458,7 +458,7 @@ both_in_place =
     changing (counting 105 (yard (linked [] (2 ∷ []) (plain 1 101 101) ∷ linked (1 ∷ []) [] (plain 2 103 104) ∷ [])
     (e101 ∷ edge 103 (from n10 n20 n2) ∷ edge 104 (from n10 n20 -n2) ∷ []))) (MergeLanes 1 2)
     (yard (plain 1 101 101 ∷ []) (edge 101 (at n0 n2 ∷ at n10 n2 ∷ at n10 -n2 ∷ at n20 -n2 ∷ []) ∷ []))
-    105 none
+    105 None
     (changes [] (the_lane 1 ∷ the_boundary 101 ∷ []) (the_lane 2 ∷ the_boundary 103 ∷ the_boundary 104 ∷ []) [])
 
 both_in_place-holds : Holds both_in_place
@@ -472,7 +472,7 @@ apart-joined =
     (e101 ∷ e102 ∷ edge 103 (from n10·5 n20 n2) ∷ edge 104 (from n10·5 n20 -n2) ∷ []))) (MergeLanes 1 2)
     (yard (plain 1 101 102 ∷ []) (edge 101 (at n0 n2 ∷ at n10 n2 ∷ at n10·5 n2 ∷ at n20 n2 ∷ []) ∷
     edge 102 (at n0 -n2 ∷ at n10 -n2 ∷ at n10·5 -n2 ∷ at n20 -n2 ∷ []) ∷ []))
-    105 none
+    105 None
     (changes [] (the_lane 1 ∷ the_boundary 101 ∷ the_boundary 102 ∷ []) (the_lane 2 ∷ the_boundary 103 ∷ the_boundary 104 ∷ []) [])
 
 apart-joined-holds : Holds apart-joined
@@ -487,7 +487,7 @@ nan-limits =
     (e101 ∷ e102 ∷ edge 103 (from n10 n20 n2) ∷ edge 104 (from n10 n20 -n2) ∷ []))) (MergeLanes 1 2)
     (yard (limited 0x7FF8000000000000 (plain 1 101 102) ∷ [])
     (edge 101 (at n0 n2 ∷ at n10 n2 ∷ at n20 n2 ∷ []) ∷ edge 102 (at n0 -n2 ∷ at n10 -n2 ∷ at n20 -n2 ∷ []) ∷ []))
-    105 none
+    105 None
     (changes [] (the_lane 1 ∷ the_boundary 101 ∷ the_boundary 102 ∷ []) (the_lane 2 ∷ the_boundary 103 ∷ the_boundary 104 ∷ [])
     (warns AttributeConflict (the_lane 1) (the_lane 2 ∷ []) ∷ []))
 
@@ -503,7 +503,7 @@ zero-limits =
     (e101 ∷ e102 ∷ edge 103 (from n10 n20 n2) ∷ edge 104 (from n10 n20 -n2) ∷ []))) (MergeLanes 1 2)
     (yard (limited 0x0 (plain 1 101 102) ∷ []) (edge 101 (at n0 n2 ∷ at n10 n2 ∷ at n20 n2 ∷ []) ∷
     edge 102 (at n0 -n2 ∷ at n10 -n2 ∷ at n20 -n2 ∷ []) ∷ []))
-    105 none
+    105 None
     (changes [] (the_lane 1 ∷ the_boundary 101 ∷ the_boundary 102 ∷ []) (the_lane 2 ∷ the_boundary 103 ∷ the_boundary 104 ∷ []) [])
 
 zero-limits-holds : Holds zero-limits
@@ -516,7 +516,7 @@ one_centreline =
     changing (counting 105 (yard (linked [] (2 ∷ []) (centred (from n0 n10 n0) (plain 1 101 102)) ∷ linked (1 ∷ []) [] (plain 2 103 104) ∷ [])
     (e101 ∷ e102 ∷ edge 103 (from n10 n20 n2) ∷ edge 104 (from n10 n20 -n2) ∷ []))) (MergeLanes 1 2)
     (yard (plain 1 101 102 ∷ []) (edge 101 (at n0 n2 ∷ at n10 n2 ∷ at n20 n2 ∷ []) ∷ edge 102 (at n0 -n2 ∷ at n10 -n2 ∷ at n20 -n2 ∷ []) ∷ []))
-    105 none
+    105 None
     (changes [] (the_lane 1 ∷ the_boundary 101 ∷ the_boundary 102 ∷ []) (the_lane 2 ∷ the_boundary 103 ∷ the_boundary 104 ∷ []) [])
 
 one_centreline_holds : Holds one_centreline
@@ -551,7 +551,7 @@ orphan =
     (yard (plain 1 101 102 ∷ []) (e101 ∷ e102 ∷ [])))) (RemoveLane 1)
     (furnished [] (rule 301 5 [] ∷ []) [] []
     (yard [] []))
-    302 none
+    302 None
     (changes [] (rule_entity 301 ∷ []) (the_lane 1 ∷ the_boundary 101 ∷ the_boundary 102 ∷ []) (orphaning 301 ∷ []))
 
 orphan-holds : Holds orphan
@@ -565,7 +565,7 @@ orphan-before =
     (yard (plain 1 101 102 ∷ []) (e101 ∷ e102 ∷ [])))) (RemoveLane 1)
     (furnished [] (ranking [] (7 ∷ []) (rule 301 3 []) ∷ []) [] []
     (yard [] []))
-    302 none
+    302 None
     (changes [] (rule_entity 301 ∷ []) (the_lane 1 ∷ the_boundary 101 ∷ the_boundary 102 ∷ []) (orphaning 301 ∷ []))
 
 orphan-before-holds : Holds orphan-before
@@ -577,7 +577,7 @@ abbrev missing-unlisted : Case
 missing-unlisted =
     changing (counting 103 (yard (plain 1 101 102 ∷ []) (e102 ∷ []))) (RemoveLane 1)
     (yard [] [])
-    103 none
+    103 None
     (changes [] [] (the_lane 1 ∷ the_boundary 102 ∷ []) [])
 
 missing-unlisted-holds : Holds missing-unlisted

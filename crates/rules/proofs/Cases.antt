@@ -1,9 +1,9 @@
 -- Document 01, "Cases": cases 1 to 9 and the corners that its text names, as one table of rows. A row is a map with its counter, a call and the
 -- whole outcome; each holds by computation. Ids allocated are the counter's: N1 is 104 where the counter stands at 104.
+use Rattle.std.specs.Prelude.{Option, None, Some}
 use mathlib.Core.Path.{◌≡◌, refl}
 use mathlib.Core.Bool.{true, false}
 use mathlib.Core.List.{List, [], ◌∷◌, ◌++◌}
-use mathlib.Core.Option.{Option, none, some}
 use Prim.{Unit, tt}
 use Prim.Native.Nat.{ℕ}
 use lib.Ieee.{Float, nan, binary64, of_bits}
@@ -119,13 +119,13 @@ plain i l r =
       kind = 0;
       left = forward l;
       right = forward r;
-      centerline = none;
-      speed_limit = none;
+      centerline = None;
+      speed_limit = None;
       one_way = true;
       turn_direction = 0;
       attributes = 0;
-      left_neighbor = none;
-      right_neighbor = none;
+      left_neighbor = None;
+      right_neighbor = None;
       predecessors = [];
       successors = [];
     }
@@ -190,7 +190,7 @@ abbrev pub halving : ChangeSet
 halving = changes (the_lane 105 ∷ the_boundary 103 ∷ the_boundary 104 ∷ []) (the_lane 1 ∷ the_boundary 101 ∷ the_boundary 102 ∷ []) [] []
 
 abbrev case_1 : Case
-case_1 = changing one (SplitLane 1 (Fraction n0·5) true) (halved_at n5) 106 (some 105) halving
+case_1 = changing one (SplitLane 1 (Fraction n0·5) true) (halved_at n5) 106 (Some 105) halving
 
 case_1_holds : Holds case_1
 unfolding opened
@@ -202,7 +202,7 @@ case_2 =
     changing (record { map = halved_at n5; counter = 106 }) (MergeLanes 1 105)
     (yard (plain 1 101 102 ∷ [])
     (edge 101 (at n0 n2 ∷ at n5 n2 ∷ at n10 n2 ∷ []) ∷ edge 102 (at n0 -n2 ∷ at n5 -n2 ∷ at n10 -n2 ∷ []) ∷ []))
-    106 none
+    106 None
     (changes [] (the_lane 1 ∷ the_boundary 101 ∷ the_boundary 102 ∷ []) (the_lane 105 ∷ the_boundary 103 ∷ the_boundary 104 ∷ []) [])
 
 case_2_holds : Holds case_2
@@ -224,7 +224,7 @@ unfolding opened
 case_3_high-holds = refl
 
 abbrev case_3_inside : Case
-case_3_inside = changing one (SplitLane 1 (Station n9·8) true) (halved_at n9·8) 106 (some 105) halving
+case_3_inside = changing one (SplitLane 1 (Station n9·8) true) (halved_at n9·8) 106 (Some 105) halving
 
 case_3_inside-holds : Holds case_3_inside
 unfolding opened
@@ -259,7 +259,7 @@ e103 = edge 103 (from n0 n10 -n6)
 abbrev pub pair : (Lane → Lane) → (Lane → Lane) → State
 pair g h =
     record {
-      map = yard (g (beside none (some (same 2)) (plain 1 101 102)) ∷ h (beside (some (same 1)) none (plain 2 102 103)) ∷ []) (e101 ∷ e102 ∷ e103 ∷ []);
+      map = yard (g (beside None (Some (same 2)) (plain 1 101 102)) ∷ h (beside (Some (same 1)) None (plain 2 102 103)) ∷ []) (e101 ∷ e102 ∷ e103 ∷ []);
       counter = 104;
     }
 
@@ -271,9 +271,9 @@ abbrev case_5 : Case
 case_5 =
     changing two (SplitLane 1 (Fraction n0·5) false)
     (yard
-    (linked [] (107 ∷ []) (beside none (some (same 2)) (plain 1 101 105)) ∷ beside (some (same 1)) none (plain 2 102 103) ∷ linked (1 ∷ []) [] (plain 107 104 106) ∷ [])
+    (linked [] (107 ∷ []) (beside None (Some (same 2)) (plain 1 101 105)) ∷ beside (Some (same 1)) None (plain 2 102 103) ∷ linked (1 ∷ []) [] (plain 107 104 106) ∷ [])
     (edge 101 (from n0 n5 n2) ∷ e102 ∷ e103 ∷ edge 104 (from n5 n10 n2) ∷ edge 105 (from n0 n5 -n2) ∷ edge 106 (from n5 n10 -n2) ∷ []))
-    108 (some 107)
+    108 (Some 107)
     (changes (the_lane 107 ∷ the_boundary 104 ∷ the_boundary 105 ∷ the_boundary 106 ∷ []) (the_lane 1 ∷ the_boundary 101 ∷ []) []
     (warns BoundaryUnshared (the_boundary 102) (the_boundary 105 ∷ the_boundary 106 ∷ []) ∷ warns NeighborDropped (the_lane 107) (the_lane 2 ∷ []) ∷ []))
 
@@ -283,7 +283,7 @@ case_5_holds = refl
 
 abbrev case_6 : Case
 case_6 =
-    changing two (RemoveLane 2) (yard (plain 1 101 102 ∷ []) (e101 ∷ e102 ∷ [])) 104 none
+    changing two (RemoveLane 2) (yard (plain 1 101 102 ∷ []) (e101 ∷ e102 ∷ [])) 104 None
     (changes [] (the_lane 1 ∷ []) (the_lane 2 ∷ the_boundary 103 ∷ []) [])
 
 case_6_holds : Holds case_6
@@ -298,7 +298,7 @@ unfolding opened
 case_7_connect-holds = refl
 
 abbrev case_7_disconnect : Case
-case_7_disconnect = changing one (DisconnectLanes 1 1) one.map 103 none (changes [] [] [] (nothing-done 1 ∷ []))
+case_7_disconnect = changing one (DisconnectLanes 1 1) one.map 103 None (changes [] [] [] (nothing-done 1 ∷ []))
 
 case_7_disconnect-holds : Holds case_7_disconnect
 unfolding opened
@@ -310,7 +310,7 @@ case_8 =
     changing (pair (linked (2 ∷ []) (2 ∷ [])) (linked (1 ∷ []) (1 ∷ []))) (MergeLanes 1 2)
     (yard (linked (1 ∷ []) (1 ∷ []) (plain 1 104 105) ∷ [])
     (edge 104 (from n0 n10 n2 ++ from n0 n10 -n2) ∷ edge 105 (from n0 n10 -n2 ++ from n0 n10 -n6) ∷ []))
-    106 none
+    106 None
     (changes (the_boundary 104 ∷ the_boundary 105 ∷ []) (the_lane 1 ∷ []) (the_lane 2 ∷ the_boundary 101 ∷ the_boundary 102 ∷ the_boundary 103 ∷ [])
     (warns NeighborDropped (the_lane 1) (the_lane 1 ∷ []) ∷ warns BoundaryUnshared (the_boundary 104) [] ∷ warns BoundaryUnshared (the_boundary 105) [] ∷ []))
 
@@ -331,7 +331,7 @@ gap x = record { map = behind (linked [] []) (linked [] []) x; counter = 105 }
 -- ends 0.1 apart are not warned of
 abbrev case_9 : Case
 case_9 =
-    changing (gap n0·1) (ConnectLanes 1 2) (behind (linked [] (2 ∷ [])) (linked (1 ∷ []) []) n0·1) 105 none
+    changing (gap n0·1) (ConnectLanes 1 2) (behind (linked [] (2 ∷ [])) (linked (1 ∷ []) []) n0·1) 105 None
     (changes [] (the_lane 1 ∷ the_lane 2 ∷ []) [] [])
 
 case_9_holds : Holds case_9
@@ -342,7 +342,7 @@ case_9_holds = refl
 abbrev gap-above : Case
 gap-above =
     changing (record { map = behind (linked [] (2 ∷ [])) (linked (1 ∷ []) []) n0·5; counter = 105 }) (ConnectLanes 1 2)
-    (behind (linked [] (2 ∷ [])) (linked (1 ∷ []) []) n0·5) 105 none
+    (behind (linked [] (2 ∷ [])) (linked (1 ∷ []) []) n0·5) 105 None
     (changes [] [] [] (warns GeometricGap (the_lane 1) (the_lane 2 ∷ []) ∷ nothing-done 1 ∷ []))
 
 gap-above-holds : Holds gap-above

@@ -1,7 +1,7 @@
 -- Reciprocity as an equation of relations, and the tests of soundness proved equal to it.
+use Rattle.std.specs.Prelude.{Option, None, Some}
 use mathlib.Core.Path.{◌≡◌, refl, sym, ◌∙◌}
 use mathlib.Core.Bool.{Bool, true, ◌&&◌, true≢false}
-use mathlib.Core.Option.{Option, none, some}
 use Prim.Native.Nat.{ℕ}
 use lib.Dec.{eqb}
 use borrow.Author.Tests.{eqb-true, eq-eqb}
@@ -88,8 +88,8 @@ returned_on m side l = slot_returned m l.id side (neighbor_on side l)
 -- a slot that holds b is answered
 answered : (m : Map) (i b : ℕ) (side : Side) (d : NeighborDirection) (o : Option Neighbor) → slot_returned m i side o ≡ true → holds o b d ≡ true
     → has_neighbor m b (reciprocal_side side d) i d ≡ true
-answered m i b side d none r h = absurd (true≢false (sym h))
-answered m i b side d (some n) r h =
+answered m i b side d None r h = absurd (true≢false (sym h))
+answered m i b side d (Some n) r h =
     let e : n.lane ≡ b = eqb-true n.lane b (and-fst (eqb n.lane b) (same_direction n.direction d) h) in
     let f : n.direction ≡ d = same-direction n.direction d (and-snd (eqb n.lane b) (same_direction n.direction d) h) in
     rw (e, f) at r
@@ -119,8 +119,8 @@ neighbors-agree m h a b side d =
 -- a slot is answered, where the relation agrees
 slot-answered : (m : Map) → NeighborsAgree m → (l : Lane) → ((q : Lane → Bool) → q l ≡ true → any q m.lanes ≡ true) → (side : Side) (o : Option Neighbor)
     → neighbor_on side l ≡ o → slot_returned m l.id side o ≡ true
-slot-answered m h l here side none e = refl
-slot-answered m h l here side (some n) e =
+slot-answered m h l here side None e = refl
+slot-answered m h l here side (Some n) e =
     sym (h l.id n.lane side n.direction)
     ∙ (unfold has_neighbor in here (λ k. eqb k.id l.id && holds (neighbor_on side k) n.lane n.direction)
     (and_both (eqb l.id l.id) (holds (neighbor_on side l) n.lane n.direction) (eq-eqb l.id l.id refl)

@@ -1,12 +1,11 @@
 -- The corners of document 01 that the must-fail edits of this crate turn, as rows in the form of Cases.antt: each outcome is the oracle's answer, and each holds by computing. Assumes nothing.
+use Rattle.std.specs.Prelude.{Option, None, Some}
 use mathlib.Core.Path.{refl}
 use mathlib.Core.Bool.{Bool, true}
 use mathlib.Core.List.{List, [], ◌∷◌}
-use mathlib.Core.Option.{Option, none, some}
 use Prim.{tt}
 use Prim.Native.Nat.{ℕ}
 use lib.Ieee.{Float}
-use Rattle.entities.specs.declared.OptionNeighbor.TheVariants.{Some as ANeighbor}
 use Rattle.entities.specs.Types.{same, opposing}
 use Rattle.entities.specs.Records.{Line, Lane, Road, Junction, Rule, StopLine, Crosswalk, Map}
 use Rattle.rules.specs.Names.{Fraction, Station, Right, EntityRef, RuleKind, BoundaryUnshared, LaneAbsent, Unsound}
@@ -46,12 +45,12 @@ turned left right l =
 -- "In a merge, warning of a dropped neighbour where only the directions differ": lane 3 is left of both, not warned of.
 abbrev merge_directions : Case
 merge_directions =
-    changing (counting 106 (yard (linked [] (2 ∷ []) (beside (some (same 3)) none (plain 1 101 102)) ∷
-    linked (1 ∷ []) [] (beside (some (opposing 3)) none (plain 2 103 104)) ∷ beside (some (opposing 2)) (some (same 1)) (plain 3 105 101) ∷ [])
+    changing (counting 106 (yard (linked [] (2 ∷ []) (beside (Some (same 3)) None (plain 1 101 102)) ∷
+    linked (1 ∷ []) [] (beside (Some (opposing 3)) None (plain 2 103 104)) ∷ beside (Some (opposing 2)) (Some (same 1)) (plain 3 105 101) ∷ [])
     (e101 ∷ e102 ∷ edge 103 (from n10 n20 n2) ∷ edge 104 (from n10 n20 -n2) ∷ edge 105 (from n0 n20 n6) ∷ []))) (MergeLanes 1 2)
-    (yard (beside (some (same 3)) none (plain 1 106 102) ∷ beside none (some (same 1)) (plain 3 105 101) ∷ [])
+    (yard (beside (Some (same 3)) None (plain 1 106 102) ∷ beside None (Some (same 1)) (plain 3 105 101) ∷ [])
     (e101 ∷ edge 102 (at n0 -n2 ∷ at n10 -n2 ∷ at n20 -n2 ∷ []) ∷ edge 105 (from n0 n20 n6) ∷ edge 106 (at n0 n2 ∷ at n10 n2 ∷ at n20 n2 ∷ []) ∷ []))
-    107 none
+    107 None
     (changes (the_boundary 106 ∷ []) (the_lane 1 ∷ the_lane 3 ∷ the_boundary 102 ∷ [])
     (the_lane 2 ∷ the_boundary 103 ∷ the_boundary 104 ∷ []) (warns BoundaryUnshared (the_boundary 106) [] ∷ []))
 
@@ -62,16 +61,16 @@ merge_directions_holds = refl
 -- "Pairing opposite halves first with first": each first half stands beside the other's second.
 abbrev opposite-halves : Case
 opposite-halves =
-    changing (counting 104 (yard (beside (some (opposing 2)) none (plain 1 101 102) ∷
-    beside (some (opposing 1)) none (turned true true (plain 2 101 103)) ∷ []) (e101 ∷ e102 ∷ edge 103 (from n0 n10 n6) ∷ [])))
+    changing (counting 104 (yard (beside (Some (opposing 2)) None (plain 1 101 102) ∷
+    beside (Some (opposing 1)) None (turned true true (plain 2 101 103)) ∷ []) (e101 ∷ e102 ∷ edge 103 (from n0 n10 n6) ∷ [])))
     (SplitLane 1 (Fraction n0·5) true)
-    (yard (linked [] (107 ∷ []) (beside (some (opposing 108)) none (plain 1 101 102)) ∷
-    linked [] (108 ∷ []) (beside (some (opposing 107)) none (turned true true (plain 2 104 106))) ∷
-    linked (1 ∷ []) [] (beside (some (opposing 2)) none (plain 107 104 105)) ∷
-    linked (2 ∷ []) [] (beside (some (opposing 1)) none (turned true true (plain 108 101 103))) ∷ [])
+    (yard (linked [] (107 ∷ []) (beside (Some (opposing 108)) None (plain 1 101 102)) ∷
+    linked [] (108 ∷ []) (beside (Some (opposing 107)) None (turned true true (plain 2 104 106))) ∷
+    linked (1 ∷ []) [] (beside (Some (opposing 2)) None (plain 107 104 105)) ∷
+    linked (2 ∷ []) [] (beside (Some (opposing 1)) None (turned true true (plain 108 101 103))) ∷ [])
     (edge 101 (from n0 n5 n2) ∷ edge 102 (from n0 n5 -n2) ∷ edge 103 (from n0 n5 n6) ∷ edge 104 (from n5 n10 n2) ∷ edge 105 (from n5 n10 -n2) ∷
     edge 106 (from n5 n10 n6) ∷ []))
-    109 (some 107)
+    109 (Some 107)
     (changes (the_lane 107 ∷ the_lane 108 ∷ the_boundary 104 ∷ the_boundary 105 ∷ the_boundary 106 ∷ [])
     (the_lane 1 ∷ the_lane 2 ∷ the_boundary 101 ∷ the_boundary 102 ∷ the_boundary 103 ∷ []) [] [])
 
@@ -82,12 +81,12 @@ opposite-halves-holds = refl
 -- "Reporting only the two named lanes in `set_neighbor`": lanes 2 and 4 are freed and reported too.
 abbrev freed-reported : Case
 freed-reported =
-    changing (counting 106 (yard (beside none (some (same 2)) (plain 1 101 102) ∷ beside (some (same 1)) none (plain 2 102 103) ∷
-    beside (some (same 4)) none (plain 3 104 101) ∷ beside none (some (same 3)) (plain 4 105 104) ∷ [])
-    (e101 ∷ e102 ∷ e103 ∷ edge 104 (from n0 n10 n6) ∷ edge 105 (from n0 n10 n10) ∷ []))) (SetNeighbor 1 Right (ANeighbor (same 3)))
-    (yard (beside none (some (same 3)) (plain 1 101 102) ∷ plain 2 102 103 ∷ beside (some (same 1)) none (plain 3 104 101) ∷ plain 4 105 104 ∷ [])
+    changing (counting 106 (yard (beside None (Some (same 2)) (plain 1 101 102) ∷ beside (Some (same 1)) None (plain 2 102 103) ∷
+    beside (Some (same 4)) None (plain 3 104 101) ∷ beside None (Some (same 3)) (plain 4 105 104) ∷ [])
+    (e101 ∷ e102 ∷ e103 ∷ edge 104 (from n0 n10 n6) ∷ edge 105 (from n0 n10 n10) ∷ []))) (SetNeighbor 1 Right (Some (same 3)))
+    (yard (beside None (Some (same 3)) (plain 1 101 102) ∷ plain 2 102 103 ∷ beside (Some (same 1)) None (plain 3 104 101) ∷ plain 4 105 104 ∷ [])
     (e101 ∷ e102 ∷ e103 ∷ edge 104 (from n0 n10 n6) ∷ edge 105 (from n0 n10 n10) ∷ []))
-    106 none
+    106 None
     (changes [] (the_lane 1 ∷ the_lane 2 ∷ the_lane 3 ∷ the_lane 4 ∷ []) []
     (warns BoundaryUnshared (the_lane 1) (the_lane 3 ∷ []) ∷ []))
 
@@ -102,7 +101,7 @@ removed-unlinked =
     (counting 104 (yard (linked [] (2 ∷ []) (plain 1 101 102) ∷ linked (1 ∷ []) (3 ∷ []) (plain 2 101 102) ∷ linked (2 ∷ []) [] (plain 3 101 102) ∷ []) (e101 ∷ e102 ∷ [])))
     (RemoveLane 2)
     (yard (plain 1 101 102 ∷ plain 3 101 102 ∷ []) (e101 ∷ e102 ∷ []))
-    104 none
+    104 None
     (changes [] (the_lane 1 ∷ the_lane 3 ∷ []) (the_lane 2 ∷ []) [])
 
 removed-unlinked-holds : Holds removed-unlinked
@@ -137,7 +136,7 @@ centred c l =
       kind = l.kind;
       left = l.left;
       right = l.right;
-      centerline = some c;
+      centerline = Some c;
       speed_limit = l.speed_limit;
       one_way = l.one_way;
       turn_direction = l.turn_direction;
@@ -165,7 +164,7 @@ rule_of i k cross ls stops priority yielding =
     }
 
 abbrev pub rule : ℕ → ℕ → List ℕ → Rule
-rule i k ls = rule_of i k none ls [] [] []
+rule i k ls = rule_of i k None ls [] [] []
 
 abbrev pub road : ℕ → List ℕ → Road
 road i ls = record { id = i; name = 0; attributes = 0; lanes = ls }
@@ -177,7 +176,7 @@ abbrev pub stopping : List ℕ → Rule → Rule
 stopping stops r = rule_of r.id r.kind r.crosswalk r.lanes stops r.priority r.yielding
 
 abbrev pub crossing : ℕ → Rule → Rule
-crossing c r = rule_of r.id r.kind (some c) r.lanes r.stop_lines r.priority r.yielding
+crossing c r = rule_of r.id r.kind (Some c) r.lanes r.stop_lines r.priority r.yielding
 
 abbrev pub stop : ℕ → Line → StopLine
 stop i c = record { id = i; geometry = c; attributes = 0 }
@@ -202,7 +201,7 @@ nearest-station =
     (yard (linked [] (105 ∷ []) (centred (from n0 n6 n0) (plain 1 101 102)) ∷
     linked (1 ∷ []) [] (centred (at n6 n0 ∷ at n10 n0 ∷ at n2 n0 ∷ []) (plain 105 103 104)) ∷ [])
     (edge 101 (from n0 n6 n2) ∷ edge 102 (from n0 n6 -n2) ∷ edge 103 (from n6 n10 n2) ∷ edge 104 (from n6 n10 -n2) ∷ []))
-    106 (some 105)
+    106 (Some 105)
     halving
 
 nearest-station-holds : Holds nearest-station
@@ -219,7 +218,7 @@ stop-missing =
     (walk 203 (at n8 n2 ∷ at n8 -n2 ∷ []) (at n8 n2 ∷ at n8 -n2 ∷ []) ∷ [])
     (yard (linked [] (304 ∷ []) (plain 1 101 102) ∷ linked (1 ∷ []) [] (plain 304 302 303) ∷ [])
     (edge 101 (from n0 n5 n2) ∷ edge 102 (from n0 n5 -n2) ∷ edge 302 (from n5 n10 n2) ∷ edge 303 (from n5 n10 -n2) ∷ [])))
-    305 (some 304)
+    305 (Some 304)
     (changes (the_lane 304 ∷ the_boundary 302 ∷ the_boundary 303 ∷ [])
     (the_lane 1 ∷ the_boundary 101 ∷ the_boundary 102 ∷ rule_entity 301 ∷ []) [] [])
 
@@ -284,7 +283,7 @@ yielding-repeat-holds = refl
 abbrev lists-share : Case
 lists-share =
     let s = listing (road 301 (7 ∷ 1 ∷ [])) (junction 302 (1 ∷ 7 ∷ [])) (right (1 ∷ 7 ∷ []) (7 ∷ 1 ∷ []) (1 ∷ [])) in
-    changing s (DisconnectLanes 1 1) s.map 304 none (changes [] [] [] (nothing-done 1 ∷ []))
+    changing s (DisconnectLanes 1 1) s.map 304 None (changes [] [] [] (nothing-done 1 ∷ []))
 
 lists-share-holds : Holds lists-share
 unfolding opened
@@ -298,7 +297,7 @@ merged-once =
     (e101 ∷ e102 ∷ edge 103 (from n10 n20 n2) ∷ edge 104 (from n10 n20 -n2) ∷ [])))) (MergeLanes 1 2)
     (furnished [] (rule 301 5 (7 ∷ 1 ∷ []) ∷ []) [] []
     (yard (plain 1 101 102 ∷ []) (edge 101 (at n0 n2 ∷ at n10 n2 ∷ at n20 n2 ∷ []) ∷ edge 102 (at n0 -n2 ∷ at n10 -n2 ∷ at n20 -n2 ∷ []) ∷ [])))
-    302 none
+    302 None
     (changes [] (the_lane 1 ∷ the_boundary 101 ∷ the_boundary 102 ∷ rule_entity 301 ∷ []) (the_lane 2 ∷ the_boundary 103 ∷ the_boundary 104 ∷ []) [])
 
 merged-once-holds : Holds merged-once

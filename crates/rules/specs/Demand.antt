@@ -1,6 +1,5 @@
 -- Demand 3, as a statement: one claim over every list of calls from any sound map.
-use Rattle.std.specs.Prelude.{◌≡◌, ℕ, Bool, true, false, not, ◌&&◌, ◌||◌, List, [], ◌∷◌, ◌++◌, map, eqb, ltb}
-use Rattle.std.proofs.Math.Option.{Option, none, some}
+use Rattle.std.specs.Prelude.{◌≡◌, ℕ, Bool, true, false, not, ◌&&◌, ◌||◌, List, [], ◌∷◌, ◌++◌, map, eqb, ltb, Option, None, Some}
 use Rattle.lists.specs.Select.{keep, any, find}
 use Rattle.entities.specs.Types.{kind_number, reciprocal_side}
 use Rattle.rules.specs.Names.{Side, NeighborDirection, Tolerance, EntityKind, LaneKind, BoundaryKind, RoadKind, JunctionKind, StopLineKind, SignalKind, CrosswalkKind, RuleKind, EntityRef}
@@ -47,8 +46,8 @@ pub data Row : Type 0 where
   rule_row : Rule → Row
 
 abbrev pub row_of : {A : Type 0} → (A → Row) → Option A → Option Row
-row_of f none = none
-row_of f (some a) = some (f a)
+row_of f None = None
+row_of f (Some a) = Some (f a)
 
 abbrev pub row_in : Map → EntityKind → ℕ → Option Row
 row_in m LaneKind i = row_of lane_row (find (λ x. eqb x.id i) m.lanes)
@@ -56,7 +55,7 @@ row_in m BoundaryKind i = row_of boundary_row (find (λ x. eqb x.id i) m.boundar
 row_in m RoadKind i = row_of road_row (find (λ x. eqb x.id i) m.roads)
 row_in m JunctionKind i = row_of junction_row (find (λ x. eqb x.id i) m.junctions)
 row_in m StopLineKind i = row_of stop_line_row (find (λ x. eqb x.id i) m.stop_lines)
-row_in m SignalKind i = none
+row_in m SignalKind i = None
 row_in m CrosswalkKind i = row_of crosswalk_row (find (λ x. eqb x.id i) m.crosswalks)
 row_in m RuleKind i = row_of rule_row (find (λ x. eqb x.id i) m.rules)
 

@@ -1,11 +1,11 @@
 -- edit/mod.rs and topology.rs: what an edit yields, and connect, disconnect, set_neighbor.
-use Rattle.std.specs.Prelude.{ℕ, zero, suc, Bool, true, false, not, ◌&&◌, ◌||◌, cond, List, [], ◌∷◌, ◌++◌, map, eqb, Float}
-use Rattle.std.proofs.Math.Option.{Option, none, some}
+use Rattle.geometry.specs.declared.Point3.{Point3}
+use Rattle.std.specs.Prelude.{ℕ, zero, suc, Bool, true, false, not, ◌&&◌, ◌||◌, cond, List, [], ◌∷◌, ◌++◌, map, eqb, Float, Option, None, Some, is_some, Result, Ok, Err, ⊤}
 use Rattle.std.specs.Float.Ieee.{lt}
 use Rattle.lists.specs.Select.{keep, without, place}
 use Rattle.geometry.specs.Point.{distance3}
 use Rattle.entities.specs.Types.{reciprocal_side, lane_entity}
-use Rattle.rules.specs.Names.{BoundaryRef, Side, Left, Right, Neighbor, Tolerance, EntityKind, LaneKind, BoundaryKind, RoadKind, JunctionKind, RuleKind, EntityRef, Info, Warning, IssueCode, NoOp, GeometricGap, BoundaryUnshared, Refusal, LaneAbsent, OwnPartner, OptionPoint3, NoPoint, APoint}
+use Rattle.rules.specs.Names.{BoundaryRef, Side, Left, Right, Neighbor, Tolerance, EntityKind, LaneKind, BoundaryKind, RoadKind, JunctionKind, RuleKind, EntityRef, Info, Warning, IssueCode, NoOp, GeometricGap, BoundaryUnshared, Refusal, LaneAbsent, OwnPartner}
 use Rattle.entities.specs.Records.{Line, Lane, Boundary, Road, Junction, Rule, Map, Issue, ChangeSet}
 use Rattle.rules.specs.Map.{lane, boundary_on, neighbor_on, leads_to, oriented_boundary, first_of, last_of, names}
 use Rattle.rules.specs.Sound.{holds}
@@ -14,25 +14,27 @@ infixl 20 ◌>>=◌
 -- ---- what an edit yields
 
 -- A refusal ends the edit there.
-pub data Res (A : Type 0) : Type 0 where
-  refuse : Refusal → Res A
-  yield : A → Res A
+abbrev pub Res : Type 0 → Type 0
+Res A = Result A Refusal
 
 abbrev pub ◌>>=◌ : {A B : Type 0} → Res A → (A → Res B) → Res B
-refuse r >>= f = refuse r
-yield a >>= f = f a
+Err r >>= f = Err r
+Ok a >>= f = f a
 
 -- The test of a step that yields nothing: it passes, or the edit is refused.
-pub data Passed : Type 0 where
-  passed : Passed
+abbrev pub Passed : Type 0
+Passed = ⊤
+
+abbrev pub passed : Passed
+passed = tt
 
 abbrev pub check : Bool → Refusal → Res Passed
-check true r = yield passed
-check false r = refuse r
+check true r = Ok passed
+check false r = Err r
 
 abbrev pub require : {A : Type 0} → Option A → Refusal → Res A
-require none r = refuse r
-require (some a) r = yield a
+require None r = Err r
+require (Some a) r = Ok a
 
 -- The finished map, how many ids were allocated, the second half of a split lane, and the change set.
 pub record Edited : Type 0 where
@@ -122,19 +124,15 @@ with_links ps ss l = relinked l l.left_neighbor l.right_neighbor ps ss
 -- an edit of links or neighbours alone: nothing is created or deleted
 abbrev pub relinking : Map → List EntityRef → List Issue → Edited
 relinking m modified warnings =
-    record { result = m; ids = 0; second = none; changes = record { created = []; modified = modified; deleted = []; warnings = warnings } }
+    record { result = m; ids = 0; second = None; changes = record { created = []; modified = modified; deleted = []; warnings = warnings } }
 
 -- ---- connect, disconnect
 
 -- further apart than the tolerance, where both ends are there
-abbrev pub far_apart : Float → OptionPoint3 → OptionPoint3 → Bool
-far_apart tol NoPoint q = false
-far_apart tol (APoint p) NoPoint = false
-far_apart tol (APoint p) (APoint q) = lt tol (distance3 p q)
-
-abbrev pub there : OptionPoint3 → Bool
-there NoPoint = false
-there (APoint p) = true
+abbrev pub far_apart : Float → Option Point3 → Option Point3 → Bool
+far_apart tol None q = false
+far_apart tol (Some p) None = false
+far_apart tol (Some p) (Some q) = lt tol (distance3 p q)
 
 -- connection_gap above the tolerance: the larger distance of left ends and of right ends. Document 01: "a missing or empty line gives no gap".
 unfoldable pub gapped : Float → Map → Lane → Lane → Bool
@@ -143,7 +141,7 @@ gapped tol m from to =
     let fr = last_of (oriented_boundary m Right from) in
     let tl = first_of (oriented_boundary m Left to) in
     let tr = first_of (oriented_boundary m Right to) in
-    (there fl && there fr && there tl && there tr) && (far_apart tol fl tl || far_apart tol fr tr)
+    (is_some fl && is_some fr && is_some tl && is_some tr) && (far_apart tol fl tl || far_apart tol fr tr)
 
 -- "an edit puts each link in its place"
 abbrev pub link_in : ℕ → ℕ → Lane → Lane
@@ -164,7 +162,7 @@ connect tol a b m = do
   to ← require_lane m b
   ok ← check (not (eqb a b)) (OwnPartner a)
   let linked = leads_to m a b in
-      yield
+      Ok
       (relinking
       (with_lanes (map (link_in a b) m.lanes) m)
       (lanes_where (λ l. not linked && either a b l) m.lanes)
@@ -176,7 +174,7 @@ disconnect a b m = do
   first ← require_lane m a
   second ← require_lane m b
   let linked = leads_to m a b in
-      yield
+      Ok
       (relinking (with_lanes (map (link_out a b) m.lanes) m) (lanes_where (λ l. linked && either a b l) m.lanes) (when (not linked) (no_op a)))
 
 -- ---- set_neighbor
@@ -188,27 +186,27 @@ same_side Right Left = false
 same_side Right Right = true
 
 abbrev pub same_slot : Option Neighbor → Option Neighbor → Bool
-same_slot none none = true
-same_slot none (some n) = false
-same_slot (some n) o = holds o n.lane n.direction
+same_slot None None = true
+same_slot None (Some n) = false
+same_slot (Some n) o = holds o n.lane n.direction
 
 -- A slot: a lane and a side. The slot that answers a neighbour held in a slot.
 abbrev pub answering : Side → Option Neighbor → ℕ → Side → Bool
-answering side none i s = false
-answering side (some n) i s = eqb i n.lane && same_side s (reciprocal_side side n.direction)
+answering side None i s = false
+answering side (Some n) i s = eqb i n.lane && same_side s (reciprocal_side side n.direction)
 
 abbrev pub returned : ℕ → Option Neighbor → Option Neighbor
-returned i none = none
-returned i (some n) = some (record { lane = i; direction = n.direction })
+returned i None = None
+returned i (Some n) = Some (record { lane = i; direction = n.direction })
 
 abbrev pub slot_in : Map → Side → Option Neighbor → Option Neighbor
-slot_in m side none = none
-slot_in m side (some n) = elim (lane m n.lane) [ none ↦ none | some l ↦ neighbor_on (reciprocal_side side n.direction) l ]
+slot_in m side None = None
+slot_in m side (Some n) = elim (lane m n.lane) [ None ↦ None | Some l ↦ neighbor_on (reciprocal_side side n.direction) l ]
 
 -- the side of the slot that answers
 abbrev pub answer_side : Side → Option Neighbor → Side
-answer_side side none = side
-answer_side side (some n) = reciprocal_side side n.direction
+answer_side side None = side
+answer_side side (Some n) = reciprocal_side side n.direction
 
 -- "Setting a slot first frees what it held and what the other lane's slot held." Slot s of lane i after lane a has `new` on its side `side`, which
 -- held `old`; the other lane's slot held `other`. The two slots set come first; what either held is freed where it answers.
@@ -216,24 +214,24 @@ abbrev pub slot_after : ℕ → Side → Option Neighbor → Option Neighbor →
 slot_after a side new old other i s was =
     cond (eqb i a && same_side s side) new
     (cond (answering side new i s) (returned a new)
-    (cond (answering side old i s || answering (answer_side side new) other i s) none was))
+    (cond (answering side old i s || answering (answer_side side new) other i s) None was))
 
 abbrev pub reslotted : (ℕ → Side → Option Neighbor → Option Neighbor) → Lane → Lane
 reslotted f l = relinked l (f l.id Left l.left_neighbor) (f l.id Right l.right_neighbor) l.predecessors l.successors
 
 -- refusals 1 and 4 of the neighbour named, and whether it shares a boundary with lane a
 abbrev pub require_neighbor : Map → ℕ → Option Neighbor → Res Passed
-require_neighbor m a none = yield passed
-require_neighbor m a (some n) = do
+require_neighbor m a None = Ok passed
+require_neighbor m a (Some n) = do
   l ← require_lane m n.lane
   check (not (eqb n.lane a)) (OwnPartner a)
 
 abbrev pub unshared : Map → Lane → Side → Option Neighbor → List Issue
-unshared m l side none = []
-unshared m l side (some n) =
+unshared m l side None = []
+unshared m l side (Some n) =
     elim (lane m n.lane) [
-      | none ↦ []
-      | some o ↦
+      | None ↦ []
+      | Some o ↦
           when (not (eqb (boundary_on side l).boundary (boundary_on (reciprocal_side side n.direction) o).boundary))
           (warning BoundaryUnshared (lane_entity l.id) (lane_entity n.lane ∷ []))
     ]
@@ -246,7 +244,7 @@ set_neighbor a side new m = do
   let old = neighbor_on side l in
       let other = slot_in m side new in
       let same = same_slot old new in
-      yield
+      Ok
       (relinking
       (with_lanes (map (reslotted (λ i s was. cond same was (slot_after a side new old other i s was))) m.lanes) m)
       (lanes_where (λ x. not same && (eqb x.id a || names old x.id || names new x.id || names other x.id)) m.lanes)

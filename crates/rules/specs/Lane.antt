@@ -1,11 +1,10 @@
 -- edit/lane.rs: remove_lane.
-use Rattle.std.specs.Prelude.{ℕ, Bool, true, not, ◌&&◌, ◌||◌, cond, List, [], ◌∷◌, ◌++◌, map, eqb, length}
-use Rattle.std.proofs.Math.Option.{Option, none, some}
+use Rattle.std.specs.Prelude.{ℕ, Bool, true, not, ◌&&◌, ◌||◌, cond, List, [], ◌∷◌, ◌++◌, map, eqb, length, Option, None, Some, Ok}
 use Rattle.lists.specs.Select.{keep, any, has, without}
 use Rattle.rules.specs.Names.{Neighbor, LaneKind, RuleKind, Warning, OrphanRule}
 use Rattle.entities.specs.Records.{Lane, Boundary, Road, Junction, Rule, Map, Issue}
 use Rattle.rules.specs.Map.{beside, uses}
-use Rattle.rules.specs.Edit.{Res, yield, ◌>>=◌, Edited, require_lane, refs, lanes_where, boundaries_where, roads_where, junctions_where, rules_where, relinked}
+use Rattle.rules.specs.Edit.{Res, ◌>>=◌, Edited, require_lane, refs, lanes_where, boundaries_where, roads_where, junctions_where, rules_where, relinked}
 
 -- ---- a lane leaves: shared with merge_lanes, whose second lane leaves
 
@@ -14,8 +13,8 @@ abbrev pub mentions : ℕ → Lane → Bool
 mentions a l = has a l.predecessors || has a l.successors || beside l a
 
 abbrev pub freed : ℕ → Option Neighbor → Option Neighbor
-freed a none = none
-freed a (some n) = cond (eqb n.lane a) none (some n)
+freed a None = None
+freed a (Some n) = cond (eqb n.lane a) None (Some n)
 
 abbrev pub forgetting : ℕ → Lane → Lane
 forgetting a l = relinked l (freed a l.left_neighbor) (freed a l.right_neighbor) (without a l.predecessors) (without a l.successors)
@@ -63,7 +62,7 @@ remove_lane a m = do
   gone ← require_lane m a
   let left = keep (λ l. not (eqb l.id a)) m.lanes in
       let drops = unused (gone ∷ []) left in
-      yield
+      Ok
       (record {
         result =
             record {
@@ -76,7 +75,7 @@ remove_lane a m = do
               crosswalks = m.crosswalks;
             };
         ids = 0;
-        second = none;
+        second = None;
         changes =
             record {
               created = [];

@@ -1,11 +1,12 @@
 -- map.rs: look-ups, lines and centrelines, users of a boundary, lateral groups and anchors, on a map as a record of lists.
-use Rattle.std.specs.Prelude.{ℕ, zero, suc, Bool, false, ◌&&◌, ◌||◌, cond, List, [], ◌∷◌, map, reverse, eqb, length, Float}
-use Rattle.std.proofs.Math.Option.{Option, none, some}
+use Rattle.geometry.specs.declared.Point3.{Point3}
+use Rattle.polyline.specs.declared.NearestPoint.{NearestPoint}
+use Rattle.std.specs.Prelude.{ℕ, zero, suc, Bool, false, ◌&&◌, ◌||◌, cond, List, [], ◌∷◌, map, reverse, eqb, length, Float, Option, None, Some}
 use Rattle.lists.specs.Select.{keep, any, find, has}
 use Rattle.geometry.specs.Float.{halfᶠ}
 use Rattle.geometry.specs.Point as Point
 use Rattle.polyline.specs.Polyline as Polyline
-use Rattle.rules.specs.Names.{Side, Left, Right, BoundaryRef, Neighbor, Point2, OptionPoint3, NoPoint, APoint, OptionNearest, NoNearest, ANearest}
+use Rattle.rules.specs.Names.{Side, Left, Right, BoundaryRef, Neighbor, Point2}
 use Rattle.entities.specs.Records.{Line, Lane, Boundary, Rule, StopLine, Crosswalk, Map}
 
 -- ---- look-ups by id
@@ -45,8 +46,8 @@ comes_from m a b = any (λ l. eqb l.id b && has a l.predecessors) m.lanes
 
 -- a slot names lane i
 abbrev pub names : Option Neighbor → ℕ → Bool
-names none i = false
-names (some n) i = eqb n.lane i
+names None i = false
+names (Some n) i = eqb n.lane i
 
 abbrev pub beside : Lane → ℕ → Bool
 beside l i = names l.left_neighbor i || names l.right_neighbor i
@@ -57,8 +58,8 @@ unfoldable pub oriented : BoundaryRef → Boundary → Line
 oriented r b = cond r.reversed (reverse b.geometry) b.geometry
 
 abbrev pub oriented_in : BoundaryRef → Option Boundary → Option Line
-oriented_in r none = none
-oriented_in r (some b) = some (oriented r b)
+oriented_in r None = None
+oriented_in r (Some b) = Some (oriented r b)
 
 -- a boundary's line along the lane, where the boundary is present
 unfoldable pub oriented_boundary : Map → Side → Lane → Option Line
@@ -66,34 +67,34 @@ oriented_boundary m side l = oriented_in (boundary_on side l) (boundary m (bound
 
 -- nothing, where a line has no point
 abbrev pub usable : Line → Option Line
-usable [] = none
-usable (p ∷ ps) = some (p ∷ ps)
+usable [] = None
+usable (p ∷ ps) = Some (p ∷ ps)
 
 abbrev pub derived : Option Line → Option Line → Option Line
-derived none right = none
-derived (some left) none = none
-derived (some left) (some right) = usable (Polyline.centerline left right)
+derived None right = None
+derived (Some left) None = None
+derived (Some left) (Some right) = usable (Polyline.centerline left right)
 
 abbrev pub explicit_or : Option Line → Option Line → Option Line
-explicit_or none other = other
-explicit_or (some c) other = some c
+explicit_or None other = other
+explicit_or (Some c) other = Some c
 
 -- the explicit centreline, or the one derived from both boundaries
 unfoldable pub centerline : Map → Lane → Option Line
 centerline m l = explicit_or l.centerline (derived (oriented_boundary m Left l) (oriented_boundary m Right l))
 
-abbrev pub first_of : Option Line → OptionPoint3
-first_of none = NoPoint
-first_of (some c) = Polyline.first c
+abbrev pub first_of : Option Line → Option Point3
+first_of None = None
+first_of (Some c) = Polyline.first c
 
-abbrev pub last_of : Option Line → OptionPoint3
-last_of none = NoPoint
-last_of (some c) = Polyline.last c
+abbrev pub last_of : Option Line → Option Point3
+last_of None = None
+last_of (Some c) = Polyline.last c
 
 -- the station of a line's point that is nearest to a point
-abbrev pub station_of : OptionNearest → Option Float
-station_of NoNearest = none
-station_of (ANearest n) = some n.station
+abbrev pub station_of : Option NearestPoint → Option Float
+station_of None = None
+station_of (Some n) = Some n.station
 
 unfoldable pub station : Line → Point2 → Option Float
 station c p = station_of (Polyline.nearest_point c p)
@@ -121,29 +122,29 @@ lateral_group m i = grown m (length m.lanes) (i ∷ [])
 
 -- ---- rule_anchor: the middle of the first stop line, or between those of the crosswalk's edges
 
-abbrev pub flat_point : OptionPoint3 → Option Point2
-flat_point NoPoint = none
-flat_point (APoint p) = some (Point.xy p)
+abbrev pub flat_point : Option Point3 → Option Point2
+flat_point None = None
+flat_point (Some p) = Some (Point.xy p)
 
 unfoldable pub mid : Line → Option Point2
 mid c = flat_point (Polyline.point_at_fraction c halfᶠ)
 
 abbrev pub stop_anchor : Option StopLine → Option Point2
-stop_anchor none = none
-stop_anchor (some s) = mid s.geometry
+stop_anchor None = None
+stop_anchor (Some s) = mid s.geometry
 
 abbrev pub half_way : Option Point2 → Option Point2 → Option Point2
-half_way none q = none
-half_way (some p) none = none
-half_way (some p) (some q) = some (Point.lerp2 p q halfᶠ)
+half_way None q = None
+half_way (Some p) None = None
+half_way (Some p) (Some q) = Some (Point.lerp2 p q halfᶠ)
 
 abbrev pub cross_anchor : Option Crosswalk → Option Point2
-cross_anchor none = none
-cross_anchor (some c) = half_way (mid c.left_edge) (mid c.right_edge)
+cross_anchor None = None
+cross_anchor (Some c) = half_way (mid c.left_edge) (mid c.right_edge)
 
 abbrev pub crosswalk_in : Map → Option ℕ → Option Crosswalk
-crosswalk_in m none = none
-crosswalk_in m (some i) = crosswalk m i
+crosswalk_in m None = None
+crosswalk_in m (Some i) = crosswalk m i
 
 -- Document 01: "A rule whose first stop line is missing has no anchor, and a crosswalk is not tried."
 abbrev pub anchor_by : Map → Rule → List ℕ → Option Point2

@@ -1,6 +1,5 @@
 -- edit/merge.rs: merge_lanes.
-use Rattle.std.specs.Prelude.{ℕ, ◌+◌, Bool, true, false, not, ◌&&◌, ◌||◌, cond, List, [], ◌∷◌, ◌++◌, map, reverse, eqb, Float}
-use Rattle.std.proofs.Math.Option.{Option, none, some}
+use Rattle.std.specs.Prelude.{ℕ, ◌+◌, Bool, true, false, not, ◌&&◌, ◌||◌, cond, List, [], ◌∷◌, ◌++◌, map, reverse, eqb, Float, Option, None, Some, Ok}
 use Rattle.std.specs.Float.{binary64}
 use Rattle.std.specs.Float.Ieee.{of_bits, ne}
 use Rattle.lists.specs.Select.{keep, has, without, place, same_numbers}
@@ -9,7 +8,7 @@ use Rattle.entities.specs.Types.{forward, lane_entity, boundary_entity}
 use Rattle.rules.specs.Names.{Side, Left, Right, BoundaryRef, Neighbor, Tolerance, LaneKind, BoundaryKind, BoundaryUnshared, NeighborDropped, AttributeConflict, NotMergeable, BoundaryAbsent}
 use Rattle.entities.specs.Records.{Line, Lane, Boundary, Map, Issue}
 use Rattle.rules.specs.Map.{boundary, boundary_on, oriented_boundary, lanes_using_boundary, names}
-use Rattle.rules.specs.Edit.{Res, yield, ◌>>=◌, check, require, Edited, require_lane, refs, lanes_where, boundaries_where, roads_where, junctions_where, rules_where, warning, when, lane_with, relinked}
+use Rattle.rules.specs.Edit.{Res, ◌>>=◌, check, require, Edited, require_lane, refs, lanes_where, boundaries_where, roads_where, junctions_where, rules_where, warning, when, lane_with, relinked}
 use Rattle.rules.specs.Lane.{mentions, forgetting, road_lanes, junction_lanes, rule_lanes, rule_names_lane, unused}
 
 -- ---- one side of the two lanes
@@ -29,14 +28,14 @@ abbrev pub joined_lines : Float → Bool → ℕ → ℕ → Option Line → Opt
 joined_lines join alone ra rb ga gb = do
   first ← require ga (BoundaryAbsent ra)
   second ← require gb (BoundaryAbsent rb)
-  yield (joined alone (concat join first second))
+  Ok (joined alone (concat join first second))
 
 unfoldable pub side_plan : Tolerance → Map → Side → Lane → Lane → Res SidePlan
 side_plan tol m side a b =
     let ra = (boundary_on side a).boundary in
     let rb = (boundary_on side b).boundary in
     let alone = same_numbers (lanes_using_boundary m.lanes ra) (a.id ∷ []) && same_numbers (lanes_using_boundary m.lanes rb) (b.id ∷ []) in
-    cond (eqb ra rb) (yield kept) (joined_lines tol.join alone ra rb (oriented_boundary m side a) (oriented_boundary m side b))
+    cond (eqb ra rb) (Ok kept) (joined_lines tol.join alone ra rb (oriented_boundary m side a) (oriented_boundary m side b))
 
 -- ids that a plan allocates
 abbrev pub plan_ids : SidePlan → ℕ
@@ -75,7 +74,7 @@ abbrev pub new_boundary : Map → SidePlan → ℕ → BoundaryRef → List Boun
 new_boundary m kept next r = []
 new_boundary m (in_place c) next r = []
 new_boundary m (fresh c) next r =
-    elim (boundary m r.boundary) [ none ↦ [] | some b ↦ record { id = next; kind = b.kind; geometry = c; attributes = b.attributes } ∷ [] ]
+    elim (boundary m r.boundary) [ None ↦ [] | Some b ↦ record { id = next; kind = b.kind; geometry = c; attributes = b.attributes } ∷ [] ]
 
 abbrev pub plan_warning : SidePlan → ℕ → List Issue
 plan_warning kept next = []
@@ -86,18 +85,18 @@ plan_warning (fresh c) next = warning BoundaryUnshared (boundary_entity next) []
 
 -- "Speed limits compare as floats: two NaNs conflict."
 abbrev pub speeds_differ : Option ℕ → Option ℕ → Bool
-speeds_differ none none = false
-speeds_differ none (some y) = true
-speeds_differ (some x) none = true
-speeds_differ (some x) (some y) = ne (of_bits binary64 x) (of_bits binary64 y)
+speeds_differ None None = false
+speeds_differ None (Some y) = true
+speeds_differ (Some x) None = true
+speeds_differ (Some x) (Some y) = ne (of_bits binary64 x) (of_bits binary64 y)
 
 abbrev pub conflict : Lane → Lane → Bool
 conflict a b = not (eqb a.kind b.kind) || speeds_differ a.speed_limit b.speed_limit || not (eqb a.turn_direction b.turn_direction)
 
 -- "A neighbour of the second counts as dropped if the first's slot on that side does not name the same lane; direction is not compared."
 abbrev pub dropped : ℕ → Option Neighbor → Option Neighbor → List Issue
-dropped a none first = []
-dropped a (some n) first = when (not (names first n.lane)) (warning NeighborDropped (lane_entity a) (lane_entity n.lane ∷ []))
+dropped a None first = []
+dropped a (Some n) first = when (not (names first n.lane)) (warning NeighborDropped (lane_entity a) (lane_entity n.lane ∷ []))
 
 -- replace_lane: every b reads a, or goes where a stands already
 abbrev pub read : ℕ → ℕ → ℕ → ℕ
@@ -107,9 +106,9 @@ unfoldable pub replace_lane : ℕ → ℕ → List ℕ → List ℕ
 replace_lane a b ids = cond (has a ids) (without b ids) (map (read a b) ids)
 
 abbrev pub joined_center : Float → Option Line → Option Line → Option Line
-joined_center join none cb = none
-joined_center join (some ca) none = none
-joined_center join (some ca) (some cb) = some (concat join ca cb)
+joined_center join None cb = None
+joined_center join (Some ca) None = None
+joined_center join (Some ca) (Some cb) = Some (concat join ca cb)
 
 -- ---- merge_lanes
 
@@ -152,7 +151,7 @@ merged tol next m a b pl pr =
             crosswalks = m.crosswalks;
           };
       ids = plan_ids pl + plan_ids pr;
-      second = none;
+      second = None;
       changes =
           record {
             created = refs BoundaryKind (map (λ x. x.id) new);
@@ -179,4 +178,4 @@ merge_lanes tol next i j m = do
   ok3 ← check (same_numbers b.predecessors (i ∷ [])) (NotMergeable i)
   pl ← side_plan tol m Left a b
   pr ← side_plan tol m Right a b
-  yield (merged tol next m a b pl pr)
+  Ok (merged tol next m a b pl pr)

@@ -19,7 +19,3 @@ pub use Rattle.entities.specs.declared.Refusal.{Refusal}
 pub use Rattle.entities.specs.declared.Refusal.TheVariants.{LaneAbsent, FractionOutside, PositionOutside, OwnPartner, NotMergeable, BoundaryAbsent, NoUsableLine, NotCrossing, Unsound, NoRoom, NoIds}
 pub use Rattle.geometry.specs.declared.Point2.{Point2}
 pub use Rattle.geometry.specs.declared.Point3.{Point3}
-pub use Rattle.polyline.specs.declared.OptionPoint3.{OptionPoint3}
-pub use Rattle.polyline.specs.declared.OptionPoint3.TheVariants.{None as NoPoint, Some as APoint}
-pub use Rattle.polyline.specs.declared.OptionNearest.{OptionNearest}
-pub use Rattle.polyline.specs.declared.OptionNearest.TheVariants.{None as NoNearest, Some as ANearest}

@@ -1,13 +1,11 @@
 -- ops.rs: the six commands, one call of the editor, and a list of calls.
-use Rattle.std.specs.Prelude.{ℕ, ◌+◌, Bool, ◌&&◌, cond, List, [], ◌∷◌, eqb, leb, length}
-use Rattle.std.proofs.Math.Option.{Option}
+use Rattle.std.specs.Prelude.{ℕ, ◌+◌, Bool, ◌&&◌, cond, List, [], ◌∷◌, eqb, leb, length, Option, Err, Ok}
 pub use Rattle.entities.specs.declared.Command.{Command}
 pub use Rattle.entities.specs.declared.Command.TheVariants.{SplitLane, MergeLanes, ConnectLanes, DisconnectLanes, SetNeighbor, RemoveLane}
-use Rattle.entities.specs.Types.{neighbor_option}
 use Rattle.rules.specs.Names.{Tolerance, Refusal, Unsound, NoRoom, NoIds}
 use Rattle.entities.specs.Records.{Map, ChangeSet}
 use Rattle.rules.specs.Sound.{sound, Room, Lists, fits_room, last_counter, next_id}
-use Rattle.rules.specs.Edit.{Res, refuse, yield, ◌>>=◌, check, Edited, connect, disconnect, set_neighbor}
+use Rattle.rules.specs.Edit.{Res, ◌>>=◌, check, Edited, connect, disconnect, set_neighbor}
 use Rattle.rules.specs.Lane.{remove_lane}
 use Rattle.rules.specs.Merge.{merge_lanes}
 use Rattle.rules.specs.Split.{split_lane}
@@ -37,7 +35,7 @@ edit tol (SplitLane i at neighbors) s = split_lane tol (next_id s.counter) i at 
 edit tol (MergeLanes i j) s = merge_lanes tol (next_id s.counter) i j s.map
 edit tol (ConnectLanes i j) s = connect tol i j s.map
 edit tol (DisconnectLanes i j) s = disconnect i j s.map
-edit tol (SetNeighbor i side n) s = set_neighbor i side (neighbor_option n) s.map
+edit tol (SetNeighbor i side n) s = set_neighbor i side n s.map
 edit tol (RemoveLane i) s = remove_lane i s.map
 
 -- An edit that needs no id leaves the counter.
@@ -65,18 +63,18 @@ settled room counter r = do
   e ← r
   ids ← check (leb (counter_after counter e.ids) last_counter) NoIds
   fits ← check (fits_room room e.result) NoRoom
-  yield e
+  Ok e
 
 -- then the 10 of the lists: "or a lent list's length"
 abbrev pub listable : Lists → Res Edited → Res Edited
 listable ls r = do
   e ← r
   fits ← check (fits_lists ls e.changes) NoRoom
-  yield e
+  Ok e
 
 abbrev pub outcome_of : State → Res Edited → Outcome
-outcome_of s (refuse r) = refused_as s r
-outcome_of s (yield e) = accepted_as s e
+outcome_of s (Err r) = refused_as s r
+outcome_of s (Ok e) = accepted_as s e
 
 abbrev pub finish : Room → Lists → State → Res Edited → Outcome
 finish room ls s r = outcome_of s (listable ls (settled room s.counter r))

@@ -1,7 +1,6 @@
 -- Document 01, "The map", and document 02, (b): when a map with its counter is sound, and the room of a map.
 -- What concerns the lent memory alone (counts against lent lengths, lines apart from each other) is in the crate `tables`.
-use Rattle.std.specs.Prelude.{ℕ, ◌+◌, ◌-◌, ◌^◌, max, Bool, true, false, not, ◌&&◌, ◌||◌, cond, List, [], ◌∷◌, ◌++◌, map, eqb, leb, ltb, length}
-use Rattle.std.proofs.Math.Option.{Option, none, some}
+use Rattle.std.specs.Prelude.{ℕ, ◌+◌, ◌-◌, ◌^◌, max, Bool, true, false, not, ◌&&◌, ◌||◌, cond, List, [], ◌∷◌, ◌++◌, map, eqb, leb, ltb, length, Option, None, Some}
 use Rattle.lists.specs.Every.{all}
 use Rattle.lists.specs.Select.{any, each, ascending, distinct}
 use Rattle.geometry.specs.Point.{in_reach}
@@ -15,8 +14,8 @@ use Rattle.rules.specs.Map.{lane_ids, leads_to, comes_from, neighbor_on}
 -- ---- every line and every id of a map
 
 abbrev pub optional_line : Option Line → List Line
-optional_line none = []
-optional_line (some c) = c ∷ []
+optional_line None = []
+optional_line (Some c) = c ∷ []
 
 -- in the order in which lines are laid out: boundaries, centrelines, stop lines, crosswalks' left edges, their right edges
 unfoldable pub lines : Map → List Line
@@ -33,12 +32,12 @@ abbrev pub point_count : Map → ℕ
 point_count m = total (map length (lines m))
 
 abbrev pub optional_id : Option ℕ → List ℕ
-optional_id none = []
-optional_id (some i) = i ∷ []
+optional_id None = []
+optional_id (Some i) = i ∷ []
 
 abbrev pub slot_id : Option Neighbor → List ℕ
-slot_id none = []
-slot_id (some n) = n.lane ∷ []
+slot_id None = []
+slot_id (Some n) = n.lane ∷ []
 
 abbrev pub lane_names : Lane → List ℕ
 lane_names l =
@@ -91,8 +90,8 @@ stop_lines_fit kind n =
     cond (leb kind traffic_sign) (leb n 1) (cond (eqb kind stop_line_rule) (eqb n 1) (cond (eqb kind other_rule) (eqb n 0) true))
 
 abbrev pub given : Option ℕ → Bool
-given none = false
-given (some i) = true
+given None = false
+given (Some i) = true
 
 -- traffic lights have signals, signs their data, rules of another kind that kind
 abbrev pub has_content : ℕ → Bool
@@ -114,8 +113,8 @@ kinds_legal m =
 
 -- handles are numbers below their width, the bits of a speed limit below 2 ^ 64
 abbrev pub speed_legal : Option ℕ → Bool
-speed_legal none = true
-speed_legal (some b) = ltb b (2 ^ 64)
+speed_legal None = true
+speed_legal (Some b) = ltb b (2 ^ 64)
 
 unfoldable pub handles_legal : Map → Bool
 handles_legal m =
@@ -144,16 +143,16 @@ same_direction Opposite Opposite = true
 
 -- a slot holds lane i with that direction
 abbrev pub holds : Option Neighbor → ℕ → NeighborDirection → Bool
-holds none i d = false
-holds (some n) i d = eqb n.lane i && same_direction n.direction d
+holds None i d = false
+holds (Some n) i d = eqb n.lane i && same_direction n.direction d
 
 -- lane i holds lane j, with direction d, in the slot on a side
 unfoldable pub has_neighbor : Map → ℕ → Side → ℕ → NeighborDirection → Bool
 has_neighbor m i side j d = any (λ l. eqb l.id i && holds (neighbor_on side l) j d) m.lanes
 
 abbrev pub slot_returned : Map → ℕ → Side → Option Neighbor → Bool
-slot_returned m i side none = true
-slot_returned m i side (some n) = has_neighbor m n.lane (reciprocal_side side n.direction) i n.direction
+slot_returned m i side None = true
+slot_returned m i side (Some n) = has_neighbor m n.lane (reciprocal_side side n.direction) i n.direction
 
 -- "a neighbour names the lane back, with the same direction mark, in the slot of the topology rule"
 unfoldable pub neighbors_reciprocal : Map → Bool

@@ -1,6 +1,5 @@
 -- edit/split.rs: split_lane.
-use Rattle.std.specs.Prelude.{ℕ, suc, ◌+◌, Bool, true, false, not, ◌&&◌, ◌||◌, cond, List, [], ◌∷◌, ◌++◌, map, eqb, length, Float}
-use Rattle.std.proofs.Math.Option.{Option, none, some}
+use Rattle.std.specs.Prelude.{ℕ, suc, ◌+◌, Bool, true, false, not, ◌&&◌, ◌||◌, cond, List, [], ◌∷◌, ◌++◌, map, eqb, length, Float, Option, None, Some, Err, Ok}
 use Rattle.std.specs.Float.Ieee.{lt, le}
 use Rattle.lists.specs.Every.{all}
 use Rattle.lists.specs.Select.{keep, any, each, has, find, same_numbers, second_of, insert_after}
@@ -10,7 +9,7 @@ use Rattle.entities.specs.Types.{opposing, same, lane_entity, boundary_entity, c
 use Rattle.rules.specs.Names.{BoundaryRef, Same, Opposite, Neighbor, SplitAt, Fraction, Station, Tolerance, LaneKind, BoundaryKind, BoundaryUnshared, NeighborDropped, FractionOutside, PositionOutside, BoundaryAbsent, NoUsableLine, NotCrossing, Point2}
 use Rattle.entities.specs.Records.{Line, Lane, Boundary, Rule, Map, Issue}
 use Rattle.rules.specs.Map.{lane, boundary, centerline, station, lateral_group, uses, flat_point, rule_anchor}
-use Rattle.rules.specs.Edit.{Res, refuse, yield, ◌>>=◌, Passed, passed, check, require, Edited, require_lane, refs, lanes_where, boundaries_where, roads_where, junctions_where, rules_where, warning, when, lane_with, with_links}
+use Rattle.rules.specs.Edit.{Res, ◌>>=◌, Passed, passed, check, require, Edited, require_lane, refs, lanes_where, boundaries_where, roads_where, junctions_where, rules_where, warning, when, lane_with, with_links}
 use Rattle.rules.specs.Lane.{road_lanes, junction_lanes, rule_lanes}
 use Rattle.rules.specs.Merge.{redrawn}
 
@@ -20,8 +19,8 @@ use Rattle.rules.specs.Merge.{redrawn}
 abbrev pub cut_station : SplitAt → Float → Res Float
 cut_station (Fraction f) len = do
   ok ← check (lt zeroᶠ f && lt f oneᶠ) FractionOutside
-  yield (f *ᶠ len)
-cut_station (Station s) len = yield s
+  Ok (f *ᶠ len)
+cut_station (Station s) len = Ok s
 
 -- "The split position must be > 0.1 and < length − 0.1."
 abbrev pub cuttable : Float → Line → Float → Bool
@@ -37,8 +36,8 @@ pub record LanePlan : Type 0 where
 
 -- "An explicit centreline, the split lane's own too, is cut at its nearest station, not at the given one."
 abbrev pub center_piece : (Line → Float → Line) → Option Line → Point2 → Option Line
-center_piece piece none p = none
-center_piece piece (some c) p = elim (station c p) [ none ↦ none | some s ↦ some (piece c s) ]
+center_piece piece None p = None
+center_piece piece (Some c) p = elim (station c p) [ None ↦ None | Some s ↦ Some (piece c s) ]
 
 -- "A neighbour's position is its nearest station to the split point, under the same rule." "Where a neighbour has an explicit empty centreline
 -- the Rust panics; here it is refusal 7".
@@ -49,7 +48,7 @@ lane_plan tol m own at p l = do
   let s = cond (eqb l.id own) at near in
       do
         ok ← check (cuttable tol.piece c s) (PositionOutside l.id)
-        yield
+        Ok
             (record {
               of = l;
               station = s;
@@ -58,26 +57,26 @@ lane_plan tol m own at p l = do
             })
 
 unfoldable pub lane_plans : Tolerance → Map → ℕ → Float → Point2 → List Lane → Res (List LanePlan)
-lane_plans tol m own at p [] = yield []
+lane_plans tol m own at p [] = Ok []
 lane_plans tol m own at p (l ∷ ls) =
     let rest = lane_plans tol m own at p ls in
     (do
       x ← lane_plan tol m own at p l
       xs ← rest
-      yield (x ∷ xs))
+      Ok (x ∷ xs))
 
 -- ---- the plan of a boundary
 
 -- "Each boundary's nearest station must be > 1e-6 and < its length − 1e-6."
 abbrev pub crosses : ℕ → Point2 → Option Boundary → Res Passed
-crosses i p none = refuse (BoundaryAbsent i)
-crosses i p (some b) = do
+crosses i p None = Err (BoundaryAbsent i)
+crosses i p (Some b) = do
   s ← require (station b.geometry p) (NotCrossing i)
   check (cuttable crossing_margin b.geometry s) (NotCrossing i)
 
 -- every lane's boundaries, left then right
 unfoldable pub all_cross : Map → Point2 → List Lane → Res Passed
-all_cross m p [] = yield passed
+all_cross m p [] = Ok passed
 all_cross m p (l ∷ ls) =
     let rest = all_cross m p ls in
     (do
@@ -95,8 +94,8 @@ pub record Piece : Type 0 where
   pub second_line : Line
 
 abbrev pub piece_at : Boundary → Bool → ℕ → ℕ → Option Float → Piece
-piece_at b alone i j none = record { of = b; alone = alone; first = i; second = j; first_line = []; second_line = [] }
-piece_at b alone i j (some s) =
+piece_at b alone i j None = record { of = b; alone = alone; first = i; second = j; first_line = []; second_line = [] }
+piece_at b alone i j (Some s) =
     record { of = b; alone = alone; first = i; second = j; first_line = first_piece b.geometry s; second_line = second_piece b.geometry s }
 
 -- "A boundary used only by the group keeps its id for its first piece; another gets two new ones". `next` is the next id.
@@ -121,7 +120,7 @@ abbrev pub piece_for : List Piece → ℕ → Option Piece
 piece_for xs i = find (λ x. eqb x.of.id i) xs
 
 abbrev pub cut_boundary : List Piece → Boundary → Boundary
-cut_boundary xs b = elim (piece_for xs b.id) [ none ↦ b | some x ↦ cond x.alone (redrawn x.first_line b) b ]
+cut_boundary xs b = elim (piece_for xs b.id) [ None ↦ b | Some x ↦ cond x.alone (redrawn x.first_line b) b ]
 
 abbrev pub new_piece : Boundary → ℕ → Line → Boundary
 new_piece b i c = record { id = i; kind = b.kind; geometry = c; attributes = b.attributes }
@@ -138,19 +137,19 @@ halves next (x ∷ xs) = (x.of.id, next) ∷ halves (suc next) xs
 
 -- "Reversed references take the pieces in reverse."
 abbrev pub first_ref : List Piece → BoundaryRef → BoundaryRef
-first_ref xs r = elim (piece_for xs r.boundary) [ none ↦ r | some x ↦ record { boundary = cond r.reversed x.second x.first; reversed = r.reversed } ]
+first_ref xs r = elim (piece_for xs r.boundary) [ None ↦ r | Some x ↦ record { boundary = cond r.reversed x.second x.first; reversed = r.reversed } ]
 
 abbrev pub second_ref : List Piece → BoundaryRef → BoundaryRef
-second_ref xs r = elim (piece_for xs r.boundary) [ none ↦ r | some x ↦ record { boundary = cond r.reversed x.first x.second; reversed = r.reversed } ]
+second_ref xs r = elim (piece_for xs r.boundary) [ None ↦ r | Some x ↦ record { boundary = cond r.reversed x.first x.second; reversed = r.reversed } ]
 
 -- "Opposite neighbours pair first half with second." A neighbour that is not cut stays beside the first half alone.
 abbrev pub first_slot : List (ℕ × ℕ) → Option Neighbor → Option Neighbor
-first_slot hs none = none
-first_slot hs (some n) = elim (second_of hs n.lane) [ none ↦ some n | some j ↦ elim n.direction [ Same ↦ some n | Opposite ↦ some (opposing j) ] ]
+first_slot hs None = None
+first_slot hs (Some n) = elim (second_of hs n.lane) [ None ↦ Some n | Some j ↦ elim n.direction [ Same ↦ Some n | Opposite ↦ Some (opposing j) ] ]
 
 abbrev pub second_slot : List (ℕ × ℕ) → Option Neighbor → Option Neighbor
-second_slot hs none = none
-second_slot hs (some n) = elim (second_of hs n.lane) [ none ↦ none | some j ↦ elim n.direction [ Same ↦ some (same j) | Opposite ↦ some (opposing n.lane) ] ]
+second_slot hs None = None
+second_slot hs (Some n) = elim (second_of hs n.lane) [ None ↦ None | Some j ↦ elim n.direction [ Same ↦ Some (same j) | Opposite ↦ Some (opposing n.lane) ] ]
 
 -- "Old successors move to the second half": who came from a cut lane now comes from its second half. New ids are larger, so the list ascends.
 unfoldable pub came_from : List (ℕ × ℕ) → List ℕ → List ℕ
@@ -178,8 +177,8 @@ plan_for ps i = find (λ x. eqb x.of.id i) ps
 abbrev pub cut_lane : List LanePlan → List Piece → List (ℕ × ℕ) → Lane → Lane
 cut_lane ps xs hs l =
     elim (plan_for ps l.id) [
-      | none ↦ uncut hs l
-      | some x ↦ elim (second_of hs l.id) [ none ↦ uncut hs l | some j ↦ first_half xs hs j x ]
+      | None ↦ uncut hs l
+      | Some x ↦ elim (second_of hs l.id) [ None ↦ uncut hs l | Some j ↦ first_half xs hs j x ]
     ]
 
 unfoldable pub second_halves : List Piece → List (ℕ × ℕ) → ℕ → List LanePlan → List Lane
@@ -192,13 +191,13 @@ second_halves xs hs next (x ∷ ps) = second_half xs hs next x ∷ second_halves
 
 -- whether a point lies at or past the cut, on the line of the two halves joined, in the map after the cut
 abbrev pub past_cut : Float → Option Line → Option Line → Float → Point2 → Bool
-past_cut join none c2 s p = false
-past_cut join (some c1) none s p = false
-past_cut join (some c1) (some c2) s p = elim (station (concat join c1 c2) p) [ none ↦ false | some at ↦ le s at ]
+past_cut join None c2 s p = false
+past_cut join (Some c1) None s p = false
+past_cut join (Some c1) (Some c2) s p = elim (station (concat join c1 c2) p) [ None ↦ false | Some at ↦ le s at ]
 
 abbrev pub center_of : Map → Option Lane → Option Line
-center_of m none = none
-center_of m (some l) = centerline m l
+center_of m None = None
+center_of m (Some l) = centerline m l
 
 unfoldable pub on_second : Float → Map → LanePlan → ℕ → Point2 → Bool
 on_second join m x j p = past_cut join (center_of m (lane m x.of.id)) (center_of m (lane m j)) x.station p
@@ -208,14 +207,14 @@ on_second join m x j p = past_cut join (center_of m (lane m x.of.id)) (center_of
 abbrev pub followed : Float → Map → List LanePlan → List (ℕ × ℕ) → Point2 → ℕ → ℕ
 followed join m ps hs p i =
     elim (plan_for ps i) [
-      | none ↦ i
-      | some x ↦ elim (second_of hs i) [ none ↦ i | some j ↦ cond (on_second join m x j p) j i ]
+      | None ↦ i
+      | Some x ↦ elim (second_of hs i) [ None ↦ i | Some j ↦ cond (on_second join m x j p) j i ]
     ]
 
 -- "with no anchor it is added"
 unfoldable pub follow : Float → Map → List LanePlan → List (ℕ × ℕ) → Option Point2 → List ℕ → List ℕ
-follow join m ps hs none ids = insert_after hs ids
-follow join m ps hs (some p) ids = map (followed join m ps hs p) ids
+follow join m ps hs None ids = insert_after hs ids
+follow join m ps hs (Some p) ids = map (followed join m ps hs p) ids
 
 abbrev pub cut_rule : Float → Map → List LanePlan → List (ℕ × ℕ) → Rule → Rule
 cut_rule join m ps hs r = rule_lanes (follow join m ps hs (rule_anchor m r)) (insert_after hs) r
@@ -230,9 +229,9 @@ unshared_piece x =
     when (not x.alone) (warning BoundaryUnshared (boundary_entity x.of.id) (boundary_entity x.first ∷ boundary_entity x.second ∷ []))
 
 abbrev pub dropped_beside : List (ℕ × ℕ) → ℕ → Option Neighbor → List Issue
-dropped_beside hs j none = []
-dropped_beside hs j (some n) =
-    elim (second_of hs n.lane) [ none ↦ warning NeighborDropped (lane_entity j) (lane_entity n.lane ∷ []) ∷ [] | some k ↦ [] ]
+dropped_beside hs j None = []
+dropped_beside hs j (Some n) =
+    elim (second_of hs n.lane) [ None ↦ warning NeighborDropped (lane_entity j) (lane_entity n.lane ∷ []) ∷ [] | Some k ↦ [] ]
 
 unfoldable pub dropped_all : List (ℕ × ℕ) → ℕ → List LanePlan → List Issue
 dropped_all hs next [] = []
@@ -306,4 +305,4 @@ split_lane tol next i at neighbors m = do
         ps ← lane_plans tol m i s p ls
         ok2 ← all_cross m p ls
         let cutting = keep (λ b. any (uses b.id) ls) m.boundaries in
-            yield (cut tol next m i group ps (pieces group m.lanes p next cutting))
+            Ok (cut tol next m i group ps (pieces group m.lanes p next cutting))

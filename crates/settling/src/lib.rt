@@ -28,8 +28,7 @@ fn column_down(
 {
     let n = t[0] as usize;
     let mut place = at;
-    let mut i = 0;
-    while i < n {
+    for i in 0..n {
         let row = 1 + i * stride;
         if has_line(t, row, marked) {
             let k = row + offset;
@@ -37,7 +36,6 @@ fn column_down(
             in_place::line_down(t[k], size, reach, coordinates, place);
             place += size;
         }
-        i += 1;
     }
     place
 }
@@ -116,9 +114,8 @@ fn column_up(
     ensures { (result ≡ end - L.points_in (L.column_lines (column_of stride offset marked) t.now)) × (coordinates.new ≡ D.up_all drawn.now reach (end - L.points_in (L.column_lines (column_of stride offset marked) t.now)) (L.column_lines (column_of stride offset marked) t.now) coordinates.old) }
 {
     let mut place = end;
-    let mut i = t[0] as usize;
-    while 0 < i {
-        i -= 1;
+    let n = t[0] as usize;
+    for i in (0..n).rev() {
         let row = 1 + i * stride;
         if has_line(t, row, marked) {
             let k = row + offset;
@@ -203,8 +200,7 @@ fn column_starts(t: &mut [u64], stride: usize, offset: usize, marked: bool, at: 
 {
     let n = t[0] as usize;
     let mut place = at;
-    let mut i = 0;
-    while i < n {
+    for i in 0..n {
         let row = 1 + i * stride;
         if has_line(t, row, marked) {
             let k = row + offset;
@@ -212,7 +208,6 @@ fn column_starts(t: &mut [u64], stride: usize, offset: usize, marked: bool, at: 
             t[k] = place as u64;
             place += size;
         }
-        i += 1;
     }
     place
 }

@@ -1,4 +1,5 @@
-// Lists in lent words written: ids put in, taken out, replaced and moved.
+// Lists in lent words written: ids put in, taken out, replaced and moved. A list's n ids are the front of its slots in a lent row, with the count in a word before
+// them (the C interface), so a number goes with the slots where they are more than the list.
 #![tactic(auto)]
 
 ghost use Rattle.std.specs.Prelude.{◌≡◌, true, false, cond, [], ◌∷◌, ◌++◌, map, ◌+◌, ◌-◌, ◌≤◌, ◌<◌, eqb, length, take, drop};
@@ -10,15 +11,13 @@ pub fn insert(slots: &mut [u64], n: usize, id: u64)
     requires { (n < length slots.old) × ((ascending (take n slots.old) ≡ true) × (has id (take n slots.old) ≡ false)) }
     ensures { slots.new ≡ over slots.old 0 (place id (take n slots.old)) }
 {
-    let mut i = n;
-    while 0 < i {
-        let before = slots[i - 1];
+    for i in (0..n).rev() {
+        let before = slots[i];
         if before < id {
-            slots[i] = id;
+            slots[i + 1] = id;
             return;
         }
-        slots[i] = before;
-        i -= 1;
+        slots[i + 1] = before;
     }
     slots[0] = id;
 }
@@ -28,15 +27,13 @@ pub fn remove(slots: &mut [u64], n: usize, id: u64) -> usize
     requires { n ≤ length slots.old }
     ensures { (result ≡ length (without id (take n slots.old))) × (slots.new ≡ over slots.old 0 (without id (take n slots.old))) }
 {
-    let mut i = 0;
     let mut left = 0;
-    while i < n {
+    for i in 0..n {
         let x = slots[i];
         if id != x {
             slots[left] = x;
             left += 1;
         }
-        i += 1;
     }
     left
 }
@@ -45,12 +42,10 @@ pub fn remove(slots: &mut [u64], n: usize, id: u64) -> usize
 pub fn replace(ids: &mut [u64], from: u64, to: u64)
     ensures { ids.new ≡ map (λ x. cond (eqb x from) to x) ids.old }
 {
-    let mut i = 0;
-    while i < ids.len() {
+    for i in 0..ids.len() {
         if ids[i] == from {
             ids[i] = to;
         }
-        i += 1;
     }
 }
 
@@ -59,11 +54,7 @@ pub fn move_down(words: &mut [u64], to: usize, from: usize, n: usize)
     requires { (to ≤ from) × (from + n ≤ length words.old) }
     ensures { words.new ≡ over words.old to (take n (drop from words.old)) }
 {
-    let mut moved = 0;
-    while moved < n {
-        words[to + moved] = words[from + moved];
-        moved += 1;
-    }
+    words.copy_within(from..from + n, to);
 }
 
 // An id put behind a list of n ids; the slots past it stay.
@@ -79,9 +70,6 @@ pub fn copy(from: &[u64], to: &mut [u64], at: usize)
     requires { at + length from.now ≤ length to.old }
     ensures { to.new ≡ over to.old at from.now }
 {
-    let mut i = 0;
-    while i < from.len() {
-        to[at + i] = from[i];
-        i += 1;
-    }
+    let end = at + from.len();
+    to[at..end].copy_from_slice(from);
 }

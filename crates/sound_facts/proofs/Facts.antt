@@ -1,10 +1,10 @@
 -- What edits know of a sound map: its tables can be searched, its lines read, its links and neighbours followed and answered.
 -- Words need not fit 64 bits, and the counter may be any: nothing here asks for it. Assumes nothing.
+use Rattle.std.specs.Prelude.{Option, None, Some}
 use mathlib.Core.Path.{◌≡◌, refl, sym, ap, ◌∙◌}
 use Prim.Native.Nat.{ℕ, suc, ◌<◌}
 use mathlib.Core.Bool.{Bool, true, false, not, ◌&&◌, ◌||◌, cond, true≢false}
 use mathlib.Core.List.{List, [], ◌∷◌, map}
-use mathlib.Core.Option.{Option, none, some}
 use lib.Dec.{eqb, leb}
 use lib.Ieee.{Float}
 use lib.ListN.{length, drop}
@@ -12,8 +12,6 @@ use borrow.Author.Tests.{eqb-true}
 use Rattle.lists.specs.Every.{all}
 use Rattle.lists.specs.Rows.{keys, row_with}
 use Rattle.lists.specs.Select.{has, ascending}
-use Rattle.lists.specs.declared.Found.{Found}
-use Rattle.lists.specs.declared.Found.TheVariants.{At, Nothing}
 use Rattle.lists.proofs.Booleans.{and_both, and-fst, and-snd}
 use Rattle.lists.proofs.Select.{all-has}
 use Rattle.entities.specs.Records.{Line, Lane}
@@ -97,7 +95,7 @@ centers c t a b =
     rows-weaker 52 (λ w. p w && q w) (λ w. not (mark 6 w) || (stored c (span_at 7 w) && leb (word 8 w) 256))
     (λ w h. go w (mark 6 w) (and-fst (p w) (q w) h) (and-snd (p w) (q w) h)) t both
   where
-    go : (w : List ℕ) (b : Bool) → all (stored c) (cond b (span_at 7 w ∷ []) []) ≡ true → all (λ x. leb (length x) 256) (S.optional_line (cond b (some (line_at c 7 w)) none)) ≡ true
+    go : (w : List ℕ) (b : Bool) → all (stored c) (cond b (span_at 7 w ∷ []) []) ≡ true → all (λ x. leb (length x) 256) (S.optional_line (cond b (Some (line_at c 7 w)) None)) ≡ true
         → (not b || (stored c (span_at 7 w) && leb (word 8 w) 256)) ≡ true
     go w true u v =
         let e : stored c (span_at 7 w) ≡ true = unfold all in and-fst (stored c (span_at 7 w)) true u in
@@ -139,29 +137,29 @@ unfolding all_rows
 each_row s good t h j l = row-passes s good t h j l
 
 -- a row that is found and passes
-row-there : (q : List ℕ → Bool) (t : List ℕ) (b : ℕ) → row_test q t b ≡ true → (j : ℕ) × (place_of 52 t b ≡ At j) × (q (lane_at t j) ≡ true)
+row-there : (q : List ℕ → Bool) (t : List ℕ) (b : ℕ) → row_test q t b ≡ true → (j : ℕ) × (place_of 52 t b ≡ Some j) × (q (lane_at t j) ≡ true)
 unfolding row_test place_of
 row-there q t b h = go (row_with b (keys 52 (word 0 t) (drop 1 t))) refl h
   where
-    go : (r : Found) → row_with b (keys 52 (word 0 t) (drop 1 t)) ≡ r → on_row q t r ≡ true → (j : ℕ) × (row_with b (keys 52 (word 0 t) (drop 1 t)) ≡ At j) × (q (lane_at t j) ≡ true)
-    go Nothing e u = absurd (true≢false (sym u))
-    go (At j) e u = (j, e, u)
+    go : (r : Option ℕ) → row_with b (keys 52 (word 0 t) (drop 1 t)) ≡ r → on_row q t r ≡ true → (j : ℕ) × (row_with b (keys 52 (word 0 t) (drop 1 t)) ≡ Some j) × (q (lane_at t j) ≡ true)
+    go None e u = absurd (true≢false (sym u))
+    go (Some j) e u = (j, e, u)
 
 -- lane b is there, and its list at k has the lane in row i
 abbrev pub LinkThere : List ℕ → ℕ → ℕ → ℕ → Type 0
-LinkThere t i k b = (j : ℕ) × (place_of 52 t b ≡ At j) × (has (id_at t i) (links_at t j k) ≡ true)
+LinkThere t i k b = (j : ℕ) × (place_of 52 t b ≡ Some j) × (has (id_at t i) (links_at t j k) ≡ true)
 
 -- the neighbour is there, and holds the lane in row i in the slot that answers
 abbrev pub NeighborThere : List ℕ → ℕ → Side → Neighbor → Type 0
 NeighborThere t i side n =
-    (j : ℕ) × (place_of 52 t n.lane ≡ At j) × (slot_held t j (reciprocal_side side n.direction) ≡ some (record { lane = id_at t i; direction = n.direction }))
+    (j : ℕ) × (place_of 52 t n.lane ≡ Some j) × (slot_held t j (reciprocal_side side n.direction) ≡ Some (record { lane = id_at t i; direction = n.direction }))
 
-holds-is : (o : Option Neighbor) (i : ℕ) (d : NeighborDirection) → S.holds o i d ≡ true → o ≡ some (record { lane = i; direction = d })
-holds-is none i d h = absurd (true≢false (sym h))
-holds-is (some n) i d h =
+holds-is : (o : Option Neighbor) (i : ℕ) (d : NeighborDirection) → S.holds o i d ≡ true → o ≡ Some (record { lane = i; direction = d })
+holds-is None i d h = absurd (true≢false (sym h))
+holds-is (Some n) i d h =
     let e : n.lane ≡ i = eqb-true n.lane i (and-fst (eqb n.lane i) (S.same_direction n.direction d) h) in
     let f : n.direction ≡ d = way n.direction d (and-snd (eqb n.lane i) (S.same_direction n.direction d) h) in
-    ap (λ z. some (record { lane = z; direction = n.direction })) e ∙ ap (λ z. some (record { lane = i; direction = z })) f
+    ap (λ z. Some (record { lane = z; direction = n.direction })) e ∙ ap (λ z. Some (record { lane = i; direction = z })) f
   where
     way : (a b : NeighborDirection) → S.same_direction a b ≡ true → a ≡ b
     way Same Same h = refl
@@ -220,7 +218,7 @@ module _ (t : Tables) (s : searchable t.lanes ≡ true) (i : ℕ) (l : i < word 
       on Left b = and-fst (S.slot_returned (view t) (id_at t.lanes i) Left (slot_held t.lanes i Left)) (S.slot_returned (view t) (id_at t.lanes i) Right (slot_held t.lanes i Right)) b
       on Right b = and-snd (S.slot_returned (view t) (id_at t.lanes i) Left (slot_held t.lanes i Left)) (S.slot_returned (view t) (id_at t.lanes i) Right (slot_held t.lanes i Right)) b
 
-  neighbor : S.neighbors_reciprocal (view t) ≡ true → (side : Side) (n : Neighbor) → slot_held t.lanes i side ≡ some n → NeighborThere t.lanes i side n
+  neighbor : S.neighbors_reciprocal (view t) ≡ true → (side : Side) (n : Neighbor) → slot_held t.lanes i side ≡ Some n → NeighborThere t.lanes i side n
   unfolding S.has_neighbor view
   neighbor h side n e =
       let c = t.coordinates in
@@ -252,7 +250,7 @@ pub record Facts (counter : ℕ) (t : Tables) : Type 0 where
   pub links-ascend : (i : ℕ) → i < word 0 t.lanes → (ascending (links_at t.lanes i 18) ≡ true) × (ascending (links_at t.lanes i 35) ≡ true)
   pub successor_there : (i b : ℕ) → i < word 0 t.lanes → has b (links_at t.lanes i 35) ≡ true → LinkThere t.lanes i 18 b
   pub predecessor_there : (i b : ℕ) → i < word 0 t.lanes → has b (links_at t.lanes i 18) ≡ true → LinkThere t.lanes i 35 b
-  pub neighbor_there : (i : ℕ) (side : Side) (n : Neighbor) → i < word 0 t.lanes → slot_held t.lanes i side ≡ some n → NeighborThere t.lanes i side n
+  pub neighbor_there : (i : ℕ) (side : Side) (n : Neighbor) → i < word 0 t.lanes → slot_held t.lanes i side ≡ Some n → NeighborThere t.lanes i side n
   pub parts : FormedParts t
   pub clauses : Sound counter (view t)
 

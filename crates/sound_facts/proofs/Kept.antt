@@ -1,10 +1,10 @@
 -- An edit of lanes that keeps their ids and centrelines, as one of links and neighbours does, written back: the tables hold the edited map, and stay sound.
 -- Assumes nothing.
+use Rattle.std.specs.Prelude.{Option, None, Some}
 use mathlib.Core.Path.{◌≡◌, refl, sym, ap, ◌∙◌}
 use Prim.Native.Nat.{ℕ, suc, ◌+◌, ◌*◌, ◌≤◌}
 use mathlib.Core.Bool.{Bool, true, false, not, ◌&&◌, cond}
 use mathlib.Core.List.{List, [], ◌∷◌, ◌++◌, map}
-use mathlib.Core.Option.{Option, none, some}
 use lib.Dec.{eqb, leb}
 use lib.Ieee.{Float}
 use lib.ListN.{length, drop}
@@ -38,17 +38,17 @@ use Rattle.sound_facts.proofs.Room.{limits}
 -- ---- one row
 
 -- the mark of a line that may be missing
-mark-kept : (o : Option Line) (b : Bool) (x : Line) → o ≡ cond b (some x) none → not (eqb (present o) 0) ≡ b
+mark-kept : (o : Option Line) (b : Bool) (x : Line) → o ≡ cond b (Some x) None → not (eqb (present o) 0) ≡ b
 mark-kept o b x e = rw e (go b)
   where
-    go : (b : Bool) → not (eqb (present (cond b (some x) none)) 0) ≡ b
+    go : (b : Bool) → not (eqb (present (cond b (Some x) None)) 0) ≡ b
     go true = refl
     go false = refl
 
 module _ (c : List Float) (w : List ℕ) (l : Lane) (e : l.centerline ≡ (lane_of c w).centerline) where
   line_kept : option_line_at c 6 (lane_onto w l) ≡ l.centerline
   unfolding lane_onto lane_of
-  line_kept = ap (λ b. cond b (some (line_at c 7 w)) none) (mark-kept l.centerline (mark 6 w) (line_at c 7 w) e) ∙ sym e
+  line_kept = ap (λ b. cond b (Some (line_at c 7 w)) None) (mark-kept l.centerline (mark 6 w) (line_at c 7 w) e) ∙ sym e
 
   span-kept : center_span (lane_onto w l) ≡ center_span w
   unfolding lane_onto lane_of

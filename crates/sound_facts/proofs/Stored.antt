@@ -1,10 +1,10 @@
 -- A map written back of which only links and neighbours changed: the lane table changes, and nothing else. Assumes nothing.
+use Rattle.std.specs.Prelude.{Option, None, Some}
 use mathlib.Core.Path.{◌≡◌, refl, sym, ap, ◌∙◌}
 use Prim.Native.Nat.{ℕ, ◌*◌, ◌≤◌}
 use native.Mathlib.Omega.{arith}
 use mathlib.Core.Bool.{Bool, true, false, cond}
 use mathlib.Core.List.{List, [], ◌∷◌, map}
-use mathlib.Core.Option.{Option, none, some}
 use lib.Dec.{leb}
 use lib.Ieee.{Float}
 use lib.ListN.{length, get_or, take, drop, length-drop}
@@ -121,6 +121,6 @@ pub onto-any : (w : List ℕ) (c d : List Float) (ln rn : Option Neighbor) (ps s
 unfolding lane_onto lane_of
 onto-any w c d ln rn ps ss = rw (line (mark 6 w) (line_at c 7 w) (line_at d 7 w))
   where
-    line : (b : Bool) (x y : Line) → present (cond b (some x) none) ≡ present (cond b (some y) none)
+    line : (b : Bool) (x y : Line) → present (cond b (Some x) None) ≡ present (cond b (Some y) None)
     line true x y = refl
     line false x y = refl

@@ -1,6 +1,5 @@
 -- An edit of links and neighbours of every lane.
-use Rattle.std.specs.Prelude.{ℕ, Bool, ◌&&◌, List, map, leb, length}
-use Rattle.std.proofs.Math.Option.{Option}
+use Rattle.std.specs.Prelude.{ℕ, Bool, ◌&&◌, List, map, leb, length, Option}
 use Rattle.lists.specs.Every.{all}
 use Rattle.entities.specs.Records.{Lane, Map}
 use Rattle.entities.specs.declared.Neighbor.{Neighbor}

@@ -1,9 +1,9 @@
 -- Lines that are stored and share no point have together at most as many points as the store: at most 65,536 in all. Assumes nothing.
+use Rattle.std.specs.Prelude.{None, Some}
 use mathlib.Core.Path.{◌≡◌, refl, sym, ap, ◌∙◌}
 use mathlib.Core.Logic.{⊎_elim}
 use mathlib.Core.Bool.{Bool, true, false, not, cond, true≢false}
 use mathlib.Core.List.{List, [], ◌∷◌, ◌++◌, map}
-use mathlib.Core.Option.{none, some}
 use Prim.Native.Nat.{ℕ, zero, suc, ◌+◌, ◌*◌, ◌≤◌}
 use native.Mathlib.Omega.{arith}
 use lib.Dec.{leb}
@@ -79,10 +79,10 @@ falses_inside m s u h =
     omega (arith, p, q, r, e, falses_trues n)
 
 pub falses_marked : (m : List Bool) (s : Span) → unmarked m s ≡ true → within (length m) s ≡ true → falses (marked m s) + s.size ≡ falses m
-falses_marked m s u h = ⊎_elim none (falses_inside m s u) (within-cases (length m) s h)
+falses_marked m s u h = ⊎_elim None (falses_inside m s u) (within-cases (length m) s h)
   where
-    none : s.size ≡ 0 → falses (marked m s) + s.size ≡ falses m
-    none e = omega (arith, e, ap falses (marked-none m s e))
+    None : s.size ≡ 0 → falses (marked m s) + s.size ≡ falses m
+    None e = omega (arith, e, ap falses (marked-none m s e))
 
 -- ---- sums
 
@@ -160,7 +160,7 @@ center_most : (c : List Float) (w : List ℕ) → total (map length (optional_li
 unfolding lane_of total
 center_most c w = go (mark 6 w)
   where
-    go : (b : Bool) → total (map length (optional_line (cond b (some (line_at c 7 w)) none))) ≤ sizes (cond b (span_at 7 w ∷ []) [])
+    go : (b : Bool) → total (map length (optional_line (cond b (Some (line_at c 7 w)) None))) ≤ sizes (cond b (span_at 7 w ∷ []) [])
     go true = let h = line-most c 7 w in omega arith
     go false = omega arith
 

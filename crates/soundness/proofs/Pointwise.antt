@@ -1,8 +1,8 @@
 -- Row by row: what the definition asks of a row, and what the test of soundness asks.
+use Rattle.std.specs.Prelude.{None, Some}
 use mathlib.Core.Path.{◌≡◌, refl, sym, ap, ◌∙◌}
 use mathlib.Core.Bool.{Bool, true, false, not, ◌&&◌, ◌||◌, cond}
 use mathlib.Core.List.{List, [], ◌∷◌, ◌++◌}
-use mathlib.Core.Option.{none, some}
 use Prim.Native.Nat.{ℕ, zero, suc, ◌+◌, ◌*◌, ◌-◌, ◌/◌, ◌^◌, ◌≤◌, min}
 use native.Mathlib.Omega.{arith}
 use lib.Dec.{eqb, leb, ltb}
@@ -59,7 +59,7 @@ slot-names most k w = go (eqb (word k w) 0) (eqb (word k w) 1)
     one false = refl
 
     go : (x y : Bool)
-        → all (λ i. leb i most) (slot_id (cond x none (cond y (some (same (word (suc k) w))) (some (opposing (word (suc k) w)))))) ≡ (x || leb (word (suc k) w) most)
+        → all (λ i. leb i most) (slot_id (cond x None (cond y (Some (same (word (suc k) w))) (Some (opposing (word (suc k) w)))))) ≡ (x || leb (word (suc k) w) most)
     go true y = refl
     go false true = one (leb (word (suc k) w) most)
     go false false = one (leb (word (suc k) w) most)
@@ -113,8 +113,8 @@ center_same c w = go (mark 6 w)
   where
     go : (b : Bool)
         → (not b || line_good c (span_at 7 w))
-        ≡ (all (stored c) (cond b (span_at 7 w ∷ []) []) && all (λ x. leb (length x) 256) (optional_line (cond b (some (line_at c 7 w)) none))
-        && all (all in_reach) (optional_line (cond b (some (line_at c 7 w)) none)))
+        ≡ (all (stored c) (cond b (span_at 7 w ∷ []) []) && all (λ x. leb (length x) 256) (optional_line (cond b (Some (line_at c 7 w)) None))
+        && all (all in_reach) (optional_line (cond b (Some (line_at c 7 w)) None)))
     go true = line_same c (span_at 7 w) ∙ pad (stored c (span_at 7 w)) (leb (length (line_at c 7 w)) 256) (all in_reach (line_at c 7 w))
       where
         pad : (x y z : Bool) → (x && y && z) ≡ (x && true && (y && true) && (z && true))
@@ -139,7 +139,7 @@ word_ok (x ∷ w) (suc k) h = word_ok w k (and-snd (ok x) (all ok w) h)
 speed_ok : (w : List ℕ) → all ok w ≡ true → speed_legal (option_at 9 w) ≡ true
 speed_ok w h = go (mark 9 w)
   where
-    go : (b : Bool) → speed_legal (cond b (some (word 10 w)) none) ≡ true
+    go : (b : Bool) → speed_legal (cond b (Some (word 10 w)) None) ≡ true
     go true = word_ok w 10 h
     go false = refl
 

@@ -1,8 +1,8 @@
 -- Row by row, the rules: what the definition asks, and what the test asks.
+use Rattle.std.specs.Prelude.{None, Some}
 use mathlib.Core.Path.{◌≡◌, refl, sym, ap, ◌∙◌}
 use mathlib.Core.Bool.{Bool, true, false, not, ◌&&◌, ◌||◌, cond}
 use mathlib.Core.List.{List, ◌++◌}
-use mathlib.Core.Option.{none, some}
 use Prim.Native.Nat.{ℕ, suc, ◌+◌, ◌-◌, ◌≤◌}
 use native.Mathlib.Omega.{arith}
 use lib.Dec.{eqb, leb, ltb}
@@ -35,7 +35,7 @@ unfolding all
 where_good most true k w = refl
 where_good most false k w = refl
 
-crosswalk-named : (most : ℕ) (b : Bool) (i : ℕ) → all (λ j. leb j most) (optional_id (cond b (some i) none)) ≡ (not b || leb i most)
+crosswalk-named : (most : ℕ) (b : Bool) (i : ℕ) → all (λ j. leb j most) (optional_id (cond b (Some i) None)) ≡ (not b || leb i most)
 unfolding all
 crosswalk-named most true i = one (leb i most)
   where
@@ -62,7 +62,7 @@ rule-names : (most : ℕ) (w : List ℕ)
 unfolding rule_of all
 rule-names most w =
     ap (λ t. leb (word 0 w) most && t)
-    (six (λ i. leb i most) (optional_id (cond (eqb (word 1 w) 4) (some (word 4 w)) none)) (ids_at 5 w) (ids_at 70 w) (ids_where (not (eqb (word 1 w) 5)) 135 w)
+    (six (λ i. leb i most) (optional_id (cond (eqb (word 1 w) 4) (Some (word 4 w)) None)) (ids_at 5 w) (ids_at 70 w) (ids_where (not (eqb (word 1 w) 5)) 135 w)
     (ids_where (eqb (word 1 w) 3) 200 w) (ids_where (eqb (word 1 w) 3) 265 w)
     ∙ rw (
       crosswalk-named most (eqb (word 1 w) 4) (word 4 w),
@@ -86,7 +86,7 @@ ways-fit : (b : Bool) (w : List ℕ) → (b || (eqb (length (ids_where b 200 w))
 ways-fit true w = refl
 ways-fit false w = refl
 
-cross-fits : (b : Bool) (i : ℕ) → cond b (given (cond b (some i) none)) (not (given (cond b (some i) none))) ≡ true
+cross-fits : (b : Bool) (i : ℕ) → cond b (given (cond b (Some i) None)) (not (given (cond b (Some i) None))) ≡ true
 cross-fits true i = refl
 cross-fits false i = refl
 
@@ -117,7 +117,7 @@ legal-same w n f =
     let k = word 1 w in
     let stops = stop_lines_fit k (length (ids_where (not (eqb k 5)) 135 w)) in
     let ways = eqb k 3 || (eqb (length (ids_where (eqb k 3) 200 w)) 0 && eqb (length (ids_where (eqb k 3) 265 w)) 0) in
-    let cross = cond (eqb k 4) (given (cond (eqb k 4) (some (word 4 w)) none)) (not (given (cond (eqb k 4) (some (word 4 w)) none))) in
+    let cross = cond (eqb k 4) (given (cond (eqb k 4) (Some (word 4 w)) None)) (not (given (cond (eqb k 4) (Some (word 4 w)) None))) in
     ap (λ t. leb k 5 && t && stops && ways && cross) (content-fits (has_content k) (word 2 w))
     ∙ (ap (λ t. leb k 5 && true && stops && t && cross) (ways-fit (eqb k 3) w)
     ∙ (ap (λ t. leb k 5 && true && stops && true && t) (cross-fits (eqb k 4) (word 4 w))

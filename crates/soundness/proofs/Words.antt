@@ -1,8 +1,8 @@
 -- Every id that a map names is a word of its tables, so it is below 2 ^ 64.
+use Rattle.std.specs.Prelude.{None, Some}
 use mathlib.Core.Path.{◌≡◌, refl, ◌∙◌}
 use mathlib.Core.Bool.{Bool, true, false, not, cond}
 use mathlib.Core.List.{List, [], ◌∷◌, ◌++◌}
-use mathlib.Core.Option.{none, some}
 use Prim.Native.Nat.{ℕ, zero, suc}
 use lib.Dec.{eqb}
 use lib.ListN.{drop}
@@ -44,7 +44,7 @@ slot_ok k w o = go (eqb (word k w) 0) (eqb (word k w) 1)
     one : all ok (word (suc k) w ∷ []) ≡ true
     one = all_cons ok (word (suc k) w) [] (word_ok w (suc k) o) (all_nil ok)
 
-    go : (x y : Bool) → all ok (slot_id (cond x none (cond y (some (same (word (suc k) w))) (some (opposing (word (suc k) w)))))) ≡ true
+    go : (x y : Bool) → all ok (slot_id (cond x None (cond y (Some (same (word (suc k) w))) (Some (opposing (word (suc k) w)))))) ≡ true
     go true y = all_nil ok
     go false true = one
     go false false = one
@@ -57,7 +57,7 @@ lane-ok c w o =
     (all_cons ok (word 2 w) (word 4 w ∷ slot_id (slot_at 14 w)) (word_ok w 2 o) (all_cons ok (word 4 w) (slot_id (slot_at 14 w)) (word_ok w 4 o) (slot_ok 14 w o))))
     (all_append ok (slot_id (slot_at 16 w)) (ids_at 18 w ++ ids_at 35 w) (slot_ok 16 w o) (all_append ok (ids_at 18 w) (ids_at 35 w) (ids-ok 18 w o) (ids-ok 35 w o)))
 
-cross-ok : (b : Bool) (w : List ℕ) → all ok w ≡ true → all ok (optional_id (cond b (some (word 4 w)) none)) ≡ true
+cross-ok : (b : Bool) (w : List ℕ) → all ok w ≡ true → all ok (optional_id (cond b (Some (word 4 w)) None)) ≡ true
 cross-ok true w o = all_cons ok (word 4 w) [] (word_ok w 4 o) (all_nil ok)
 cross-ok false w o = all_nil ok
 
@@ -65,7 +65,7 @@ rule-ok : (w : List ℕ) → all ok w ≡ true → all ok (rule_names (rule_of w
 unfolding rule_of
 rule-ok w o =
     let k = word 1 w in
-    let cross = optional_id (cond (eqb k 4) (some (word 4 w)) none) in
+    let cross = optional_id (cond (eqb k 4) (Some (word 4 w)) None) in
     let stops = ids_where (not (eqb k 5)) 135 w in
     let first = ids_where (eqb k 3) 200 w in
     let last = ids_where (eqb k 3) 265 w in

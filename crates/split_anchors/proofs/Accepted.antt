@@ -1,10 +1,10 @@
 -- An accepted split of a sound map asks what these laws ask; and its rules are stored as their rows follow the marks. Assumes nothing.
+use Rattle.std.specs.Prelude.{Some, Ok}
 use mathlib.Core.Path.{◌≡◌, sym, ap, ◌∙◌}
 use Prim.Native.Nat.{ℕ}
 use native.Mathlib.Omega.{arith}
 use mathlib.Core.Bool.{Bool, true}
 use mathlib.Core.List.{List, map}
-use mathlib.Core.Option.{some}
 use lib.Dec.{ltb}
 use lib.Ieee.{Float}
 use lib.ListN.{length, take}
@@ -17,7 +17,7 @@ use Rattle.entities.specs.Records.{Lane, Map}
 use Rattle.rules.specs.Names.{Point2}
 use Rattle.rules.specs.Map.{lane, lane_ids}
 use Rattle.rules.specs.Sound.{sound, ids_named, next_id}
-use Rattle.rules.specs.Edit.{yield, Passed}
+use Rattle.rules.specs.Edit.{Passed}
 use Rattle.rules.specs.Split.{LanePlan, lane_plans, all_cross, halves, group_of}
 use Rattle.rules.proofs.Facts.{sound-facts}
 use Rattle.laws.proofs.Entities.{keys_of}
@@ -38,14 +38,14 @@ use Rattle.split_anchors.proofs.Told.{rule_told}
 use Rattle.split_anchors.proofs.Followed.{rules-told}
 
 module _ (tol : Tolerance) (counter : ℕ) (m : Map) (sane : sound counter m ≡ true) (low : all (λ j. ltb j (next_id counter)) (ids_named m) ≡ true)
-    (i : ℕ) (l : Lane) (found : lane m i ≡ some l) (neighbors : Bool) (at : Float) (p : Point2) (ps : List LanePlan) where
+    (i : ℕ) (l : Lane) (found : lane m i ≡ Some l) (neighbors : Bool) (at : Float) (p : Point2) (ps : List LanePlan) where
   abbrev group : List ℕ
   group = group_of m i neighbors
 
   abbrev new : ℕ
   new = next m ps group (cut_of m group) p (next_id counter)
 
-  pub cut-accepted : lane_plans tol m i at p (cut_of m group) ≡ yield ps → (k : Passed) → all_cross m p (cut_of m group) ≡ yield k → Cut m ps group (cut_of m group) p (next_id counter)
+  pub cut-accepted : lane_plans tol m i at p (cut_of m group) ≡ Ok ps → (k : Passed) → all_cross m p (cut_of m group) ≡ Ok k → Cut m ps group (cut_of m group) p (next_id counter)
   cut-accepted plans k cross =
       let keys = keys_of m (sound-facts counter m sane).ids in
       record {

@@ -1,11 +1,11 @@
 -- Where the marks of a rule stand among those of all rules, one rule behind the other. Assumes nothing.
+use Rattle.std.specs.Prelude.{Option, None, Some}
 use mathlib.Core.Path.{◌≡◌, refl, sym, ap, ◌∙◌}
 use Prim.Native.Nat.{ℕ, zero, suc, ◌+◌, ◌*◌, ◌≤◌, ◌<◌}
 use native.Mathlib.Nat.{le_of_suc-le-suc, not-suc-le-zero}
 use native.Mathlib.Omega.{arith}
 use mathlib.Core.Bool.{Bool, false}
 use mathlib.Core.List.{List, [], ◌∷◌, ◌++◌, map}
-use mathlib.Core.Option.{Option, none, some}
 use lib.Ieee.{Float}
 use lib.ListN.{length, get_or, take, drop, length-map, get_or-append}
 use lib.Seq.{drop-drop, length-take-le, get_or-take, get_or-drop, get_or-append-add}
@@ -59,8 +59,8 @@ module _ (join : Float) (c : List Float) (lanes boundaries : List ℕ) (p : Poin
   marks-small w h = go (anchor_of c stops crosswalks cut w)
     where
       go : (o : Option Point2) → length (marks_by join c lanes boundaries p cut stations o (ids_at 5 w)) ≤ 64
-      go none = omega arith
-      go (some a) = rw length-map h
+      go None = omega arith
+      go (Some a) = rw length-map h
 
   module _ (i : ℕ) (w : List ℕ) (ws : List (List ℕ)) (past : List Bool) (s : Small (w ∷ ws)) (l : (i + suc (length ws)) * 64 ≤ length past) where
     first-few : length (marks_in w) ≤ 64
@@ -111,7 +111,7 @@ module _ (join : Float) (c : List Float) (lanes boundaries : List ℕ) (p : Poin
         let z : 0 + i ≡ i = omega arith in
         rw z at (over-at anchored 0 (map f ws) i false n (omega arith)) ∙ (map_at f ws i [] false l ∙ ap f (rows_at t i d))
 
-    pub mark-at : (a : Point2) → anchor_of c stops crosswalks cut row ≡ some a → (k : ℕ) → k < length (ids_at 5 row)
+    pub mark-at : (a : Point2) → anchor_of c stops crosswalks cut row ≡ Some a → (k : ℕ) → k < length (ids_at 5 row)
         → get_or (marks_of (past_by join c lanes boundaries p cut stations stops crosswalks t past) i) k false ≡ lane_past join c lanes boundaries p cut stations a (get_or (ids_at 5 row) k 0)
     mark-at a e k h =
         let ws = rows 330 (λ (w : List ℕ). w) t in

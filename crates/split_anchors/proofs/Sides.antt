@@ -1,8 +1,8 @@
 -- The boundaries of the map after the cut, under the ids of the pieces, and a half's boundary along it. Assumes nothing.
+use Rattle.std.specs.Prelude.{Option, None, Some}
 use mathlib.Core.Path.{◌≡◌, refl, sym, ap, ◌∙◌}
 use mathlib.Core.Bool.{Bool, true, false, not, ◌||◌, cond}
 use mathlib.Core.List.{List, [], ◌∷◌, map}
-use mathlib.Core.Option.{Option, none, some}
 use Prim.Native.Nat.{ℕ, suc, ◌+◌, ◌≤◌}
 use native.Mathlib.Omega.{arith}
 use lib.Dec.{eqb, ltb, leb}
@@ -47,8 +47,8 @@ module _ (group : List ℕ) (ls : List Lane) (p : Point2) where
       where
         go : (o : Option Float) → station b.geometry p ≡ o → piece_of group ls p k b
             ≡ record { of = b; alone = alone; first = cond alone b.id k; second = cond alone k (suc k); first_line = first_line_of p b.geometry; second_line = second_line_of p b.geometry }
-        go none e = rw e
-        go (some s) e = rw e
+        go None e = rw e
+        go (Some s) e = rw e
 
   pub pieces_of : (next : ℕ) (bs : List Boundary) → map (λ x. x.of) (pieces group ls p next bs) ≡ bs
   unfolding pieces
@@ -95,16 +95,16 @@ module _ (m : Map) (ps : List LanePlan) (group : List ℕ) (ls : List Lane) (p :
         ∙ ap (λ o. or_else o (find (λ b. eqb b.id i) (each new_pieces parts))) (found_map (λ b. b.id) (cut_boundary parts) (drawn-id parts) i m.boundaries)
 
     -- a new piece is found by its id
-    new-found : (b : Boundary) → In b (each new_pieces parts) → boundary after b.id ≡ some b
+    new-found : (b : Boundary) → In b (each new_pieces parts) → boundary after b.id ≡ Some b
     new-found b i =
         let a : start ≤ b.id = leb-true start b.id (all_in (λ c. leb start c.id) (each new_pieces parts) b i new-above) in
-        let z : boundary m b.id ≡ none =
+        let z : boundary m b.id ≡ None =
         unfold boundary in find_none (λ c. eqb c.id b.id) (λ c. ltb c.id start) m.boundaries (sym (all_map (λ j. ltb j start) (λ c. c.id) m.boundaries) ∙ h.fresh)
         (λ c t. let u = ltb-true c.id start t in ne_eqb c.id b.id (λ q. omega arith)) in
         found_after b.id ∙ rw z (in_found (λ c. c.id) (each new_pieces parts) b new-up i)
 
     -- the piece of a boundary that a cut lane uses
-    module _ (b : Boundary) (e : boundary m b.id ≡ some b) (u : any (uses b.id) ls ≡ true) where
+    module _ (b : Boundary) (e : boundary m b.id ≡ Some b) (u : any (uses b.id) ls ≡ true) where
       abbrev Cut : ℕ → Type 0
       Cut k = In (piece_of group m.lanes p k b) parts
 
@@ -112,9 +112,9 @@ module _ (m : Map) (ps : List LanePlan) (group : List ℕ) (ls : List Lane) (p :
       piece_in = piece-of group m.lanes p start cutting b (in_kept (λ c. any (uses c.id) ls) m.boundaries b (unfold boundary in found_in (λ c. eqb c.id b.id) m.boundaries b e) u)
 
       pub record PieceOf (x : Piece) : Type 0 where
-        pub found : piece_for parts b.id ≡ some x
-        pub first : boundary after x.first ≡ some (new_piece b x.first (first_line_of p b.geometry))
-        pub second : boundary after x.second ≡ some (new_piece b x.second (second_line_of p b.geometry))
+        pub found : piece_for parts b.id ≡ Some x
+        pub first : boundary after x.first ≡ Some (new_piece b x.first (first_line_of p b.geometry))
+        pub second : boundary after x.second ≡ Some (new_piece b x.second (second_line_of p b.geometry))
 
       abbrev made : ℕ → Bool → Piece
       made k a = record { of = b; alone = a; first = cond a b.id k; second = cond a k (suc k); first_line = first_line_of p b.geometry; second_line = second_line_of p b.geometry }
@@ -127,7 +127,7 @@ module _ (m : Map) (ps : List LanePlan) (group : List ℕ) (ls : List Lane) (p :
               let f = in_found (λ x. x.of.id) parts (made k true) pieces_up j in
               record {
                 found = f;
-                first = found_after b.id ∙ rw e (ap (λ o. some (drawn_by b o)) f);
+                first = found_after b.id ∙ rw e (ap (λ o. Some (drawn_by b o)) f);
                 second = new-found (new_piece b k (second_line_of p b.geometry)) (in_each new_pieces parts (made k true) (new_piece b k (second_line_of p b.geometry)) j here);
               }
           go false j =
@@ -142,19 +142,19 @@ module _ (m : Map) (ps : List LanePlan) (group : List ℕ) (ls : List Lane) (p :
 
     -- ---- a half's boundary along it
 
-    module _ (c : List Float) (boundaries : List ℕ) (same : m.boundaries ≡ rows 5 (boundary_of c) boundaries) (r : BoundaryRef) (b : Boundary) (e : boundary m r.boundary ≡ some b) (u : any (uses r.boundary) ls ≡ true) where
+    module _ (c : List Float) (boundaries : List ℕ) (same : m.boundaries ≡ rows 5 (boundary_of c) boundaries) (r : BoundaryRef) (b : Boundary) (e : boundary m r.boundary ≡ Some b) (u : any (uses r.boundary) ls ≡ true) where
       its : b.id ≡ r.boundary
       unfolding boundary
       its = eqb-true b.id r.boundary (found-passes (λ c. eqb c.id r.boundary) m.boundaries b e)
 
-      old : boundary (drawn c boundaries) r.boundary ≡ some b
+      old : boundary (drawn c boundaries) r.boundary ≡ Some b
       unfolding boundary
       old = ap (find (λ c. eqb c.id r.boundary)) (sym same) ∙ e
 
       abbrev Sided : (List Piece → BoundaryRef → BoundaryRef) → Bool → Type 0
       Sided ref second = oriented_in (ref parts r) (boundary after (ref parts r).boundary) ≡ half_side c boundaries p second r
 
-      own : boundary m b.id ≡ some b
+      own : boundary m b.id ≡ Some b
       own = ap (boundary m) its ∙ e
 
       used : any (uses b.id) ls ≡ true
@@ -163,22 +163,22 @@ module _ (m : Map) (ps : List LanePlan) (group : List ℕ) (ls : List Lane) (p :
       sides : (x : Piece) → PieceOf b own used x → (Sided first_ref false) × (Sided second_ref true)
       unfolding oriented
       sides x h =
-          let f : piece_for parts r.boundary ≡ some x = rw its at h.found in
+          let f : piece_for parts r.boundary ≡ Some x = rw its at h.found in
           let whole : (ref : Option Piece → BoundaryRef) (second : Bool)
-          → oriented_in (ref (some x)) (boundary after (ref (some x)).boundary) ≡ some (along r.reversed (half_of (takes_second second r.reversed) p b.geometry))
+          → oriented_in (ref (Some x)) (boundary after (ref (Some x)).boundary) ≡ Some (along r.reversed (half_of (takes_second second r.reversed) p b.geometry))
           → oriented_in (ref (piece_for parts r.boundary)) (boundary after (ref (piece_for parts r.boundary)).boundary) ≡ half_side c boundaries p second r =
           λ ref second q.
           ap (λ o. oriented_in (ref o) (boundary after (ref o).boundary)) f
-          ∙ (q ∙ sym (ap (λ (o : Option Boundary). elim o [ none ↦ none | some b ↦ some (along r.reversed (half_of (takes_second second r.reversed) p b.geometry)) ]) old)) in (
-            whole (λ (o : Option Piece). elim o [ none ↦ r | some x ↦ record { boundary = cond r.reversed x.second x.first; reversed = r.reversed } ]) false (one r.reversed),
-            whole (λ (o : Option Piece). elim o [ none ↦ r | some x ↦ record { boundary = cond r.reversed x.first x.second; reversed = r.reversed } ]) true (two r.reversed),
+          ∙ (q ∙ sym (ap (λ (o : Option Boundary). elim o [ None ↦ None | Some b ↦ Some (along r.reversed (half_of (takes_second second r.reversed) p b.geometry)) ]) old)) in (
+            whole (λ (o : Option Piece). elim o [ None ↦ r | Some x ↦ record { boundary = cond r.reversed x.second x.first; reversed = r.reversed } ]) false (one r.reversed),
+            whole (λ (o : Option Piece). elim o [ None ↦ r | Some x ↦ record { boundary = cond r.reversed x.first x.second; reversed = r.reversed } ]) true (two r.reversed),
           )
         where
-          one : (v : Bool) → oriented_in (record { boundary = cond v x.second x.first; reversed = v }) (boundary after (cond v x.second x.first)) ≡ some (along v (half_of (takes_second false v) p b.geometry))
+          one : (v : Bool) → oriented_in (record { boundary = cond v x.second x.first; reversed = v }) (boundary after (cond v x.second x.first)) ≡ Some (along v (half_of (takes_second false v) p b.geometry))
           one true = rw h.second
           one false = rw h.first
 
-          two : (v : Bool) → oriented_in (record { boundary = cond v x.first x.second; reversed = v }) (boundary after (cond v x.first x.second)) ≡ some (along v (half_of (takes_second true v) p b.geometry))
+          two : (v : Bool) → oriented_in (record { boundary = cond v x.first x.second; reversed = v }) (boundary after (cond v x.first x.second)) ≡ Some (along v (half_of (takes_second true v) p b.geometry))
           two true = rw h.first
           two false = rw h.second
 

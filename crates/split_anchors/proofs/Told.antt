@@ -1,17 +1,15 @@
 -- The marks that are found before the cut say of every rule what document 01 says of it in the map after the cut. Assumes nothing.
+use Rattle.std.specs.Prelude.{Option, None, Some}
 use mathlib.Core.Path.{◌≡◌, refl, sym, ap, ◌∙◌}
 use mathlib.Core.Logic.{◌⊎◌, inl, inr}
 use Prim.Native.Nat.{ℕ, suc, ◌<◌}
 use mathlib.Core.Bool.{Bool, true, false, cond}
 use mathlib.Core.List.{List, [], ◌∷◌, map}
-use mathlib.Core.Option.{Option, none, some}
 use lib.Ieee.{Float}
 use lib.ListN.{length, get_or, take, length-map}
 use lib.Seq.{get_or-take}
 use Rattle.lists.specs.Rows.{over, row_with}
 use Rattle.lists.specs.Select.{any, ascending, has}
-use Rattle.lists.specs.declared.Found.{Found}
-use Rattle.lists.specs.declared.Found.TheVariants.{At, Nothing}
 use Rattle.lists.proofs.Rows.{row-at}
 use Rattle.geometry.specs.Float.{zeroᶠ}
 use Rattle.entities.specs.Records.{Lane, Rule, Map}
@@ -42,8 +40,8 @@ marks-each side past ids n [] h = refl
 marks-each side past ids n (x ∷ ps) h = (h n x here, marks-each side past ids (suc n) ps (λ j y i. h j y (there i)))
 
 there-some : (o : Option Point2) → is_there o ≡ is_some o
-there-some none = refl
-there-some (some a) = refl
+there-some None = refl
+there-some (Some a) = refl
 
 lane-key : (c : List Float) (w : List ℕ) → (lane_of c w).id ≡ word 0 w
 unfolding lane_of
@@ -81,23 +79,23 @@ module _ (m : Map) (ps : List LanePlan) (group : List ℕ) (ls : List Lane) (p :
         let r = place_in ps x pl in
         let l : r < length ps = place-within ps x pl in
         let k : r < length (cut_ids ps) = rw length-map l in
-        let e : row_with x.of.id (cut_ids ps) ≡ At r = row-at x.of.id r (cut_ids ps) cuts-up k (place_map (λ x. x.of.id) 0 ps x pl) in
+        let e : row_with x.of.id (cut_ids ps) ≡ Some r = row-at x.of.id r (cut_ids ps) cuts-up k (place_map (λ x. x.of.id) 0 ps x pl) in
         let s : get_or stations r zeroᶠ ≡ x.station = sym (get_or-take (length ps) stations r zeroᶠ l) ∙ (ap (λ ss. get_or ss r zeroᶠ) placed ∙ place_map (λ x. x.station) zeroᶠ ps x pl) in
         ap (rank_past join c lanes boundaries p stations a x.of.id) e
         ∙ (ap (λ s. found_past join c lanes boundaries p s a (place_of 52 lanes x.of.id)) s ∙ go (place_of 52 lanes x.of.id) refl)
       where
-        before : lane m x.of.id ≡ some x.of
+        before : lane m x.of.id ≡ Some x.of
         before = lane-before m ps group ls p start h c boundaries same_lines j x i
 
-        none-there : place_of 52 lanes x.of.id ≡ Nothing → lane m x.of.id ≡ none
+        none-there : place_of 52 lanes x.of.id ≡ None → lane m x.of.id ≡ None
         none-there q = unfold lane in rw same-lanes (find_none 52 (lane_of c) (λ l. l.id) (lane-key c) lanes x.of.id q)
 
-        one-there : (k : ℕ) → place_of 52 lanes x.of.id ≡ At k → lane m x.of.id ≡ some (lane_of c (row_at 52 lanes k))
+        one-there : (k : ℕ) → place_of 52 lanes x.of.id ≡ Some k → lane m x.of.id ≡ Some (lane_of c (row_at 52 lanes k))
         one-there k q = unfold lane in rw same-lanes (find_at 52 (lane_of c) (λ l. l.id) (lane-key c) lanes x.of.id k q)
 
-        go : (f : Found) → place_of 52 lanes x.of.id ≡ f → found_past join c lanes boundaries p x.station a f ≡ on_second join then x j a
-        go Nothing q = absurd (no-some x.of (sym (none-there q) ∙ before))
-        go (At k) q = sym (past_is m ps group ls p start h c boundaries same_lines j x i join lanes k (some_is (sym (one-there k q) ∙ before)) a)
+        go : (f : Option ℕ) → place_of 52 lanes x.of.id ≡ f → found_past join c lanes boundaries p x.station a f ≡ on_second join then x j a
+        go None q = absurd (no-some x.of (sym (none-there q) ∙ before))
+        go (Some k) q = sym (past_is m ps group ls p start h c boundaries same_lines j x i join lanes k (some_is (sym (one-there k q) ∙ before)) a)
 
     -- the marks of a rule's row: those that document 01 asks for, or it names no cut lane
     module _ (stops crosswalks : List ℕ) (same-stops : m.stop_lines ≡ rows 4 (stop_line_of c) stops) (same-crosswalks : m.crosswalks ≡ rows 7 (crosswalk_of c) crosswalks)
@@ -115,7 +113,7 @@ module _ (m : Map) (ps : List LanePlan) (group : List ℕ) (ls : List Lane) (p :
       marks = marks_of (past_by join c lanes boundaries p (cut_ids ps) stations stops crosswalks t past) i
 
       anchor_named : named ≡ true → anchor_of c stops crosswalks (cut_ids ps) row ≡ rule_anchor then (rule_of row)
-      anchor_named q = ap (λ b. cond b (rule_anchor (crossed c stops crosswalks) (rule_of row)) none) q ∙ sym (anchor_after c stops crosswalks same-stops same-crosswalks (rule_of row))
+      anchor_named q = ap (λ b. cond b (rule_anchor (crossed c stops crosswalks) (rule_of row)) None) q ∙ sym (anchor_after c stops crosswalks same-stops same-crosswalks (rule_of row))
 
       pub rule-marked : named ≡ true → RuleMarked join then has_anchor marks new ps row
       rule-marked q =
@@ -130,7 +128,7 @@ module _ (m : Map) (ps : List LanePlan) (group : List ℕ) (ls : List Lane) (p :
       pub rule-unmarked : named ≡ false → has_anchor ≡ false
       rule-unmarked q =
           anchored-at join c lanes boundaries p (cut_ids ps) stations stops crosswalks t anchored past g i d
-          ∙ ap (λ b. is_there (cond b (rule_anchor (crossed c stops crosswalks) (rule_of row)) none)) q
+          ∙ ap (λ b. is_there (cond b (rule_anchor (crossed c stops crosswalks) (rule_of row)) None)) q
 
       pub rule_told : (RuleMarked join then has_anchor marks new ps row) ⊎ ((named ≡ false) × (has_anchor ≡ false))
       rule_told = go named refl

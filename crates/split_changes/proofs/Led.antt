@@ -1,9 +1,9 @@
 -- What a split lists as modified among lanes is the definition's: those that are cut, and those that a cut lane leads to. Assumes nothing.
+use Rattle.std.specs.Prelude.{Some}
 use mathlib.Core.Path.{◌≡◌, refl, ap, ◌∙◌, sym}
 use Prim.Native.Nat.{ℕ}
 use mathlib.Core.Bool.{Bool, true, false, ◌&&◌, ◌||◌}
 use mathlib.Core.List.{List, [], ◌∷◌, ◌++◌, map}
-use mathlib.Core.Option.{some}
 use lib.Dec.{eqb}
 use lib.Ieee.{Float}
 use Rattle.lists.specs.Select.{any, has, keep, ascending}
@@ -59,7 +59,7 @@ any-cut p xs (i ∷ cut) =
 
 module _ (m : Map) (up : ascending (lane_ids m) ≡ true) (recip : links_reciprocal m ≡ true) (cut : List ℕ) where
   -- links are reciprocal: a cut lane leads to a lane that names it among its predecessors
-  led : (l : Lane) → lane m l.id ≡ some l → any (λ g. has g.id cut && has l.id g.successors) m.lanes ≡ any (λ i. has i cut) l.predecessors
+  led : (l : Lane) → lane m l.id ≡ Some l → any (λ g. has g.id cut && has l.id g.successors) m.lanes ≡ any (λ i. has i cut) l.predecessors
   unfolding leads_to
   led l e =
       any-cut (λ g. has l.id g.successors) m.lanes cut

@@ -1,4 +1,6 @@
 -- What the functions that measure a split ask, of a split whose boundaries are marked. Assumes nothing.
+use Rattle.std.specs.Prelude.{Option, None, Some}
+use Rattle.polyline.specs.declared.NearestPoint.{NearestPoint}
 use mathlib.Core.Path.{◌≡◌, refl, sym, ap, ◌∙◌}
 use Prim.Native.Nat.{ℕ, suc, ◌+◌, ◌-◌, ◌*◌, ◌/◌, ◌^◌, ◌≤◌, ◌<◌, min}
 use native.Mathlib.Omega.{arith}
@@ -20,7 +22,7 @@ use Rattle.polyline.proofs.Counts.{length-slice-le}
 use Rattle.geometry.specs.Float.{zeroᶠ}
 use Rattle.entities.specs.declared.Tolerance.{Tolerance}
 use Rattle.entities.specs.Records.{Line}
-use Rattle.rules.specs.Names.{Point2, OptionNearest, NoNearest, ANearest}
+use Rattle.rules.specs.Names.{Point2}
 use Rattle.rules.specs.Sound.{next_id}
 use Rattle.tables.specs.View.{Tables, word, part, rows}
 use Rattle.tables.specs.Formed.{spans, span_at, stored, counted}
@@ -73,10 +75,10 @@ keys-rows t = sym (mapped-reads 5 (λ (w : List ℕ). w) (word 0) (word 0 t) (dr
 pub both-near : (p : Point2) (l : Line) → length l ≤ 256 → (length (first_line_of p l) ≤ 258) × (length (second_line_of p l) ≤ 258)
 both-near p l h = go (nearest_point l p) refl
   where
-    go : (o : OptionNearest) → o ≡ nearest_point l p → (length (first_line_of p l) ≤ 258) × (length (second_line_of p l) ≤ 258)
-    go NoNearest e = rw (first-none p l NoNearest e refl, second_none p l NoNearest e refl) (omega arith, omega arith)
-    go (ANearest n) e =
-        rw (first_some p l (ANearest n) e n refl, second-some p l (ANearest n) e n refl)
+    go : (o : Option NearestPoint) → o ≡ nearest_point l p → (length (first_line_of p l) ≤ 258) × (length (second_line_of p l) ≤ 258)
+    go None e = rw (first-none p l None e refl, second_none p l None e refl) (omega arith, omega arith)
+    go (Some n) e =
+        rw (first_some p l (Some n) e n refl, second-some p l (Some n) e n refl)
         (unfold first_piece second_piece in (omega (arith, length-slice-le l zeroᶠ n.station), omega (arith, length-slice-le l n.station (line_length l))))
 
 pub drawn-near : (p : Point2) (ls : List Line) → all (λ l. leb (length l) 256) ls ≡ true → length (drawn_pieces p ls) ≤ length ls * 516

@@ -1,10 +1,10 @@
 -- What is known of a split whose lanes are planned: of the lent tables, the group, its plans and their ids. Assumes nothing.
+use Rattle.std.specs.Prelude.{Some}
 use mathlib.Core.Path.{◌≡◌, refl, sym, ap, ◌∙◌, subst}
 use Prim.Native.Nat.{ℕ, ◌+◌, ◌^◌, ◌<◌}
 use native.Mathlib.Omega.{arith}
 use mathlib.Core.Bool.{Bool, true, false}
 use mathlib.Core.List.{List, map}
-use mathlib.Core.Option.{some}
 use lib.Dec.{leb, ltb}
 use lib.Ieee.{Float}
 use lib.ListN.{length, length-map, replicate}
@@ -70,7 +70,7 @@ module _ {tol : Tolerance} {counter : ℕ} {t : Tables} {own : ℕ} {p : Point2}
   pub sound-view : sound counter (view t) ≡ true
   sound-view = sound-map counter t k.sane
 
-  pub found : lane (view t) own ≡ some (lane_of t.coordinates (row_at 52 t.lanes k.row))
+  pub found : lane (view t) own ≡ Some (lane_of t.coordinates (row_at 52 t.lanes k.row))
   found = lane-there t own k.row k.there
 
   -- ---- the group

@@ -1,10 +1,10 @@
 -- The tables with lines that a split leaves are those of the map that document 01 makes, laid out anew; and what the code that leaves them asks. Assumes nothing.
+use Rattle.std.specs.Prelude.{Option, None, Some}
 use mathlib.Core.Path.{◌≡◌, refl, sym, ap, ◌∙◌, subst}
 use Prim.Native.Nat.{ℕ, ◌+◌, ◌-◌, ◌*◌, ◌/◌, ◌≤◌, ◌<◌}
 use native.Mathlib.Omega.{arith}
 use mathlib.Core.Bool.{Bool, true, false, not, ◌&&◌, cond}
 use mathlib.Core.List.{List, ◌++◌, map, map-append}
-use mathlib.Core.Option.{Option, none, some}
 use lib.Dec.{eqb, leb, ltb}
 use lib.Ieee.{Float, binary64, of_bits}
 use lib.ListN.{length, take, drop, length-map, length-drop, length-replicate}
@@ -145,14 +145,14 @@ module _ {tol : Tolerance} {counter : ℕ} {t : Tables} {own : ℕ} {stations : 
       (all-picked (λ w. eqb (length w) 52 && lane_formed w) k.seen (rows 52 (λ w. w) t.lanes) good-rows)
 
   -- a plan that is found is of the lane with that id
-  planned-lane : (i : ℕ) (x : LanePlan) → plan_for ps i ≡ some x → lane (view t) i ≡ some x.of
+  planned-lane : (i : ℕ) (x : LanePlan) → plan_for ps i ≡ Some x → lane (view t) i ≡ Some x.of
   planned-lane i x e = go (found_by_first ps (next_id counter + pieces_ids xs) i) refl
     where
-      go : (o : Option Numbered) → found_by_first ps (next_id counter + pieces_ids xs) i ≡ o → lane (view t) i ≡ some x.of
-      go none f = absurd (no-some x (sym (plan-is (view t) ps (next_id counter + pieces_ids xs) i ∙ ap (mapped (λ z. z.1)) f) ∙ e))
-      go (some z) f =
+      go : (o : Option Numbered) → found_by_first ps (next_id counter + pieces_ids xs) i ≡ o → lane (view t) i ≡ Some x.of
+      go None f = absurd (no-some x (sym (plan-is (view t) ps (next_id counter + pieces_ids xs) i ∙ ap (mapped (λ z. z.1)) f) ∙ e))
+      go (Some z) f =
           let q : z.1 ≡ x = some_is (sym (plan-is (view t) ps (next_id counter + pieces_ids xs) i ∙ ap (mapped (λ z. z.1)) f) ∙ e) in
-          first_lane (view t) ps (next_id counter + pieces_ids xs) (F.accepted h.number).lanes.choice i z f ∙ ap (λ (y : LanePlan). some y.of) q
+          first_lane (view t) ps (next_id counter + pieces_ids xs) (F.accepted h.number).lanes.choice i z f ∙ ap (λ (y : LanePlan). Some y.of) q
 
   -- ---- every row of the lanes
 
@@ -169,7 +169,7 @@ module _ {tol : Tolerance} {counter : ℕ} {t : Tables} {own : ℕ} {stations : 
   row_up j l = ((F.known plan).links-ascend j l).0
 
   -- the lane of a row, by its id
-  row-lane : (j : ℕ) → j < word 0 t.lanes → lane (view t) (word 0 (row_at 52 t.lanes j)) ≡ some (lane_of c (row_at 52 t.lanes j))
+  row-lane : (j : ℕ) → j < word 0 t.lanes → lane (view t) (word 0 (row_at 52 t.lanes j)) ≡ Some (lane_of c (row_at 52 t.lanes j))
   unfolding lane view lane_of
   row-lane j l = find_at 52 (lane_of c) (λ x. x.id) (λ w. refl) t.lanes (word 0 (row_at 52 t.lanes j)) j (own-place 1024 52 t.lanes (F.known plan).drawable.lanes_are_sorted j l)
 

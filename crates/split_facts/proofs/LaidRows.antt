@@ -1,10 +1,10 @@
 -- What the words of pieces and measures say of the halves of cut lanes, how many points the pieces have, and where the drawn lines lie. Assumes nothing.
+use Rattle.std.specs.Prelude.{Option, None, Some, Ok}
 use mathlib.Core.Path.{◌≡◌, refl, sym, ap, ◌∙◌, subst}
 use Prim.Native.Nat.{ℕ, zero, suc, ◌+◌, ◌*◌, ◌≤◌, ◌<◌}
 use native.Mathlib.Omega.{arith}
 use mathlib.Core.Bool.{Bool, true, false, not, ◌&&◌, cond}
 use mathlib.Core.List.{List, [], ◌∷◌, ◌++◌, map, append_assoc}
-use mathlib.Core.Option.{Option, none, some}
 use lib.Dec.{eqb, leb, ltb}
 use lib.Ieee.{Float}
 use lib.ListN.{length, get_or, take, drop, length-append, length-drop}
@@ -13,8 +13,6 @@ use borrow.Author.Tests.{eqb-true, eqb-false, eq-eqb, ltb-true, le-leb}
 use Rattle.lists.specs.Every.{all}
 use Rattle.lists.specs.Rows.{reads, over, keys, row_with, later}
 use Rattle.lists.specs.Select.{find, each, has}
-use Rattle.lists.specs.declared.Found.{Found}
-use Rattle.lists.specs.declared.Found.TheVariants.{At, Nothing}
 use Rattle.lists.proofs.Booleans.{and_both, and-fst, and-snd}
 use Rattle.lists.proofs.Every.{all_head, all_tail}
 use Rattle.lists.proofs.Rows.{length-keys, get_d_reads, row-at, over-over}
@@ -26,7 +24,7 @@ use Rattle.polyline.proofs.Points.{length-flat}
 use Rattle.rules.specs.Names.{Tolerance, BoundaryRef, Point2, Left, Right}
 use Rattle.rules.specs.Map.{station, centerline, explicit_or, derived, oriented_boundary}
 use Rattle.rules.specs.Sound.{total}
-use Rattle.rules.specs.Edit.{Res, yield, ◌>>=◌, check, require}
+use Rattle.rules.specs.Edit.{Res, ◌>>=◌, check, require}
 use Rattle.rules.specs.Split.{Piece, LanePlan, center_piece, cuttable, lane_plan, lane_plans, piece_for, plan_for, first_ref, second_ref, pieces_ids, second_halves}
 use Rattle.laws.proofs.Lawful.{yields, no-yield}
 use Rattle.laws.proofs.SplitPlans.{bound}
@@ -66,7 +64,7 @@ unfolding rows
 rows_long limit s t h = reads-long s (word 0 t) (drop 1 t) (rows-room limit s t h)
 
 -- row i is where its own id is found
-pub own-place : (limit s : ℕ) (t : List ℕ) → sorted_table limit s t ≡ true → (i : ℕ) → i < word 0 t → place_of s t (word 0 (row_at s t i)) ≡ At i
+pub own-place : (limit s : ℕ) (t : List ℕ) → sorted_table limit s t ≡ true → (i : ℕ) → i < word 0 t → place_of s t (word 0 (row_at s t i)) ≡ Some i
 unfolding place_of keys
 own-place limit s t h i l =
     let k : i < length (keys s (word 0 t) (drop 1 t)) = rw (length-keys s (word 0 t) (drop 1 t)) l in
@@ -92,10 +90,10 @@ halves-from xs hs m n (x ∷ ps) l = and_both (leb m n) (all (λ l. leb m l.id) 
 
 -- both are there, or none is
 abbrev pub Both : Option Line → Option Line → Type 0
-Both none none = ◌≡◌ {A = ℕ} 0 0
-Both none (some l) = ⊥
-Both (some c) none = ⊥
-Both (some c) (some l) = ◌≡◌ {A = ℕ} 0 0
+Both None None = ◌≡◌ {A = ℕ} 0 0
+Both None (Some l) = ⊥
+Both (Some c) None = ⊥
+Both (Some c) (Some l) = ◌≡◌ {A = ℕ} 0 0
 
 -- each half of a planned lane has a centreline where the lane has one
 abbrev pub Lined : LanePlan → Type 0
@@ -106,32 +104,32 @@ module _ (tol : Tolerance) (m : Map) (own : ℕ) (at : Float) (p : Point2) where
   plan_at l s = record { of = l; station = s; first_center = center_piece first_piece l.centerline p; second_center = center_piece second_piece l.centerline p }
 
   abbrev checked_at : Lane → Line → Float → Res LanePlan
-  checked_at l c s = check (cuttable tol.piece c s) (R.PositionOutside l.id) >>= (λ ok. yield (plan_at l s))
+  checked_at l c s = check (cuttable tol.piece c s) (R.PositionOutside l.id) >>= (λ ok. Ok (plan_at l s))
 
   abbrev near_at : Lane → Line → Res LanePlan
   near_at l c = require (station c p) (R.NoUsableLine l.id) >>= (λ near. checked_at l c (cond (eqb l.id own) at near))
 
-  plan-lined : (l : Lane) (x : LanePlan) → lane_plan tol m own at p l ≡ yield x → Lined x
+  plan-lined : (l : Lane) (x : LanePlan) → lane_plan tol m own at p l ≡ Ok x → Lined x
   unfolding lane_plan
   plan-lined l x h =
       let (c, e1, h1) = bound (require (centerline m l) (R.NoUsableLine l.id)) (near_at l) x h in
       let (near, e2, h2) = bound (require (station c p) (R.NoUsableLine l.id)) (λ near. checked_at l c (cond (eqb l.id own) at near)) x h1 in
       let s = cond (eqb l.id own) at near in
-      let (ok, e3, h3) = bound (check (cuttable tol.piece c s) (R.PositionOutside l.id)) (λ ok. yield (plan_at l s)) x h2 in
+      let (ok, e3, h3) = bound (check (cuttable tol.piece c s) (R.PositionOutside l.id)) (λ ok. Ok (plan_at l s)) x h2 in
       let z : plan_at l s ≡ x = yields h3 in
       subst Lined z (go c near l.centerline (derived (oriented_boundary m Left l) (oriented_boundary m Right l)) (unfold centerline in e1) e2)
     where
-      there : (piece : Line → Float → Line) (c : Line) (o : Option Float) (near : Float) → require o (R.NoUsableLine l.id) ≡ yield near
-          → Both (some c) (elim o [ none ↦ none | some s ↦ some (piece c s) ])
-      there piece c none near e = absurd (no-yield (R.NoUsableLine l.id) near e)
-      there piece c (some s) near e = refl
+      there : (piece : Line → Float → Line) (c : Line) (o : Option Float) (near : Float) → require o (R.NoUsableLine l.id) ≡ Ok near
+          → Both (Some c) (elim o [ None ↦ None | Some s ↦ Some (piece c s) ])
+      there piece c None near e = absurd (no-yield (R.NoUsableLine l.id) near e)
+      there piece c (Some s) near e = refl
 
-      go : (c : Line) (near : Float) (o d : Option Line) → require (explicit_or o d) (R.NoUsableLine l.id) ≡ yield c → require (station c p) (R.NoUsableLine l.id) ≡ yield near
+      go : (c : Line) (near : Float) (o d : Option Line) → require (explicit_or o d) (R.NoUsableLine l.id) ≡ Ok c → require (station c p) (R.NoUsableLine l.id) ≡ Ok near
           → Both o (center_piece first_piece o p) × Both o (center_piece second_piece o p)
-      go c near none d e f = (refl, refl)
-      go c near (some b) d e f =
+      go c near None d e f = (refl, refl)
+      go c near (Some b) d e f =
           let z : c ≡ b = sym (yields e) in
-          let g : require (station b p) (R.NoUsableLine l.id) ≡ yield near = rw z at f in
+          let g : require (station b p) (R.NoUsableLine l.id) ≡ Ok near = rw z at f in
           (there first_piece b (station b p) near g, there second_piece b (station b p) near g)
 
 -- of every plan
@@ -139,81 +137,81 @@ unfoldable pub AllLined : List LanePlan → Type 0
 AllLined [] = ◌≡◌ {A = ℕ} 0 0
 AllLined (x ∷ ps) = Lined x × AllLined ps
 
-pub plans-lined : (tol : Tolerance) (m : Map) (own : ℕ) (at : Float) (p : Point2) (ls : List Lane) (ps : List LanePlan) → lane_plans tol m own at p ls ≡ yield ps → AllLined ps
+pub plans-lined : (tol : Tolerance) (m : Map) (own : ℕ) (at : Float) (p : Point2) (ls : List Lane) (ps : List LanePlan) → lane_plans tol m own at p ls ≡ Ok ps → AllLined ps
 unfolding lane_plans AllLined
 plans-lined tol m own at p [] ps h = subst AllLined (yields h) refl
 plans-lined tol m own at p (l ∷ ls) ps h =
-    let (y, e1, h1) = bound (lane_plan tol m own at p l) (λ x. lane_plans tol m own at p ls >>= (λ xs. yield (x ∷ xs))) ps h in
-    let (ys, e2, h2) = bound (lane_plans tol m own at p ls) (λ xs. yield (y ∷ xs)) ps h1 in
+    let (y, e1, h1) = bound (lane_plan tol m own at p l) (λ x. lane_plans tol m own at p ls >>= (λ xs. Ok (x ∷ xs))) ps h in
+    let (ys, e2, h2) = bound (lane_plans tol m own at p ls) (λ xs. Ok (y ∷ xs)) ps h1 in
     subst AllLined (yields h2) (plan-lined tol m own at p l y e1, plans-lined tol m own at p ls ys e2)
 
 -- ---- boundaries of halves
 
 module _ (pieces lines : List ℕ) where
   -- what a search among the ids of pieces finds
-  abbrev PieceAt : ℕ → List Piece → ℕ → Found → Type 0
-  PieceAt j xs k (At r) = (x : Piece) × (piece_for xs k ≡ some x) × (word ((j + r) * 3 + 1) pieces ≡ x.first) × (word ((j + r) * 3 + 2) pieces ≡ x.second)
-  PieceAt j xs k Nothing = piece_for xs k ≡ none
+  abbrev PieceAt : ℕ → List Piece → ℕ → Option ℕ → Type 0
+  PieceAt j xs k (Some r) = (x : Piece) × (piece_for xs k ≡ Some x) × (word ((j + r) * 3 + 1) pieces ≡ x.first) × (word ((j + r) * 3 + 2) pieces ≡ x.second)
+  PieceAt j xs k None = piece_for xs k ≡ None
 
   piece-at : (j at : ℕ) (xs : List Piece) → AllWords pieces lines j at xs → (k : ℕ) → PieceAt j xs k (row_with k (map (λ x. x.of.id) xs))
   unfolding AllWords find row_with
   piece-at j at [] h k = refl
   piece-at j at (x ∷ xs) h k = go (eqb x.of.id k) refl (row_with k (map (λ x. x.of.id) xs)) (piece-at (suc j) (at + piece_size x) xs h.1 k)
     where
-      go : (b : Bool) → eqb x.of.id k ≡ b → (r : Found) → PieceAt (suc j) xs k r → PieceAt j (x ∷ xs) k (cond b (At 0) (later r))
+      go : (b : Bool) → eqb x.of.id k ≡ b → (r : Option ℕ) → PieceAt (suc j) xs k r → PieceAt j (x ∷ xs) k (cond b (Some 0) (later r))
       go true e r f = let n : j + 0 ≡ j = omega arith in (x, rw e, rw n h.0.first, rw n h.0.second)
-      go false e (At r) f = let n : suc j + r ≡ j + suc r = omega arith in (f.0, rw e f.1, rw (← n) f.2, rw (← n) f.3)
-      go false e Nothing f = rw e f
+      go false e (Some r) f = let n : suc j + r ≡ j + suc r = omega arith in (f.0, rw e f.1, rw (← n) f.2, rw (← n) f.3)
+      go false e None f = rw e f
 
   module _ (m at : ℕ) (xs : List Piece) (h : AllWords pieces lines 0 at xs) (ks : keys 3 m pieces ≡ map (λ x. x.of.id) xs) where
     -- a half's boundary is the map's
     pub half-ref : (second : Bool) (r : BoundaryRef) → half_ref pieces m second r.boundary r.reversed ≡ (cond second (second_ref xs r) (first_ref xs r)).boundary
     half-ref second r = rw ks (go (row_with r.boundary (map (λ x. x.of.id) xs)) (piece-at 0 at xs h r.boundary) second)
       where
-        found : (j : ℕ) (x : Piece) → piece_for xs r.boundary ≡ some x → word (j * 3 + 1) pieces ≡ x.first → word (j * 3 + 2) pieces ≡ x.second → (second back : Bool)
+        found : (j : ℕ) (x : Piece) → piece_for xs r.boundary ≡ Some x → word (j * 3 + 1) pieces ≡ x.first → word (j * 3 + 2) pieces ≡ x.second → (second back : Bool)
             → word (j * 3 + piece_word second back) pieces ≡ cond second (cond back x.first x.second) (cond back x.second x.first)
         found j x e f g true true = f
         found j x e f g true false = g
         found j x e f g false true = g
         found j x e f g false false = f
 
-        both : (x : Piece) (second : Bool) → piece_for xs r.boundary ≡ some x
+        both : (x : Piece) (second : Bool) → piece_for xs r.boundary ≡ Some x
             → (cond second (second_ref xs r) (first_ref xs r)).boundary ≡ cond second (cond r.reversed x.first x.second) (cond r.reversed x.second x.first)
         both x true e = rw (e, second_ref)
         both x false e = rw (e, first_ref)
 
-        none-cut : (second : Bool) → piece_for xs r.boundary ≡ none → r.boundary ≡ (cond second (second_ref xs r) (first_ref xs r)).boundary
+        none-cut : (second : Bool) → piece_for xs r.boundary ≡ None → r.boundary ≡ (cond second (second_ref xs r) (first_ref xs r)).boundary
         none-cut true e = rw (e, second_ref)
         none-cut false e = rw (e, first_ref)
 
-        go : (f : Found) → PieceAt 0 xs r.boundary f → (second : Bool) → piece_found pieces (piece_word second r.reversed) r.boundary f ≡ (cond second (second_ref xs r) (first_ref xs r)).boundary
-        go Nothing q second = none-cut second q
-        go (At j) q second =
+        go : (f : Option ℕ) → PieceAt 0 xs r.boundary f → (second : Bool) → piece_found pieces (piece_word second r.reversed) r.boundary f ≡ (cond second (second_ref xs r) (first_ref xs r)).boundary
+        go None q second = none-cut second q
+        go (Some j) q second =
             let n : 0 + j ≡ j = omega arith in
             found j q.0 q.1 (rw n at q.2) (rw n at q.3) second r.reversed ∙ sym (both q.0 second q.1)
 
     -- ---- words of a half
 
     module _ (c : List Float) (v : List ℕ) (formed : lane_formed v ≡ true) where
-      center_told : (b : Bool) (size : ℕ) (o : Option Line) → Both (cond b (some (line_at c 7 v)) none) o → size ≡ length (points_or o) → CenterIs b size o
-      center_told true size none s e = absurd s
-      center_told true size (some l) s e = e
-      center_told false size none s e = refl
-      center_told false size (some l) s e = absurd s
+      center_told : (b : Bool) (size : ℕ) (o : Option Line) → Both (cond b (Some (line_at c 7 v)) None) o → size ≡ length (points_or o) → CenterIs b size o
+      center_told true size None s e = absurd s
+      center_told true size (Some l) s e = e
+      center_told false size None s e = refl
+      center_told false size (Some l) s e = absurd s
 
-      marked-told : (o : Option Line) → Both (cond (mark 6 v) (some (line_at c 7 v)) none) o → present o ≡ word 6 v
+      marked-told : (o : Option Line) → Both (cond (mark 6 v) (Some (line_at c 7 v)) None) o → present o ≡ word 6 v
       marked-told o s = go (eqb (word 6 v) 0) refl o s
         where
-          go : (b : Bool) → eqb (word 6 v) 0 ≡ b → (o : Option Line) → Both (cond (not b) (some (line_at c 7 v)) none) o → present o ≡ word 6 v
-          go true e none s = sym (eqb-true (word 6 v) 0 e)
-          go true e (some l) s = absurd s
-          go false e none s = absurd s
-          go false e (some l) s = let n = eqb-false (word 6 v) 0 e in omega (arith, (lane-marks v formed).center)
+          go : (b : Bool) → eqb (word 6 v) 0 ≡ b → (o : Option Line) → Both (cond (not b) (Some (line_at c 7 v)) None) o → present o ≡ word 6 v
+          go true e None s = sym (eqb-true (word 6 v) 0 e)
+          go true e (Some l) s = absurd s
+          go false e None s = absurd s
+          go false e (Some l) s = let n = eqb-false (word 6 v) 0 e in omega (arith, (lane-marks v formed).center)
 
       pub half-words : (second : Bool) (l : Lane) → l ≡ lane_of c v → (size : ℕ) (o : Option Line) → Both l.centerline o → size ≡ length (points_or o) → HalfWords pieces m second xs size o v
       unfolding lane_of
       half-words second l e size o s z =
-          let q : Both (cond (mark 6 v) (some (line_at c 7 v)) none) o = subst (λ (l : Lane). Both l.centerline o) e s in
+          let q : Both (cond (mark 6 v) (Some (line_at c 7 v)) None) o = subst (λ (l : Lane). Both l.centerline o) e s in
           record { left = half-ref second (ref_at 2 v); right = half-ref second (ref_at 4 v); center = center_told (mark 6 v) size o q z; marked = marked-told o q }
 
     -- ---- plans and rows
@@ -246,28 +244,28 @@ module _ (pieces lines : List ℕ) where
           )
 
       -- what a search among the ids of planned lanes finds
-      abbrev PlanAt : ℕ → List LanePlan → ℕ → Found → Type 0
-      PlanAt rank qs k (At r) = (x : LanePlan) × (plan_for qs k ≡ some x) × PlanTold centers (rank + r) x × Lined x
-      PlanAt rank qs k Nothing = plan_for qs k ≡ none
+      abbrev PlanAt : ℕ → List LanePlan → ℕ → Option ℕ → Type 0
+      PlanAt rank qs k (Some r) = (x : LanePlan) × (plan_for qs k ≡ Some x) × PlanTold centers (rank + r) x × Lined x
+      PlanAt rank qs k None = plan_for qs k ≡ None
 
       plan-at : (rank : ℕ) (qs : List LanePlan) → AllPlans centers rank qs → AllLined qs → (k : ℕ) → PlanAt rank qs k (row_with k (map (λ x. x.of.id) qs))
       unfolding AllPlans AllLined find row_with
       plan-at rank [] t l k = refl
       plan-at rank (x ∷ qs) t l k = go (eqb x.of.id k) refl (row_with k (map (λ x. x.of.id) qs)) (plan-at (suc rank) qs t.1 l.1 k)
         where
-          go : (b : Bool) → eqb x.of.id k ≡ b → (r : Found) → PlanAt (suc rank) qs k r → PlanAt rank (x ∷ qs) k (cond b (At 0) (later r))
+          go : (b : Bool) → eqb x.of.id k ≡ b → (r : Option ℕ) → PlanAt (suc rank) qs k r → PlanAt rank (x ∷ qs) k (cond b (Some 0) (later r))
           go true e r f = let n : rank + 0 ≡ rank = omega arith in (x, rw e, rw n t.0, l.0)
-          go false e (At r) f = let n : suc rank + r ≡ rank + suc r = omega arith in (f.0, rw e f.1, rw (← n) f.2, f.3)
-          go false e Nothing f = rw e f
+          go false e (Some r) f = let n : suc rank + r ≡ rank + suc r = omega arith in (f.0, rw e f.1, rw (← n) f.2, f.3)
+          go false e None f = rw e f
 
       -- the plan of the lane in a row
-      pub plan-found : AllPlans centers 0 ps → AllLined ps → (w : List ℕ) → lane_formed w ≡ true → ((x : LanePlan) → plan_for ps (word 0 w) ≡ some x → x.of ≡ lane_of c w)
+      pub plan-found : AllPlans centers 0 ps → AllLined ps → (w : List ℕ) → lane_formed w ≡ true → ((x : LanePlan) → plan_for ps (word 0 w) ≡ Some x → x.of ≡ lane_of c w)
           → PlanFound pieces m centers next ps xs c w (row_with (word 0 w) (map (λ x. x.of.id) ps))
       plan-found t l w f own = go (row_with (word 0 w) (map (λ x. x.of.id) ps)) (plan-at 0 ps t l (word 0 w))
         where
-          go : (r : Found) → PlanAt 0 ps (word 0 w) r → PlanFound pieces m centers next ps xs c w r
-          go Nothing q = q
-          go (At r) q =
+          go : (r : Option ℕ) → PlanAt 0 ps (word 0 w) r → PlanFound pieces m centers next ps xs c w r
+          go None q = q
+          go (Some r) q =
               let n : 0 + r ≡ r = omega arith in
               let z : PlanTold centers r q.0 = rw n at q.2 in
               let o = own q.0 q.1 in

@@ -1,10 +1,10 @@
 -- The change set of a split whose lanes are planned, from marks, pieces and rows; and what listing it asks. Assumes nothing.
+use Rattle.std.specs.Prelude.{Option, None, Some}
 use mathlib.Core.Path.{◌≡◌, refl, sym, ap, ◌∙◌}
 use Prim.Native.Nat.{ℕ, suc, ◌+◌, ◌*◌, ◌≤◌, ◌<◌}
 use native.Mathlib.Omega.{arith}
 use mathlib.Core.Bool.{Bool, true, false}
 use mathlib.Core.List.{List, [], ◌∷◌, ◌++◌, map}
-use mathlib.Core.Option.{Option, none, some}
 use lib.Dec.{leb}
 use lib.Ieee.{Float}
 use lib.ListN.{length, get_or, take, drop, replicate, length-map, length-append, length-take, length-replicate}
@@ -13,8 +13,6 @@ use borrow.Author.Tests.{le-leb, leb-true}
 use Rattle.lists.specs.Every.{all}
 use Rattle.lists.specs.Rows.{keys, over, row_with}
 use Rattle.lists.specs.Select.{any, has, keep, each, numbered, second_of, ascending}
-use Rattle.lists.specs.declared.Found.{Found}
-use Rattle.lists.specs.declared.Found.TheVariants.{At, Nothing}
 use Rattle.lists.proofs.Every.{all_head, all_tail}
 use Rattle.lists.proofs.Rows.{mapped-reads, length_over, length-keys, found_within, found-has, there}
 use Rattle.lists.proofs.Select.{map-twice}
@@ -177,17 +175,17 @@ module _ {tol : Tolerance} {counter : ℕ} {t : Tables} {own : ℕ} {stations : 
 
   -- ---- the lane itself is in its group
 
-  pub own-place : (r : ℕ) × ((row_with own k.cut ≡ At r) × (r < length k.cut))
+  pub own-place : (r : ℕ) × ((row_with own k.cut ≡ Some r) × (r < length k.cut))
   own-place = go (row_with own k.cut) refl (sym (found-has own k.cut) ∙ held)
     where
       held : has own k.cut ≡ true
       held = ap (has own) (sym (F.group-is p)) ∙ group-has (view t) own (lane_of t.coordinates (row_at 52 t.lanes p.row)) (F.found p) (F.lane-ids-up p) p.neighbors
 
-      go : (f : Found) → row_with own k.cut ≡ f → there f ≡ true → (r : ℕ) × ((row_with own k.cut ≡ At r) × (r < length k.cut))
-      go (At r) e u = (r, (e, found_within own k.cut r e))
-      go Nothing e u = let z : ◌≡◌ {A = ℕ} 0 1 = cc in absurd (omega arith)
+      go : (f : Option ℕ) → row_with own k.cut ≡ f → there f ≡ true → (r : ℕ) × ((row_with own k.cut ≡ Some r) × (r < length k.cut))
+      go (Some r) e u = (r, (e, found_within own k.cut r e))
+      go None e u = let z : ◌≡◌ {A = ℕ} 0 1 = cc in absurd (omega arith)
 
-  pub second_is : (r : ℕ) → row_with own k.cut ≡ At r → (split_of tol counter t own k.point k.seen k.cut stations).second ≡ some (k.next + r)
+  pub second_is : (r : ℕ) → row_with own k.cut ≡ Some r → (split_of tol counter t own k.point k.seen k.cut stations).second ≡ Some (k.next + r)
   unfolding split_of R.cut
   second_is r e = ap (λ hs. second_of hs own) halves_are ∙ (second-numbered k.next own k.cut ∙ ap (number_at k.next) e)
 
@@ -324,8 +322,8 @@ past-long join c lanes boundaries q cut stations stops crosswalks i (w ∷ ws) p
     ∙ e
   where
     few : (o : Option Point2) → length (marks_by join c lanes boundaries q cut stations o (ids_at 5 w)) ≤ word 5 w
-    few none = omega arith
-    few (some z) = rw (length-map, length-take) (omega arith)
+    few None = omega arith
+    few (Some z) = rw (length-map, length-take) (omega arith)
 
 module _ {tol : Tolerance} {counter : ℕ} {t : Tables} {own : ℕ} {stations : List Float} {ids : ℕ} {k : Cutting} {anchored past : List Bool} (h : Measured tol counter t own stations ids k)
     (a : Anchored tol t stations k anchored past) where

@@ -1,10 +1,10 @@
 -- The map after a split fits its room where the tests of numbers, found before anything is written, say so. Assumes nothing.
+use Rattle.std.specs.Prelude.{Option, None, Some}
 use mathlib.Core.Path.{◌≡◌, refl, sym, ap, ◌∙◌}
 use Prim.Native.Nat.{ℕ, suc, ◌+◌, ◌≤◌, ◌<◌}
 use native.Mathlib.Omega.{arith}
 use mathlib.Core.Bool.{Bool, true, false, not, ◌&&◌, ◌||◌, cond, true≢false}
 use mathlib.Core.List.{List, [], ◌∷◌, ◌++◌, map, append-nil}
-use mathlib.Core.Option.{Option, none, some}
 use lib.Dec.{eqb, leb}
 use lib.Ieee.{Float}
 use lib.ListN.{length, get_or, drop, replicate, length-map, length-replicate}
@@ -245,13 +245,13 @@ module _ {tol : Tolerance} {counter : ℕ} {t : Tables} {own : ℕ} {stations : 
   rule-alike w f = go (any (λ i. has i k.cut) (ids_at 5 w)) refl
     where
       there-some : (o : Option Point2) → is_there o ≡ is_some o
-      there-some none = refl
-      there-some (some a) = refl
+      there-some None = refl
+      there-some (Some a) = refl
 
       go : (b : Bool) → any (λ i. has i k.cut) (ids_at 5 w) ≡ b → rule_fits (told_of w) k.cut w ≡ rule_fits (real_of w) k.cut w
       go true q =
           let o = rule_anchor (crossed t.coordinates t.stop_lines t.crosswalks) (rule_of w) in
-          let e : told_of w ≡ is_some o = ap (λ b. is_there (cond b o none)) q ∙ there-some o in
+          let e : told_of w ≡ is_some o = ap (λ b. is_there (cond b o None)) q ∙ there-some o in
           ap (λ b. rule_fits b k.cut w) (e ∙ ap is_some (sym (anchor_same w)))
       go false q = rule-either k.cut w f q (told_of w) (real_of w)
 

@@ -1,10 +1,10 @@
 -- The words that are measured and listed of a split are those of document 01's pieces and plans. Assumes nothing.
+use Rattle.std.specs.Prelude.{Option, None, Some}
 use mathlib.Core.Path.{◌≡◌, refl, sym, ap, ◌∙◌}
 use Prim.Native.Nat.{ℕ, zero, suc, ◌+◌, ◌*◌, ◌≤◌, ◌<◌}
 use native.Mathlib.Omega.{arith}
 use mathlib.Core.Bool.{Bool, true, false, not, ◌||◌, cond}
 use mathlib.Core.List.{List, [], ◌∷◌, ◌++◌, map, append_assoc}
-use mathlib.Core.Option.{Option, none, some}
 use lib.Dec.{eqb, leb, ltb}
 use lib.Ieee.{Float}
 use lib.ListN.{length, get_or, drop, replicate, length-append, length-map, length-replicate}
@@ -19,7 +19,7 @@ use Rattle.lists.proofs.Select.{all_map, all_keep, all-weaken, any-map, map-twic
 use Rattle.polyline.specs.Polyline.{first_piece, second_piece, nearest_point}
 use Rattle.entities.specs.declared.Tolerance.{Tolerance}
 use Rattle.entities.specs.Records.{Line, Lane, Boundary}
-use Rattle.rules.specs.Names.{Point2, NoNearest}
+use Rattle.rules.specs.Names.{Point2}
 use Rattle.rules.specs.Map.{station, uses}
 use Rattle.rules.specs.Sound.{next_id}
 use Rattle.rules.specs.Split.{LanePlan, Piece, center_piece, piece_of, piece_ids, pieces}
@@ -129,27 +129,27 @@ lines_of p (x ∷ xs) m = rw (lines_of p xs m.1, m.0.first, m.0.second) (sym (ap
 -- ---- centrelines
 
 empty-first : (p : Point2) → first_line_of p [] ≡ []
-empty-first p = first-none p [] NoNearest (unfold nearest_point in refl) refl
+empty-first p = first-none p [] None (unfold nearest_point in refl) refl
 
 empty-second : (p : Point2) → second_line_of p [] ≡ []
-empty-second p = second_none p [] NoNearest (unfold nearest_point in refl) refl
+empty-second p = second_none p [] None (unfold nearest_point in refl) refl
 
 -- a lane's, cut as its row's line is
-center_first : (p : Point2) (b : Bool) (l : Line) → points_or (center_piece first_piece (cond b (some l) none) p) ≡ first_line_of p (cond b l [])
+center_first : (p : Point2) (b : Bool) (l : Line) → points_or (center_piece first_piece (cond b (Some l) None) p) ≡ first_line_of p (cond b l [])
 center_first p false l = sym (empty-first p)
 center_first p true l = go (station l p)
   where
-    go : (o : Option Float) → points_or (elim o [ none ↦ none | some s ↦ some (first_piece l s) ]) ≡ piece_at first_piece l o
-    go none = refl
-    go (some s) = refl
+    go : (o : Option Float) → points_or (elim o [ None ↦ None | Some s ↦ Some (first_piece l s) ]) ≡ piece_at first_piece l o
+    go None = refl
+    go (Some s) = refl
 
-center_second : (p : Point2) (b : Bool) (l : Line) → points_or (center_piece second_piece (cond b (some l) none) p) ≡ second_line_of p (cond b l [])
+center_second : (p : Point2) (b : Bool) (l : Line) → points_or (center_piece second_piece (cond b (Some l) None) p) ≡ second_line_of p (cond b l [])
 center_second p false l = sym (empty-second p)
 center_second p true l = go (station l p)
   where
-    go : (o : Option Float) → points_or (elim o [ none ↦ none | some s ↦ some (second_piece l s) ]) ≡ piece_at second_piece l o
-    go none = refl
-    go (some s) = refl
+    go : (o : Option Float) → points_or (elim o [ None ↦ None | Some s ↦ Some (second_piece l s) ]) ≡ piece_at second_piece l o
+    go None = refl
+    go (Some s) = refl
 
 module _ (c : List Float) (p : Point2) where
   abbrev line : List ℕ → Line

@@ -1,14 +1,13 @@
 -- A split whose lanes are planned: what document 01 makes of it, and what is known of it from step to step. Nothing that a host calls rests on this page.
-use Rattle.std.specs.Prelude.{◌≡◌, ℕ, ◌+◌, ◌^◌, ◌<◌, Bool, true, false, ◌&&◌, cond, List, map, leb, Float, length, replicate}
+use Rattle.std.specs.Prelude.{◌≡◌, ℕ, ◌+◌, ◌^◌, ◌<◌, Bool, true, false, ◌&&◌, cond, List, map, leb, Float, length, replicate, Some, Ok}
 use Rattle.lists.specs.Rows.{over}
 use Rattle.lists.specs.Select.{keep, any, has}
-use Rattle.lists.specs.declared.Found.TheVariants.{At}
 use Rattle.entities.specs.Records.{Lane}
 use Rattle.rules.specs.Names.{Tolerance, Point2, NoRoom, NoIds}
 use Rattle.rules.specs.Limits.{max_boundaries, max_lanes}
 use Rattle.rules.specs.Map.{uses}
 use Rattle.rules.specs.Sound.{fits_room, last_counter, next_id}
-use Rattle.rules.specs.Edit.{yield, passed, Edited}
+use Rattle.rules.specs.Edit.{passed, Edited}
 use Rattle.rules.specs.Split as R
 use Rattle.rules.specs.Split.{LanePlan, Piece, group_of, lane_plans, all_cross, pieces}
 use Rattle.rules.specs.Ops as O
@@ -77,12 +76,12 @@ pub record Planned (tol : Tolerance) (counter : ℕ) (t : Tables) (own : ℕ) (p
   pub sane : sound_tables counter t ≡ true
   pub small : counter < 2 ^ 64
   pub row : ℕ
-  pub there : place_of lane_words t.lanes own ≡ At row
+  pub there : place_of lane_words t.lanes own ≡ Some row
   pub neighbors : Bool
   pub marked : seen ≡ over (replicate max_lanes false) 0 (group_marks t.lanes row neighbors)
   pub at : Float
-  pub planned : lane_plans tol (view t) own at p (keep (λ x. has x.id (group_of (view t) own neighbors)) (view t).lanes) ≡ yield (plans_in t p seen stations)
-  pub crossed : all_cross (view t) p (keep (λ x. has x.id (group_of (view t) own neighbors)) (view t).lanes) ≡ yield passed
+  pub planned : lane_plans tol (view t) own at p (keep (λ x. has x.id (group_of (view t) own neighbors)) (view t).lanes) ≡ Ok (plans_in t p seen stations)
+  pub crossed : all_cross (view t) p (keep (λ x. has x.id (group_of (view t) own neighbors)) (view t).lanes) ≡ Ok passed
   pub ids : map (λ x. x.of.id) (plans_in t p seen stations) ≡ cut
   pub stationed : map (λ x. x.station) (plans_in t p seen stations) ≡ stations
   pub many : length (marked_rows seen t.lanes) ≡ length cut

@@ -5,7 +5,6 @@ ghost use Rattle.std.specs.Prelude.{◌≡◌, true, ◌+◌, ◌*◌, ◌<◌, 
 ghost use Rattle.tables.specs.Formed.{lane_formed};
 ghost use Rattle.split_rows.specs.Halves as D;
 
-use lists::Found;
 use tables::{
     LANE_CENTERLINE, LANE_ID, LANE_LEFT, LANE_LEFT_REVERSED, LANE_RIGHT, LANE_RIGHT_REVERSED,
     LEFT_SLOT, RIGHT_SLOT, SUCCESSORS,
@@ -56,10 +55,10 @@ pub fn cut_row(row: &mut [u64], pieces: &[u64], m: usize, cut: &[u64], next: u64
 {
     let found = find::find_row(cut, 1, cut.len(), row[LANE_ID]);
     match found {
-        Found::At(rank) => {
+        Some(rank) => {
             first_half(row, pieces, m, cut, next, centers, rank);
         }
-        Found::Nothing => {}
+        None => {}
     }
     split_rows::come_from(row, cut, next);
 }

@@ -1,11 +1,11 @@
 -- The centreline of a half, of the lane's row or derived, and an anchor on both halves joined. Assumes nothing.
+use Rattle.std.specs.Prelude.{Option, None, Some}
 use mathlib.Core.Path.{◌≡◌, refl, sym, ap, ◌∙◌}
 use mathlib.Core.Logic.{◌⊎◌, inl, inr}
 use Prim.Native.Nat.{ℕ, ◌+◌, ◌*◌, ◌≤◌}
 use native.Mathlib.Omega.{arith}
 use mathlib.Core.Bool.{Bool, true, false}
 use mathlib.Core.List.{List}
-use mathlib.Core.Option.{Option, none, some}
 use lib.Dec.{eqb}
 use lib.Ieee.{Float, le}
 use lib.ListN.{length, get_or, take}
@@ -15,10 +15,9 @@ use Rattle.polyline.specs.Polyline.{points, flat, nearest_point, concat}
 use Rattle.polyline.specs.declared.NearestPoint.{NearestPoint}
 use Rattle.polyline.proofs.Counts.{length-concat-le}
 use Rattle.entities.specs.Records.{Line}
-use Rattle.rules.specs.Names.{Point2, OptionNearest, NoNearest, ANearest}
+use Rattle.rules.specs.Names.{Point2}
 use Rattle.rules.specs.Map.{station}
 use Rattle.tables.specs.View.{word, part, lane_of}
-use Rattle.lookup.specs.declared.OptionCount.TheVariants as N
 use Rattle.lookup.specs.Lookup.{row_at, count_of, points_or}
 use Rattle.lookup.proofs.Laws.{word_in, next_in, written-some}
 use Rattle.lookup.proofs.Center.{center_short}
@@ -31,7 +30,7 @@ module _ (c : List Float) (t b : List ℕ) (p : Point2) (second : Bool) (i : ℕ
   abbrev own : Option Line
   own = (lane_of c (row_at 52 t i)).centerline
 
-  own-none : get_or t (1 + i * 52 + 6) 0 ≡ 0 → own ≡ none
+  own-none : get_or t (1 + i * 52 + 6) 0 ≡ 0 → own ≡ None
   unfolding lane_of
   own-none z = let e : word 6 (row_at 52 t i) ≡ 0 = sym (word_in 52 t i 6 (omega arith)) ∙ z in rw e
 
@@ -39,7 +38,7 @@ module _ (c : List Float) (t b : List ℕ) (p : Point2) (second : Bool) (i : ℕ
   abbrev pub OwnLine : List Float → Type 0
   OwnLine line = line ≡ part c (get_or t (1 + i * 52 + 6 + 1) 0) (get_or t (1 + i * 52 + 6 + 1 + 1) 0)
 
-  own-some : (get_or t (1 + i * 52 + 6) 0 ≡ 0 → ⊥) → (line : List Float) → OwnLine line → own ≡ some (points line)
+  own-some : (get_or t (1 + i * 52 + 6) 0 ≡ 0 → ⊥) → (line : List Float) → OwnLine line → own ≡ Some (points line)
   unfolding lane_of
   own-some z line e =
       let m : eqb (word 6 (row_at 52 t i)) 0 ≡ false = ne_eqb (word 6 (row_at 52 t i)) 0 (λ q. z (word_in 52 t i 6 (omega arith) ∙ q)) in
@@ -53,10 +52,10 @@ module _ (c : List Float) (t b : List ℕ) (p : Point2) (second : Bool) (i : ℕ
   half-between (inr z) = rw (own-none z, explicit_none p second)
 
   module _ (z : get_or t (1 + i * 52 + 6) 0 ≡ 0 → ⊥) (line : List Float) (e : OwnLine line) (k : length (points line) ≡ 0 → ⊥) where
-    pub half-own : row_half c t b p second i ≡ some (half_of second p (points line))
+    pub half-own : row_half c t b p second i ≡ Some (half_of second p (points line))
     half-own = rw (own-some z line e, explicit_some p second (points line) k)
 
-    pub own-written : (w v : List Float) (r : ℕ) → Halved second p (points line) r w v → (N.Some r ≡ count_of (row_half c t b p second i)) × (v ≡ line_over w (row_half c t b p second i))
+    pub own-written : (w v : List Float) (r : ℕ) → Halved second p (points line) r w v → (Some r ≡ count_of (row_half c t b p second i)) × (v ≡ line_over w (row_half c t b p second i))
     own-written w v r g = written-some (row_half c t b p second i) (half_of second p (points line)) r w v half-own g.0 g.1.0
 
   module _ (h : Halving t b c i) where
@@ -83,24 +82,24 @@ module _ (c : List Float) (t b : List ℕ) (p : Point2) (second : Bool) (i : ℕ
 
 -- ---- an anchor
 
-module _ (l : Line) (s : Float) (anchor : Point2) (o : OptionNearest) (e : o ≡ nearest_point l anchor) where
+module _ (l : Line) (s : Float) (anchor : Point2) (o : Option NearestPoint) (e : o ≡ nearest_point l anchor) where
   abbrev at_or_past : Option Float → Bool
-  at_or_past o = elim o [ none ↦ false | some x ↦ le s x ]
+  at_or_past o = elim o [ None ↦ false | Some x ↦ le s x ]
 
-  pub past-nowhere : o ≡ NoNearest → false ≡ past_on l s anchor
+  pub past-nowhere : o ≡ None → false ≡ past_on l s anchor
   unfolding station
-  past-nowhere f = let q : station l anchor ≡ none = rw (← e, f) in sym (ap at_or_past q)
+  past-nowhere f = let q : station l anchor ≡ None = rw (← e, f) in sym (ap at_or_past q)
 
-  pub past_near : (n : NearestPoint) → o ≡ ANearest n → le s n.station ≡ past_on l s anchor
+  pub past_near : (n : NearestPoint) → o ≡ Some n → le s n.station ≡ past_on l s anchor
   unfolding station
-  past_near n f = let q : station l anchor ≡ some n.station = rw (← e, f) in sym (ap at_or_past q)
+  past_near n f = let q : station l anchor ≡ Some n.station = rw (← e, f) in sym (ap at_or_past q)
 
 module _ (join : Float) (c : List Float) (t b : List ℕ) (p : Point2) (i : ℕ) (s : Float) (anchor : Point2) where
-  pub past_first : row_half c t b p false i ≡ none → false ≡ row_past join c t b p i s anchor
+  pub past_first : row_half c t b p false i ≡ None → false ≡ row_past join c t b p i s anchor
   unfolding row_past
   past_first e = rw e
 
-  pub past-second : (ps : Line) → row_half c t b p false i ≡ some ps → row_half c t b p true i ≡ none → false ≡ row_past join c t b p i s anchor
+  pub past-second : (ps : Line) → row_half c t b p false i ≡ Some ps → row_half c t b p true i ≡ None → false ≡ row_past join c t b p i s anchor
   unfolding row_past
   past-second ps e f = rw (e, f)
 
@@ -119,6 +118,6 @@ module _ (join : Float) (c : List Float) (t b : List ℕ) (p : Point2) (i : ℕ)
       pub joined-lent : n * 3 ≡ length (take (n * 3) v)
       joined-lent = written-lent w v (concat join ps qs) n g.1 g.0 joined-room
 
-      pub past-both : row_half c t b p false i ≡ some ps → row_half c t b p true i ≡ some qs → (r : Bool) → r ≡ past_on (points (take (n * 3) v)) s anchor → r ≡ row_past join c t b p i s anchor
+      pub past-both : row_half c t b p false i ≡ Some ps → row_half c t b p true i ≡ Some qs → (r : Bool) → r ≡ past_on (points (take (n * 3) v)) s anchor → r ≡ row_past join c t b p i s anchor
       unfolding row_past
       past-both e f r q = rw (e, f) (rw (written_back w v (concat join ps qs) n g.1 g.0 joined-room) at q)

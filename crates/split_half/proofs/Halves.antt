@@ -1,17 +1,15 @@
 -- A half of a line, of a boundary and of a centreline: its points, and that there are at most 258. Assumes nothing.
+use Rattle.std.specs.Prelude.{Option, None, Some}
 use mathlib.Core.Path.{◌≡◌, refl, sym, ap, ◌∙◌}
 use mathlib.Core.Logic.{inl, inr}
 use Prim.Native.Nat.{ℕ, ◌*◌, ◌≤◌, ◌<◌}
 use native.Mathlib.Omega.{arith}
 use mathlib.Core.Bool.{Bool, true, false, not, cond, beq}
 use mathlib.Core.List.{List, [], ◌∷◌, reverse}
-use mathlib.Core.Option.{Option, none, some}
 use lib.Ieee.{Float}
 use lib.ListN.{length, take}
 use lib.Seq.{length-take-le}
 use Rattle.lists.specs.Rows.{over}
-use Rattle.lists.specs.declared.Found.{Found}
-use Rattle.lists.specs.declared.Found.TheVariants.{At, Nothing}
 use Rattle.lists.proofs.Rows.{length_over}
 use Rattle.geometry.specs.Float.{zeroᶠ}
 use Rattle.polyline.specs.Polyline as Polyline
@@ -21,10 +19,9 @@ use Rattle.polyline.proofs.Counts.{length-slice-le}
 use Rattle.polyline.proofs.Lines.{centerline-none, length-centerline}
 use Rattle.polyline.proofs.Points.{length-flat, points-over, over_none}
 use Rattle.entities.specs.Records.{Line, Boundary}
-use Rattle.rules.specs.Names.{BoundaryRef, Side, Point2, OptionNearest, NoNearest, ANearest}
+use Rattle.rules.specs.Names.{BoundaryRef, Side, Point2}
 use Rattle.rules.specs.Map.{station, boundary, boundary_on, usable, derived}
 use Rattle.tables.specs.View.{word, ref_at, part, lane_of, boundary_of}
-use Rattle.lookup.specs.declared.OptionCount.TheVariants as N
 use Rattle.lookup.specs.Lookup.{row_at, place_of, all_short, count_of, points_or, side_word}
 use Rattle.lookup.proofs.Laws.{place-within, find_at, find_none, side-ref, short-fits, length-turned, written_none, written-some}
 use Rattle.lookup.proofs.Center.{count-some}
@@ -39,27 +36,27 @@ unfolding first_piece second_piece
 half-few second p l h = go second (station l p) refl
   where
     go : (second : Bool) (o : Option Float) → station l p ≡ o → length (half_of second p l) ≤ 258
-    go true none e = rw e (omega arith)
-    go false none e = rw e (omega arith)
-    go true (some s) e = rw e (omega (arith, length-slice-le l s (line_length l)))
-    go false (some s) e = rw e (omega (arith, length-slice-le l zeroᶠ s))
+    go true None e = rw e (omega arith)
+    go false None e = rw e (omega arith)
+    go true (Some s) e = rw e (omega (arith, length-slice-le l s (line_length l)))
+    go false (Some s) e = rw e (omega (arith, length-slice-le l zeroᶠ s))
 
 -- what was written
 abbrev pub Halved : Bool → Point2 → Line → ℕ → List Float → List Float → Type 0
 Halved second p l r w v = (r ≡ length (half_of second p l)) × ((v ≡ over w 0 (flat (half_of second p l))) × (r ≤ 258))
 
-module _ (second : Bool) (p : Point2) (l : Line) (o : OptionNearest) (e : o ≡ nearest_point l p) (w : List Float) where
-  no-half : o ≡ NoNearest → half_of second p l ≡ []
+module _ (second : Bool) (p : Point2) (l : Line) (o : Option NearestPoint) (e : o ≡ nearest_point l p) (w : List Float) where
+  no-half : o ≡ None → half_of second p l ≡ []
   no-half f = go second
     where
       go : (b : Bool) → half_of b p l ≡ []
       go true = second_none p l o e f
       go false = first-none p l o e f
 
-  pub half-none : o ≡ NoNearest → Halved second p l 0 w w
+  pub half-none : o ≡ None → Halved second p l 0 w w
   half-none f = rw (no-half f) (refl, (sym (over_none w 0), omega arith))
 
-  module _ (n : NearestPoint) (f : o ≡ ANearest n) (few : length l ≤ 256) (v : List Float) (r : ℕ) where
+  module _ (n : NearestPoint) (f : o ≡ Some n) (few : length l ≤ 256) (v : List Float) (r : ℕ) where
     pub half-second : second ≡ true → (len : Float) → len ≡ line_length l → (r ≡ length (slice l n.station len)) × (v ≡ over w 0 (flat (slice l n.station len))) → Halved second p l r w v
     unfolding second_piece
     half-second s len k g =
@@ -86,7 +83,7 @@ module _ (w v : List Float) (ps : Line) (n : ℕ) (e : v ≡ over w 0 (flat ps))
   written_back = rw (k, e) (points-over w ps room)
 
 -- one that may be missing
-module _ (o : Option Line) (w v : List Float) (few : length (points_or o) ≤ 258) (room : 774 ≤ length w) (e : v ≡ over w 0 (flat (points_or o))) (a : ℕ) (n : N.Some a ≡ count_of o) where
+module _ (o : Option Line) (w v : List Float) (few : length (points_or o) ≤ 258) (room : 774 ≤ length w) (e : v ≡ over w 0 (flat (points_or o))) (a : ℕ) (n : Some a ≡ count_of o) where
   pub line_small : a ≤ 258
   line_small = omega (arith, (count-some o a n).1)
 
@@ -96,8 +93,8 @@ module _ (o : Option Line) (w v : List Float) (few : length (points_or o) ≤ 25
   pub line-lent : a * 3 ≡ length (take (a * 3) v)
   line-lent = written-lent w v (points_or o) a e (count-some o a n).1 (omega arith)
 
-  pub line-there : o ≡ some (points (take (a * 3) v))
-  line-there = (count-some o a n).0 ∙ ap some (sym (written_back w v (points_or o) a e (count-some o a n).1 (omega arith)))
+  pub line-there : o ≡ Some (points (take (a * 3) v))
+  line-there = (count-some o a n).0 ∙ ap Some (sym (written_back w v (points_or o) a e (count-some o a n).1 (omega arith)))
 
   pub line-few : length (points (take (a * 3) v)) ≤ 258
   line-few = rw (written_back w v (points_or o) a e (count-some o a n).1 (omega arith)) few
@@ -117,14 +114,14 @@ module _ (c : List Float) (b : List ℕ) (p : Point2) (second : Bool) (r : Bound
   key v = refl
 
   abbrev made : Option Boundary → Option Line
-  made o = elim o [ none ↦ none | some x ↦ some (along r.reversed (half_of (takes_second second r.reversed) p x.geometry)) ]
+  made o = elim o [ None ↦ None | Some x ↦ Some (along r.reversed (half_of (takes_second second r.reversed) p x.geometry)) ]
 
-  pub half-absent : place_of 5 b r.boundary ≡ Nothing → half_side c b p second r ≡ none
+  pub half-absent : place_of 5 b r.boundary ≡ None → half_side c b p second r ≡ None
   unfolding boundary
   half-absent q = ap made (find_none 5 (boundary_of c) (λ x. x.id) key b r.boundary q)
 
-  module _ (j : ℕ) (q : place_of 5 b r.boundary ≡ At j) (line : List Float) (e : line ≡ part c (word 2 (row_at 5 b j)) (word 3 (row_at 5 b j))) where
-    pub half-there : half_side c b p second r ≡ some (along r.reversed (half_of (takes_second second r.reversed) p (points line)))
+  module _ (j : ℕ) (q : place_of 5 b r.boundary ≡ Some j) (line : List Float) (e : line ≡ part c (word 2 (row_at 5 b j)) (word 3 (row_at 5 b j))) where
+    pub half-there : half_side c b p second r ≡ Some (along r.reversed (half_of (takes_second second r.reversed) p (points line)))
     unfolding boundary boundary_of
     half-there = ap made (find_at 5 (boundary_of c) (λ x. x.id) key b r.boundary j q) ∙ rw e
 
@@ -134,9 +131,9 @@ module _ (c : List Float) (b : List ℕ) (p : Point2) (second : Bool) (r : Bound
   pub half-side-few : all_short 5 2 b ≡ true → length (points_or (half_side c b p second r)) ≤ 258
   half-side-few h = go (place_of 5 b r.boundary) refl
     where
-      go : (f : Found) → place_of 5 b r.boundary ≡ f → length (points_or (half_side c b p second r)) ≤ 258
-      go Nothing q = rw (half-absent q) (omega arith)
-      go (At j) q =
+      go : (f : Option ℕ) → place_of 5 b r.boundary ≡ f → length (points_or (half_side c b p second r)) ≤ 258
+      go None q = rw (half-absent q) (omega arith)
+      go (Some j) q =
           let line = part c (word 2 (row_at 5 b j)) (word 3 (row_at 5 b j)) in
           let l = half_of (takes_second second r.reversed) p (points line) in
           rw (half-there j q line refl) (omega (arith, length-turned r.reversed l, half-few (takes_second second r.reversed) p (points line) (boundary-few j q line refl h)))
@@ -146,17 +143,17 @@ module _ (c : List Float) (t b : List ℕ) (p : Point2) (second : Bool) (i : ℕ
   by-ref : row_half_side c t b p second i side ≡ half_side c b p second r
   by-ref = ap (half_side c b p second) (side-ref c (row_at 52 t i) side ∙ sym er)
 
-  pub side-none : place_of 5 b r.boundary ≡ Nothing → (N.None ≡ count_of (row_half_side c t b p second i side)) × (w ≡ line_over w (row_half_side c t b p second i side))
+  pub side-none : place_of 5 b r.boundary ≡ None → (None ≡ count_of (row_half_side c t b p second i side)) × (w ≡ line_over w (row_half_side c t b p second i side))
   side-none q = written_none (row_half_side c t b p second i side) w (by-ref ∙ half-absent c b p second r q)
 
-  module _ (j : ℕ) (q : place_of 5 b r.boundary ≡ At j) (line : List Float) (e : line ≡ part c (word 2 (row_at 5 b j)) (word 3 (row_at 5 b j))) where
+  module _ (j : ℕ) (q : place_of 5 b r.boundary ≡ Some j) (line : List Float) (e : line ≡ part c (word 2 (row_at 5 b j)) (word 3 (row_at 5 b j))) where
     abbrev half : Line
     half = half_of (not (beq second r.reversed)) p (points line)
 
     pub side-some : (ps : Line) → ps ≡ half → (n : ℕ) (v : List Float) → (n ≡ length ps) × (v ≡ over w 0 (flat (cond r.reversed (reverse ps) ps)))
-        → (N.Some n ≡ count_of (row_half_side c t b p second i side)) × (v ≡ line_over w (row_half_side c t b p second i side))
+        → (Some n ≡ count_of (row_half_side c t b p second i side)) × (v ≡ line_over w (row_half_side c t b p second i side))
     side-some ps z n v g =
-        let x : row_half_side c t b p second i side ≡ some (cond r.reversed (reverse ps) ps) = by-ref ∙ half-there c b p second r j q line e ∙ rw (z, takes second r.reversed) in
+        let x : row_half_side c t b p second i side ≡ Some (cond r.reversed (reverse ps) ps) = by-ref ∙ half-there c b p second r j q line e ∙ rw (z, takes second r.reversed) in
         written-some (row_half_side c t b p second i side) (cond r.reversed (reverse ps) ps) n w v x (g.0 ∙ length-turned r.reversed ps) g.1
 
 pub row-side-few : (c : List Float) (t b : List ℕ) (p : Point2) (second : Bool) (i : ℕ) (side : Side) → Halving t b c i → length (points_or (row_half_side c t b p second i side)) ≤ 258
@@ -176,9 +173,9 @@ pub center_room : (ps qs : Line) (n : ℕ) → length ps ≤ 258 → length qs �
 center_room ps qs n h k m = (omega (arith, center_few ps qs h k), omega (arith, center_few ps qs h k))
 
 pub derived-few : (o p : Option Line) → length (points_or o) ≤ 258 → length (points_or p) ≤ 258 → length (points_or (derived o p)) ≤ 258
-derived-few none p h k = omega arith
-derived-few (some l) none h k = omega arith
-derived-few (some l) (some r) h k = go (Polyline.centerline l r) (center_few l r h k)
+derived-few None p h k = omega arith
+derived-few (Some l) None h k = omega arith
+derived-few (Some l) (Some r) h k = go (Polyline.centerline l r) (center_few l r h k)
   where
     go : (xs : Line) → length xs ≤ 258 → length (points_or (usable xs)) ≤ 258
     go [] q = q
@@ -187,13 +184,13 @@ derived-few (some l) (some r) h k = go (Polyline.centerline l r) (center_few l r
 -- ---- an explicit centreline
 
 module _ (p : Point2) where
-  pub explicit_empty : (second : Bool) (l : Line) → length l ≡ 0 → half_explicit p second (some l) ≡ none
+  pub explicit_empty : (second : Bool) (l : Line) → length l ≡ 0 → half_explicit p second (Some l) ≡ None
   unfolding station nearest_point
   explicit_empty true [] h = refl
   explicit_empty false [] h = refl
   explicit_empty second (x ∷ xs) h = absurd (omega arith)
 
-  pub explicit_some : (second : Bool) (l : Line) → (length l ≡ 0 → ⊥) → half_explicit p second (some l) ≡ some (half_of second p l)
+  pub explicit_some : (second : Bool) (l : Line) → (length l ≡ 0 → ⊥) → half_explicit p second (Some l) ≡ Some (half_of second p l)
   unfolding station nearest_point
   explicit_some second [] h = absurd (h refl)
   explicit_some true (x ∷ []) h = refl
@@ -201,6 +198,6 @@ module _ (p : Point2) where
   explicit_some true (x ∷ y ∷ xs) h = refl
   explicit_some false (x ∷ y ∷ xs) h = refl
 
-  pub explicit_none : (second : Bool) → half_explicit p second none ≡ none
+  pub explicit_none : (second : Bool) → half_explicit p second None ≡ None
   explicit_none true = refl
   explicit_none false = refl

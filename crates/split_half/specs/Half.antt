@@ -1,7 +1,6 @@
 -- The centreline of a half, made of the lane's row and the old boundaries, and whether a rule's anchor lies past the cut. Nothing that a host calls rests on this
 -- page; the laws of split_rules tie it to the rules: it is the centreline of the half in the map after the cut.
-use Rattle.std.specs.Prelude.{ℕ, ◌<◌, Bool, true, false, cond, not, List, reverse, Float}
-use Rattle.std.proofs.Math.Option.{Option, none, some}
+use Rattle.std.specs.Prelude.{ℕ, ◌<◌, Bool, true, false, cond, not, List, reverse, Float, Option, None, Some}
 use Rattle.std.specs.Float.Ieee.{le}
 use Rattle.lists.specs.Rows.{over}
 use Rattle.polyline.specs.Polyline.{flat, first_piece, second_piece}
@@ -29,7 +28,7 @@ along back l = cond back (reverse l) l
 -- a half's boundary along it
 abbrev pub half_side : List Float → List ℕ → Point2 → Bool → BoundaryRef → Option Line
 half_side c boundaries p second r =
-    elim (boundary (drawn c boundaries) r.boundary) [ none ↦ none | some b ↦ some (along r.reversed (half_of (takes_second second r.reversed) p b.geometry)) ]
+    elim (boundary (drawn c boundaries) r.boundary) [ None ↦ None | Some b ↦ Some (along r.reversed (half_of (takes_second second r.reversed) p b.geometry)) ]
 
 abbrev pub half_explicit : Point2 → Bool → Option Line → Option Line
 half_explicit p second o = cond second (center_piece second_piece o p) (center_piece first_piece o p)
@@ -51,7 +50,7 @@ row_derived c lanes boundaries p second i =
 
 -- an anchor's nearest station on a line is at or past the cut
 abbrev pub past_on : Line → Float → Point2 → Bool
-past_on l s anchor = elim (station l anchor) [ none ↦ false | some at ↦ le s at ]
+past_on l s anchor = elim (station l anchor) [ None ↦ false | Some at ↦ le s at ]
 
 -- an anchor lies at or past the cut, on both halves' centrelines joined
 unfoldable pub row_past : Float → List Float → List ℕ → List ℕ → Point2 → ℕ → Float → Point2 → Bool

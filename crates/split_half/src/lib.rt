@@ -9,9 +9,6 @@ ghost use Rattle.split_half.specs.Half as D;
 
 use entities::Side;
 use geometry::Point2;
-use lists::Found;
-use lookup::OptionCount;
-use polyline::OptionNearest;
 use tables::POINT;
 
 // A line before the cut or behind it, at the front of `out`; how many points it has.
@@ -20,7 +17,7 @@ pub fn half_line(line: &[f64], point: Point2, second: bool, out: &mut [f64]) -> 
     ensures { (result ≡ length (D.half_of second point (points line.now))) × ((out.new ≡ over out.old 0 (flat (D.half_of second point (points line.now)))) × (result ≤ 258)) }
 {
     let found = nearest::nearest_point(line, point);
-    let OptionNearest::Some(near) = found else {
+    let Some(near) = found else {
         return 0;
     };
     if second {
@@ -40,17 +37,14 @@ pub fn half_side(
     second: bool,
     piece: &mut [f64],
     out: &mut [f64],
-) -> OptionCount
+) -> Option<usize>
     requires { (D.Halving lanes.now boundaries.now coordinates.now i) × ((774 ≤ length piece.old) × (774 ≤ length out.old)) }
     ensures { (result ≡ K.count_of (D.row_half_side coordinates.now lanes.now boundaries.now point second i side)) × (out.new ≡ D.line_over out.old (D.row_half_side coordinates.now lanes.now boundaries.now point second i side)) }
 {
     let r = lookup::boundary_ref(lanes, i, side);
-    let found = lookup::boundary(boundaries, r.boundary);
-    let Found::At(x) = found else {
-        return OptionCount::None;
-    };
+    let x = lookup::boundary(boundaries, r.boundary)?;
     let line = lookup::boundary_line(boundaries, x, coordinates);
     let n = half_line(line, point, second != r.reversed, piece);
     let end = n * POINT;
-    OptionCount::Some(lane_lines::put_line(&piece[..end], r.reversed, out))
+    Some(lane_lines::put_line(&piece[..end], r.reversed, out))
 }

@@ -1,10 +1,10 @@
 -- The table of boundaries that a split leaves is the cut map's boundaries written over it, each with where its line starts. Assumes nothing.
+use Rattle.std.specs.Prelude.{Option, None, Some}
 use mathlib.Core.Path.{◌≡◌, refl, sym, ap, ◌∙◌}
 use Prim.Native.Nat.{ℕ, suc, ◌+◌, ◌*◌, ◌≤◌}
 use native.Mathlib.Omega.{arith}
 use mathlib.Core.Bool.{Bool, true, false, not, cond}
 use mathlib.Core.List.{List, [], ◌∷◌, ◌++◌, map, map-append}
-use mathlib.Core.Option.{Option, none, some}
 use lib.Dec.{eqb}
 use lib.Ieee.{Float}
 use lib.ListN.{length, take, drop, length-map, length-drop}
@@ -12,8 +12,6 @@ use borrow.Author.Tests.{eqb-true}
 use Rattle.lists.specs.Every.{all}
 use Rattle.lists.specs.Rows.{over, keys, row_with, later}
 use Rattle.lists.specs.Select.{find, has, each}
-use Rattle.lists.specs.declared.Found.{Found}
-use Rattle.lists.specs.declared.Found.TheVariants.{At, Nothing}
 use Rattle.lists.proofs.Rows.{get_d_over-before, get_d_over-behind, length_over}
 use Rattle.lists.proofs.Select.{all_map, map-twice}
 use Rattle.entities.specs.Records.{Boundary}
@@ -74,27 +72,27 @@ piece_kinds x = (x.of.kind, x.of.attributes)
 
 -- the piece of boundary k, and where its first line starts
 unfoldable pub piece_start : ℕ → List Piece → ℕ → Option (ℕ × Piece)
-piece_start at [] k = none
-piece_start at (x ∷ xs) k = let rest = piece_start (at + piece_size x) xs k in cond (eqb x.of.id k) (some (at, x)) rest
+piece_start at [] k = None
+piece_start at (x ∷ xs) k = let rest = piece_start (at + piece_size x) xs k in cond (eqb x.of.id k) (Some (at, x)) rest
 
 abbrev pub piece_only : Option (ℕ × Piece) → Option Piece
-piece_only none = none
-piece_only (some z) = some z.1
+piece_only None = None
+piece_only (Some z) = Some z.1
 
 pub start-piece : (at : ℕ) (xs : List Piece) (k : ℕ) → piece_for xs k ≡ piece_only (piece_start at xs k)
 unfolding piece_start find
 start-piece at [] k = refl
 start-piece at (x ∷ xs) k = go (eqb x.of.id k) (start-piece (at + piece_size x) xs k)
   where
-    go : (b : Bool) → piece_for xs k ≡ piece_only (piece_start (at + piece_size x) xs k) → cond b (some x) (piece_for xs k) ≡ piece_only (cond b (some (at, x)) (piece_start (at + piece_size x) xs k))
+    go : (b : Bool) → piece_for xs k ≡ piece_only (piece_start (at + piece_size x) xs k) → cond b (Some x) (piece_for xs k) ≡ piece_only (cond b (Some (at, x)) (piece_start (at + piece_size x) xs k))
     go true e = refl
     go false e = e
 
 module _ (pieces lines : List ℕ) where
   -- what a search among the ids of pieces finds
-  abbrev FoundPiece : ℕ → ℕ → List Piece → ℕ → Found → Type 0
-  FoundPiece j at xs k (At r) = (z : ℕ × Piece) × (piece_start at xs k ≡ some z) × PieceWords pieces lines (j + r) z.0 z.1 × (z.1.of.id ≡ k)
-  FoundPiece j at xs k Nothing = piece_start at xs k ≡ none
+  abbrev FoundPiece : ℕ → ℕ → List Piece → ℕ → Option ℕ → Type 0
+  FoundPiece j at xs k (Some r) = (z : ℕ × Piece) × (piece_start at xs k ≡ Some z) × PieceWords pieces lines (j + r) z.0 z.1 × (z.1.of.id ≡ k)
+  FoundPiece j at xs k None = piece_start at xs k ≡ None
 
   found-piece : (j at : ℕ) (xs : List Piece) → AllWords pieces lines j at xs → (k : ℕ) → FoundPiece j at xs k (row_with k (map (λ x. x.of.id) xs))
   unfolding AllWords piece_start row_with
@@ -104,19 +102,19 @@ module _ (pieces lines : List ℕ) where
       here : PieceWords pieces lines (j + 0) at x
       here = let e : j + 0 ≡ j = omega arith in rw e h.0
 
-      go : (b : Bool) → eqb x.of.id k ≡ b → (r : Found) → FoundPiece (suc j) (at + piece_size x) xs k r
-          → FoundPiece j at (x ∷ xs) k (cond b (At 0) (later r))
+      go : (b : Bool) → eqb x.of.id k ≡ b → (r : Option ℕ) → FoundPiece (suc j) (at + piece_size x) xs k r
+          → FoundPiece j at (x ∷ xs) k (cond b (Some 0) (later r))
       go true e r f = ((at, x), rw e, here, eqb-true x.of.id k e)
-      go false e (At r) f = let n : suc j + r ≡ j + suc r = omega arith in (f.0, rw e f.1, rw (← n) f.2, f.3)
-      go false e Nothing f = rw e f
+      go false e (Some r) f = let n : suc j + r ≡ j + suc r = omega arith in (f.0, rw e f.1, rw (← n) f.2, f.3)
+      go false e None f = rw e f
 
   -- ---- rows
 
   module _ (c : List Float) (at : ℕ) (xs : List Piece) where
     -- a boundary's record and its line's start after the cut
     abbrev pub cut_start : ℕ × Boundary → Option (ℕ × Piece) → ℕ × Boundary
-    cut_start r none = r
-    cut_start r (some z) = cond z.1.alone (z.0, redrawn z.1.first_line r.1) r
+    cut_start r None = r
+    cut_start r (Some z) = cond z.1.alone (z.0, redrawn z.1.first_line r.1) r
 
     abbrev pub boundary_after : ℕ × Boundary → ℕ × Boundary
     boundary_after r = cut_start r (piece_start at xs r.1.id)
@@ -124,9 +122,9 @@ module _ (pieces lines : List ℕ) where
     pub after-cut : (r : ℕ × Boundary) → (boundary_after r).1 ≡ cut_boundary xs r.1
     after-cut r = go (piece_start at xs r.1.id) (piece_for xs r.1.id) (start-piece at xs r.1.id)
       where
-        go : (o : Option (ℕ × Piece)) (p : Option Piece) → p ≡ piece_only o → (cut_start r o).1 ≡ elim p [ none ↦ r.1 | some x ↦ cond x.alone (redrawn x.first_line r.1) r.1 ]
-        go none p e = rw e
-        go (some z) p e = rw e (alike z.1.alone)
+        go : (o : Option (ℕ × Piece)) (p : Option Piece) → p ≡ piece_only o → (cut_start r o).1 ≡ elim p [ None ↦ r.1 | Some x ↦ cond x.alone (redrawn x.first_line r.1) r.1 ]
+        go None p e = rw e
+        go (Some z) p e = rw e (alike z.1.alone)
           where
             alike : (b : Bool) → (cond b (z.0, redrawn z.1.first_line r.1) r).1 ≡ cond b (redrawn z.1.first_line r.1) r.1
             alike true = refl
@@ -141,7 +139,7 @@ module _ (pieces lines : List ℕ) where
           b : Boundary
           b = boundary_of c w
 
-          found : (j : ℕ) (z : ℕ × Piece) → PieceWords pieces lines (0 + j) z.0 z.1 → z.1.of.id ≡ word 0 w → boundary_laid w (cut_start (word 2 w, b) (some z)) ≡ pointed_at pieces lines w (At j)
+          found : (j : ℕ) (z : ℕ × Piece) → PieceWords pieces lines (0 + j) z.0 z.1 → z.1.of.id ≡ word 0 w → boundary_laid w (cut_start (word 2 w, b) (Some z)) ≡ pointed_at pieces lines w (Some j)
           found j z p i =
               let n : 0 + j ≡ j = omega arith in
               let q : PieceWords pieces lines j z.0 z.1 = rw n at p in
@@ -152,9 +150,9 @@ module _ (pieces lines : List ℕ) where
               alike true = boundary-redrawn c w l z.0 z.1.first_line
               alike false = boundary-stands c w l s
 
-          go : (r : Found) → FoundPiece 0 at xs (word 0 w) r → boundary_laid w (cut_start (word 2 w, b) (piece_start at xs (word 0 w))) ≡ pointed_at pieces lines w r
-          go Nothing f = rw f (boundary-stands c w l s)
-          go (At j) f = rw f.1 (found j f.0 f.2 f.3)
+          go : (r : Option ℕ) → FoundPiece 0 at xs (word 0 w) r → boundary_laid w (cut_start (word 2 w, b) (piece_start at xs (word 0 w))) ≡ pointed_at pieces lines w r
+          go None f = rw f (boundary-stands c w l s)
+          go (Some j) f = rw f.1 (found j f.0 f.2 f.3)
 
   -- ---- new rows
 
@@ -253,9 +251,9 @@ module _ (pieces lines : List ℕ) where
         either true x y = pointed x y
         either false x y = refl
 
-        go : (r : Found) → kinds (pointed_at pieces lines w r) ≡ kinds w
-        go Nothing = refl
-        go (At j) = either (eqb (word (j * 3 + 1) pieces) (word 0 w)) (word (j * 3) lines) (word (j * 3 + 1) lines)
+        go : (r : Option ℕ) → kinds (pointed_at pieces lines w r) ≡ kinds w
+        go None = refl
+        go (Some j) = either (eqb (word (j * 3 + 1) pieces) (word 0 w)) (word (j * 3) lines) (word (j * 3 + 1) lines)
 
     row-long : (w : List ℕ) → length w ≡ 5 → length (pointed_piece pieces m lines w) ≡ 5
     row-long w l = go (row_with (word 0 w) (keys 3 m pieces))
@@ -264,9 +262,9 @@ module _ (pieces lines : List ℕ) where
         either true x y = length_over w 2 (x ∷ y ∷ []) (omega arith) ∙ l
         either false x y = l
 
-        go : (r : Found) → length (pointed_at pieces lines w r) ≡ 5
-        go Nothing = l
-        go (At j) = either (eqb (word (j * 3 + 1) pieces) (word 0 w)) (word (j * 3) lines) (word (j * 3 + 1) lines)
+        go : (r : Option ℕ) → length (pointed_at pieces lines w r) ≡ 5
+        go None = l
+        go (Some j) = either (eqb (word (j * 3 + 1) pieces) (word 0 w)) (word (j * 3) lines) (word (j * 3 + 1) lines)
 
     table-kinds : rows 5 kinds table ≡ rows 5 kinds t
     unfolding rows on_rows

@@ -1,10 +1,10 @@
 -- The table of lanes that a split leaves is the cut map's lanes written over it, each with where its centreline starts. Assumes nothing.
+use Rattle.std.specs.Prelude.{Option, None, Some}
 use mathlib.Core.Path.{◌≡◌, refl, sym, ap, ◌∙◌}
 use Prim.Native.Nat.{ℕ, suc, ◌+◌, ◌*◌, ◌≤◌, ◌<◌}
 use native.Mathlib.Omega.{arith}
 use mathlib.Core.Bool.{Bool, true, false, not, ◌&&◌, cond}
 use mathlib.Core.List.{List, [], ◌∷◌, ◌++◌, map}
-use mathlib.Core.Option.{Option, none, some}
 use lib.Dec.{eqb, leb}
 use lib.Ieee.{Float}
 use lib.ListN.{length, take, drop, length-drop}
@@ -13,8 +13,6 @@ use borrow.Author.Tests.{leb-true, eqb-true}
 use Rattle.lists.specs.Every.{all}
 use Rattle.lists.specs.Rows.{keys, row_with}
 use Rattle.lists.specs.Select.{find, has, numbered, second_of}
-use Rattle.lists.specs.declared.Found.{Found}
-use Rattle.lists.specs.declared.Found.TheVariants.{At, Nothing}
 use Rattle.lists.proofs.Booleans.{and-fst, and-snd}
 use Rattle.lists.proofs.Select.{all_map}
 use Rattle.entities.specs.Records.{Lane}
@@ -120,18 +118,18 @@ module _ (pieces : List ℕ) (m : ℕ) (centers : List ℕ) (next : ℕ) (ps : L
 
   -- ---- rows that are there
 
-  abbrev pub start_by : ℕ → Found → ℕ
-  start_by s (At rank) = first_start centers rank
-  start_by s Nothing = s
+  abbrev pub start_by : ℕ → Option ℕ → ℕ
+  start_by s (Some rank) = first_start centers rank
+  start_by s None = s
 
   -- a lane after the cut, with where its centreline starts
   abbrev pub lane_after : ℕ × Lane → ℕ × Lane
   lane_after r = (start_by r.0 (row_with r.1.id cut), cut_lane ps xs hs r.1)
 
   -- what is known of the plan of the lane in row w
-  abbrev pub PlanFound : List ℕ → Found → Type 0
-  PlanFound w (At rank) = (x : LanePlan) × (plan_for ps (word 0 w) ≡ some x) × (x.of ≡ lane_of c w) × HalfWords pieces m false xs (first_size centers rank) x.first_center w
-  PlanFound w Nothing = plan_for ps (word 0 w) ≡ none
+  abbrev pub PlanFound : List ℕ → Option ℕ → Type 0
+  PlanFound w (Some rank) = (x : LanePlan) × (plan_for ps (word 0 w) ≡ Some x) × (x.of ≡ lane_of c w) × HalfWords pieces m false xs (first_size centers rank) x.first_center w
+  PlanFound w None = plan_for ps (word 0 w) ≡ None
 
   pub record RowPlan (w : List ℕ) : Type 0 where
     pub cuttable : Cuttable c hs w
@@ -139,36 +137,36 @@ module _ (pieces : List ℕ) (m : ℕ) (centers : List ℕ) (next : ℕ) (ps : L
 
   -- by what is found of its plan and of its second half
   abbrev pub cut_by : Lane → Option LanePlan → Option ℕ → Lane
-  cut_by l none o = uncut hs l
-  cut_by l (some x) none = uncut hs l
-  cut_by l (some x) (some j) = first_half xs hs j x
+  cut_by l None o = uncut hs l
+  cut_by l (Some x) None = uncut hs l
+  cut_by l (Some x) (Some j) = first_half xs hs j x
 
   pub by-found : (l : Lane) → cut_lane ps xs hs l ≡ cut_by l (plan_for ps l.id) (second_of hs l.id)
   by-found l = go (plan_for ps l.id) (second_of hs l.id)
     where
-      go : (p : Option LanePlan) (o : Option ℕ) → elim p [ none ↦ uncut hs l | some x ↦ elim o [ none ↦ uncut hs l | some j ↦ first_half xs hs j x ] ] ≡ cut_by l p o
-      go none o = refl
-      go (some x) none = refl
-      go (some x) (some j) = refl
+      go : (p : Option LanePlan) (o : Option ℕ) → elim p [ None ↦ uncut hs l | Some x ↦ elim o [ None ↦ uncut hs l | Some j ↦ first_half xs hs j x ] ] ≡ cut_by l p o
+      go None o = refl
+      go (Some x) None = refl
+      go (Some x) (Some j) = refl
 
   row_cut_lem : (w : List ℕ) → length w ≡ 52 → RowPlan w → lane_laid w (lane_after (word 7 w, lane_of c w)) ≡ lane_cut pieces m cut next centers w
   unfolding lane_of
   row_cut_lem w l h = ap (λ z. lane_laid w (start_by (word 7 w) (row_with (word 0 w) cut), z)) (by-found (lane_of c w)) ∙ go (row_with (word 0 w) cut) refl h.plan
     where
-      go : (r : Found) → row_with (word 0 w) cut ≡ r → PlanFound w r → lane_laid w (start_by (word 7 w) r, cut_by (lane_of c w) (plan_for ps (word 0 w)) (second_of hs (word 0 w))) ≡ row_cut pieces m cut next centers r w
-      go Nothing e p = rw p (uncut-laid pieces m cut next centers c xs w l h.cuttable)
-      go (At rank) e p = rw (p.1, second-numbered next (word 0 w) cut ∙ ap (number_at next) e, p.2) (first-laid pieces m cut next centers c xs rank p.0.first_center w l h.cuttable p.3)
+      go : (r : Option ℕ) → row_with (word 0 w) cut ≡ r → PlanFound w r → lane_laid w (start_by (word 7 w) r, cut_by (lane_of c w) (plan_for ps (word 0 w)) (second_of hs (word 0 w))) ≡ row_cut pieces m cut next centers r w
+      go None e p = rw p (uncut-laid pieces m cut next centers c xs w l h.cuttable)
+      go (Some rank) e p = rw (p.1, second-numbered next (word 0 w) cut ∙ ap (number_at next) e, p.2) (first-laid pieces m cut next centers c xs rank p.0.first_center w l h.cuttable p.3)
 
   -- what is found has the id that is looked for
-  plan-id : (qs : List LanePlan) (k : ℕ) (x : LanePlan) → plan_for qs k ≡ some x → x.of.id ≡ k
+  plan-id : (qs : List LanePlan) (k : ℕ) (x : LanePlan) → plan_for qs k ≡ Some x → x.of.id ≡ k
   unfolding find
   plan-id [] k x e = absurd (none-some x e)
     where
-      none-some : (x : LanePlan) → ◌≡◌ {A = Option LanePlan} none (some x) → ⊥
+      none-some : (x : LanePlan) → ◌≡◌ {A = Option LanePlan} None (Some x) → ⊥
       none-some x e = let z : ◌≡◌ {A = ℕ} 0 1 = cc in omega arith
   plan-id (y ∷ qs) k x e = go (eqb y.of.id k) refl (plan-id qs k x) e
     where
-      go : (b : Bool) → eqb y.of.id k ≡ b → (plan_for qs k ≡ some x → x.of.id ≡ k) → cond b (some y) (plan_for qs k) ≡ some x → x.of.id ≡ k
+      go : (b : Bool) → eqb y.of.id k ≡ b → (plan_for qs k ≡ Some x → x.of.id ≡ k) → cond b (Some y) (plan_for qs k) ≡ Some x → x.of.id ≡ k
       go true i r q = let z : y ≡ x = cc in ap (λ (v : LanePlan). v.of.id) (sym z) ∙ eqb-true y.of.id k i
       go false i r q = r q
 
@@ -176,9 +174,9 @@ module _ (pieces : List ℕ) (m : ℕ) (centers : List ℕ) (next : ℕ) (ps : L
   cut-id l = ap (λ (z : Lane). z.id) (by-found l) ∙ go (plan_for ps l.id) refl (second_of hs l.id)
     where
       go : (p : Option LanePlan) → plan_for ps l.id ≡ p → (o : Option ℕ) → (cut_by l p o).id ≡ l.id
-      go none e o = refl
-      go (some x) e none = refl
-      go (some x) e (some j) = plan-id ps l.id x e
+      go None e o = refl
+      go (Some x) e None = refl
+      go (Some x) e (Some j) = plan-id ps l.id x e
 
   starts-many : (rank : ℕ) (qs : List LanePlan) → length (second_starts rank qs) ≡ length qs
   unfolding second_starts
@@ -189,7 +187,7 @@ module _ (pieces : List ℕ) (m : ℕ) (centers : List ℕ) (next : ℕ) (ps : L
 
   -- the links of a lane after the cut fit
   unfoldable pub PlansFew : Type 0
-  PlansFew = (k : ℕ) (x : LanePlan) → plan_for ps k ≡ some x → length (came_from hs x.of.predecessors) ≤ 16
+  PlansFew = (k : ℕ) (x : LanePlan) → plan_for ps k ≡ Some x → length (came_from hs x.of.predecessors) ≤ 16
 
   abbrev row_few : List ℕ → Bool
   row_few w = lane_formed w && leb (length (came_from hs (ids_at 18 w))) 16
@@ -210,14 +208,14 @@ module _ (pieces : List ℕ) (m : ℕ) (centers : List ℕ) (next : ℕ) (ps : L
       behind = ids_few 35 w (lane-marks w formed).after
 
       before : (p : Option LanePlan) → plan_for ps (word 0 w) ≡ p → (o : Option ℕ) → length (cut_by (lane_of c w) p o).predecessors ≤ 16
-      before none e o = own
-      before (some x) e none = own
-      before (some x) e (some j) = few (word 0 w) x e
+      before None e o = own
+      before (Some x) e None = own
+      before (Some x) e (Some j) = few (word 0 w) x e
 
       after : (p : Option LanePlan) (o : Option ℕ) → length (cut_by (lane_of c w) p o).successors ≤ 16
-      after none o = behind
-      after (some x) none = behind
-      after (some x) (some j) = omega arith
+      after None o = behind
+      after (Some x) None = behind
+      after (Some x) (Some j) = omega arith
 
   module _ (t : List ℕ) (seen : List Bool) (planned : PlanRows 0 ps (marked_rows seen t)) (rows-planned : (j : ℕ) → j < word 0 t → RowPlan (row_at 52 t j)) (few : PlansFew)
       (room : 1 + (word 0 t + length ps) * 52 ≤ length t) (fine : all (λ b. b) (rows 52 row_few t) ≡ true)

@@ -1,10 +1,10 @@
 -- Where the lines of the cut map lie before the layout: the pieces among the drawn lines, the others in the coordinates. Assumes nothing.
+use Rattle.std.specs.Prelude.{Option, None, Some}
 use mathlib.Core.Path.{◌≡◌, refl, sym, ap, ◌∙◌, subst}
 use Prim.Native.Nat.{ℕ, zero, suc, ◌+◌, ◌*◌, ◌/◌, ◌≤◌, ◌<◌}
 use native.Mathlib.Omega.{arith}
 use mathlib.Core.Bool.{Bool, true, false, cond}
 use mathlib.Core.List.{List, [], ◌∷◌, ◌++◌, map, append-nil}
-use mathlib.Core.Option.{Option, none, some}
 use lib.Dec.{eqb}
 use lib.Ieee.{Float}
 use lib.ListN.{length, take, drop}
@@ -12,8 +12,6 @@ use lib.Seq.{drop-drop}
 use Rattle.lists.specs.Every.{all}
 use Rattle.lists.specs.Rows.{reads, row_with, later}
 use Rattle.lists.specs.Select.{each, find, numbered, second_of}
-use Rattle.lists.specs.declared.Found.{Found}
-use Rattle.lists.specs.declared.Found.TheVariants.{At, Nothing}
 use Rattle.polyline.specs.Polyline.{flat}
 use Rattle.entities.specs.Records.{Line, Lane, Boundary}
 use Rattle.rules.specs.Sound.{optional_line, total}
@@ -65,12 +63,12 @@ module _ (work : List Float) where
   behind-both at x ls h = let e : at + length x.first_line + length x.second_line ≡ at + piece_size x = omega arith in rw e at h
 
   -- the first line of the piece of a boundary
-  first-lies : (at : ℕ) (xs : List Piece) → Runs work at (piece_lines xs) → (k : ℕ) (z : ℕ × Piece) → piece_start at xs k ≡ some z → LineIn work z.0 z.1.first_line
+  first-lies : (at : ℕ) (xs : List Piece) → Runs work at (piece_lines xs) → (k : ℕ) (z : ℕ × Piece) → piece_start at xs k ≡ Some z → LineIn work z.0 z.1.first_line
   unfolding Runs piece_lines piece_start
   first-lies at [] h k z e = let y : ◌≡◌ {A = ℕ} 0 1 = cc in absurd (omega arith)
   first-lies at (x ∷ xs) h k z e = go (eqb x.of.id k) (first-lies (at + piece_size x) xs (behind-both at x (piece_lines xs) h.1.1) k z) e
     where
-      go : (b : Bool) → (piece_start (at + piece_size x) xs k ≡ some z → LineIn work z.0 z.1.first_line) → cond b (some (at, x)) (piece_start (at + piece_size x) xs k) ≡ some z → LineIn work z.0 z.1.first_line
+      go : (b : Bool) → (piece_start (at + piece_size x) xs k ≡ Some z → LineIn work z.0 z.1.first_line) → cond b (Some (at, x)) (piece_start (at + piece_size x) xs k) ≡ Some z → LineIn work z.0 z.1.first_line
       go true r q = let y : (at, x) ≡ z = cc in subst (λ (v : ℕ × Piece). LineIn work v.0 v.1.first_line) y h.0
       go false r q = r q
 
@@ -100,8 +98,8 @@ module _ (work : List Float) where
         (new-lies pieces lines at xs h)
       where
         go : (w : List ℕ) → within reach (span_at 2 w) ≡ true → (o : Option (ℕ × Piece)) → piece_start at xs (word 0 w) ≡ o → BoundaryLies (cut_start pieces lines c at xs (word 2 w, boundary_of c w) o)
-        go w g none e = line-lies c work reach few begins 2 w g
-        go w g (some z) e = alike z.1.alone
+        go w g None e = line-lies c work reach few begins 2 w g
+        go w g (Some z) e = alike z.1.alone
           where
             alike : (b : Bool) → BoundaryLies (cond b (z.0, redrawn z.1.first_line (boundary_of c w)) (word 2 w, boundary_of c w))
             alike true = first-lies at xs h (word 0 w) z e
@@ -140,29 +138,29 @@ each-rows-at F s dec t h = each-reads F s dec (word 0 t) (drop 1 t) (λ j l. rw 
 module _ (work : List Float) (centers : List ℕ) where
   optional-lies : (at : ℕ) (o : Option Line) → LineIn work at (points_or o) → EachOf (LineIn work at) (optional_line o)
   unfolding EachOf
-  optional-lies at none h = refl
-  optional-lies at (some l) h = (h, refl)
+  optional-lies at None h = refl
+  optional-lies at (Some l) h = (h, refl)
 
   -- the first half's centreline of a cut lane
-  center_found : (rank at : ℕ) (qs : List LanePlan) → Runs work at (center_lines_of qs) → StartsAt centers rank at qs → (k r : ℕ) (x : LanePlan) → row_with k (map (λ x. x.of.id) qs) ≡ At r → plan_for qs k ≡ some x
+  center_found : (rank at : ℕ) (qs : List LanePlan) → Runs work at (center_lines_of qs) → StartsAt centers rank at qs → (k r : ℕ) (x : LanePlan) → row_with k (map (λ x. x.of.id) qs) ≡ Some r → plan_for qs k ≡ Some x
       → LineIn work (first_start centers (rank + r)) (points_or x.first_center)
   unfolding Runs center_lines_of StartsAt row_with find
   center_found rank at [] h s k r x e f = let y : ◌≡◌ {A = ℕ} 0 1 = cc in absurd (omega arith)
   center_found rank at (y ∷ qs) h s k r x e f =
       go (eqb y.of.id k) (row_with k (map (λ x. x.of.id) qs)) (λ r e. center_found (suc rank) (at + length (points_or y.first_center) + length (points_or y.second_center)) qs h.1.1 s.1.1 k r x e) e f
     where
-      go : (b : Bool) (u : Found) → ((r : ℕ) → u ≡ At r → plan_for qs k ≡ some x → LineIn work (first_start centers (suc rank + r)) (points_or x.first_center))
-          → cond b (At 0) (later u) ≡ At r → cond b (some y) (plan_for qs k) ≡ some x → LineIn work (first_start centers (rank + r)) (points_or x.first_center)
+      go : (b : Bool) (u : Option ℕ) → ((r : ℕ) → u ≡ Some r → plan_for qs k ≡ Some x → LineIn work (first_start centers (suc rank + r)) (points_or x.first_center))
+          → cond b (Some 0) (later u) ≡ Some r → cond b (Some y) (plan_for qs k) ≡ Some x → LineIn work (first_start centers (rank + r)) (points_or x.first_center)
       go true u i e f =
           let z : y ≡ x = cc in
           let n : 0 ≡ r = cc in
           let m : rank ≡ rank + r = omega arith in
           subst (λ (v : ℕ). LineIn work (first_start centers v) (points_or x.first_center)) m (subst (λ (v : LanePlan). LineIn work (first_start centers rank) (points_or v.first_center)) z (rw s.0 h.0))
-      go false (At q) i e f =
+      go false (Some q) i e f =
           let n : suc q ≡ r = cc in
           let m : suc rank + q ≡ rank + r = omega arith in
           subst (λ (v : ℕ). LineIn work (first_start centers v) (points_or x.first_center)) m (i q refl f)
-      go false Nothing i e f = let z : ◌≡◌ {A = ℕ} 0 1 = cc in absurd (omega arith)
+      go false None i e f = let z : ◌≡◌ {A = ℕ} 0 1 = cc in absurd (omega arith)
 
   abbrev LaneLies : ℕ × Lane → Type 0
   LaneLies r = EachOf (LineIn work r.0) (optional_line r.1.centerline)
@@ -184,10 +182,10 @@ module _ (work : List Float) (centers : List ℕ) where
           subst (λ (z : Lane). LaneLies (start_by pieces m centers next ps xs c (word 7 w) (row_with (word 0 w) (map (λ x. x.of.id) ps)), z)) (sym (by-found pieces m centers next ps xs c (lane_of c w)))
           (go (row_with (word 0 w) (map (λ x. x.of.id) ps)) refl p.plan)
         where
-          go : (r : Found) → row_with (word 0 w) (map (λ x. x.of.id) ps) ≡ r → PlanFound pieces m centers next ps xs c w r
+          go : (r : Option ℕ) → row_with (word 0 w) (map (λ x. x.of.id) ps) ≡ r → PlanFound pieces m centers next ps xs c w r
               → LaneLies (start_by pieces m centers next ps xs c (word 7 w) r, cut_by pieces m centers next ps xs c (lane_of c w) (plan_for ps (word 0 w)) (second_of (numbered next (map (λ x. x.of.id) ps)) (word 0 w)))
-          go Nothing e q = rw q (center_lies c work reach few begins w (mark 6 w) near)
-          go (At rank) e q =
+          go None e q = rw q (center_lies c work reach few begins w (mark 6 w) near)
+          go (Some rank) e q =
               let n : 0 + rank ≡ rank = omega arith in
               let g = center_found 0 at ps h s (word 0 w) rank q.0 e q.1 in
               rw (q.1, second-numbered next (word 0 w) (map (λ x. x.of.id) ps) ∙ ap (number_at next) e) (optional-lies (first_start centers rank) q.0.first_center (rw n at g))

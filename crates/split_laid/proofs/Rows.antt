@@ -1,10 +1,10 @@
 -- The rows of lanes that a split leaves: halves and lanes that are not cut, written over a row with where the centreline starts. Assumes nothing.
+use Rattle.std.specs.Prelude.{Option, None, Some}
 use mathlib.Core.Path.{◌≡◌, refl, sym, ap, ◌∙◌}
 use Prim.Native.Nat.{ℕ, suc, ◌+◌, ◌≤◌}
 use native.Mathlib.Omega.{arith}
 use mathlib.Core.Bool.{Bool, true, false, cond}
 use mathlib.Core.List.{List, [], ◌∷◌, ◌++◌}
-use mathlib.Core.Option.{Option, none, some}
 use lib.Ieee.{Float}
 use lib.ListN.{length, get_or, set, drop, length-append, length-take}
 use lib.Seq.{drop_at}
@@ -34,30 +34,30 @@ use Rattle.split_rows.specs.Halves.{half_ref, center_onto, first_start, first_si
 left-slot : (y0 y1 y2 y3 y4 y5 y6 y7 y8 y9 y10 y11 y12 y13 y14 y15 y16 y17 : ℕ) (rest : List ℕ) (o : Option Neighbor)
     → set_slot 14 o (lane18 y0 y1 y2 y3 y4 y5 y6 y7 y8 y9 y10 y11 y12 y13 y14 y15 y16 y17 rest) ≡ lane18 y0 y1 y2 y3 y4 y5 y6 y7 y8 y9 y10 y11 y12 y13 (slot_mark o) (slot_lane y15 o) y16 y17 rest
 unfolding set_slot over
-left-slot y0 y1 y2 y3 y4 y5 y6 y7 y8 y9 y10 y11 y12 y13 y14 y15 y16 y17 rest none = refl
-left-slot y0 y1 y2 y3 y4 y5 y6 y7 y8 y9 y10 y11 y12 y13 y14 y15 y16 y17 rest (some n) = refl
+left-slot y0 y1 y2 y3 y4 y5 y6 y7 y8 y9 y10 y11 y12 y13 y14 y15 y16 y17 rest None = refl
+left-slot y0 y1 y2 y3 y4 y5 y6 y7 y8 y9 y10 y11 y12 y13 y14 y15 y16 y17 rest (Some n) = refl
 
 right-slot : (y0 y1 y2 y3 y4 y5 y6 y7 y8 y9 y10 y11 y12 y13 y14 y15 y16 y17 : ℕ) (rest : List ℕ) (o : Option Neighbor)
     → set_slot 16 o (lane18 y0 y1 y2 y3 y4 y5 y6 y7 y8 y9 y10 y11 y12 y13 y14 y15 y16 y17 rest) ≡ lane18 y0 y1 y2 y3 y4 y5 y6 y7 y8 y9 y10 y11 y12 y13 y14 y15 (slot_mark o) (slot_lane y17 o) rest
 unfolding set_slot over
-right-slot y0 y1 y2 y3 y4 y5 y6 y7 y8 y9 y10 y11 y12 y13 y14 y15 y16 y17 rest none = refl
-right-slot y0 y1 y2 y3 y4 y5 y6 y7 y8 y9 y10 y11 y12 y13 y14 y15 y16 y17 rest (some n) = refl
+right-slot y0 y1 y2 y3 y4 y5 y6 y7 y8 y9 y10 y11 y12 y13 y14 y15 y16 y17 rest None = refl
+right-slot y0 y1 y2 y3 y4 y5 y6 y7 y8 y9 y10 y11 y12 y13 y14 y15 y16 y17 rest (Some n) = refl
 
 -- a centreline is there where a mark says so, and has so many points
 abbrev pub CenterIs : Bool → ℕ → Option Line → Type 0
-CenterIs true size (some l) = size ≡ length l
-CenterIs true size none = ⊥
-CenterIs false size (some l) = ⊥
-CenterIs false size none = ◌≡◌ {A = ℕ} 0 0
+CenterIs true size (Some l) = size ≡ length l
+CenterIs true size None = ⊥
+CenterIs false size (Some l) = ⊥
+CenterIs false size None = ◌≡◌ {A = ℕ} 0 0
 
 -- a centreline's words, where there is one of so many points
 center_put : (y0 y1 y2 y3 y4 y5 y6 y7 y8 y9 y10 y11 y12 y13 y14 y15 y16 y17 : ℕ) (rest : List ℕ) (at size : ℕ) (b : Bool) (o : Option Line) → CenterIs b size o
     → center_onto b at size (lane18 y0 y1 y2 y3 y4 y5 y6 y7 y8 y9 y10 y11 y12 y13 y14 y15 y16 y17 rest) ≡ lane18 y0 y1 y2 y3 y4 y5 y6 (start_or y7 at o) (size_or y8 o) y9 y10 y11 y12 y13 y14 y15 y16 y17 rest
 unfolding over
-center_put y0 y1 y2 y3 y4 y5 y6 y7 y8 y9 y10 y11 y12 y13 y14 y15 y16 y17 rest at size true (some l) h = ap (λ z. lane18 y0 y1 y2 y3 y4 y5 y6 at z y9 y10 y11 y12 y13 y14 y15 y16 y17 rest) h
-center_put y0 y1 y2 y3 y4 y5 y6 y7 y8 y9 y10 y11 y12 y13 y14 y15 y16 y17 rest at size true none h = absurd h
-center_put y0 y1 y2 y3 y4 y5 y6 y7 y8 y9 y10 y11 y12 y13 y14 y15 y16 y17 rest at size false (some l) h = absurd h
-center_put y0 y1 y2 y3 y4 y5 y6 y7 y8 y9 y10 y11 y12 y13 y14 y15 y16 y17 rest at size false none h = refl
+center_put y0 y1 y2 y3 y4 y5 y6 y7 y8 y9 y10 y11 y12 y13 y14 y15 y16 y17 rest at size true (Some l) h = ap (λ z. lane18 y0 y1 y2 y3 y4 y5 y6 at z y9 y10 y11 y12 y13 y14 y15 y16 y17 rest) h
+center_put y0 y1 y2 y3 y4 y5 y6 y7 y8 y9 y10 y11 y12 y13 y14 y15 y16 y17 rest at size true None h = absurd h
+center_put y0 y1 y2 y3 y4 y5 y6 y7 y8 y9 y10 y11 y12 y13 y14 y15 y16 y17 rest at size false (Some l) h = absurd h
+center_put y0 y1 y2 y3 y4 y5 y6 y7 y8 y9 y10 y11 y12 y13 y14 y15 y16 y17 rest at size false None h = refl
 
 -- ---- a second half
 
@@ -70,7 +70,7 @@ head-put y0 y1 y2 y3 y4 y5 y6 y7 y8 y9 y10 y11 y12 y13 y14 y15 y16 y17 rest id l
   where
     go : (b : Bool) → over (cond b (set (set (over (lane18 y0 y1 y2 y3 y4 y5 y6 y7 y8 y9 y10 y11 y12 y13 y14 y15 y16 y17 rest) 0 (id ∷ word 1 v ∷ left ∷ word 3 v ∷ right ∷ word 5 v ∷ word 6 v ∷ [])) 9 (word 9 v)) 10 (word 10 v))
         (set (over (lane18 y0 y1 y2 y3 y4 y5 y6 y7 y8 y9 y10 y11 y12 y13 y14 y15 y16 y17 rest) 0 (id ∷ word 1 v ∷ left ∷ word 3 v ∷ right ∷ word 5 v ∷ word 6 v ∷ [])) 9 (word 9 v))) 11 (word 11 v ∷ word 12 v ∷ word 13 v ∷ [])
-        ≡ lane18 id (word 1 v) left (word 3 v) right (word 5 v) (word 6 v) y7 y8 (word 9 v) (number_or y10 (cond b (some (word 10 v)) none)) (word 11 v) (word 12 v) (word 13 v) y14 y15 y16 y17 rest
+        ≡ lane18 id (word 1 v) left (word 3 v) right (word 5 v) (word 6 v) y7 y8 (word 9 v) (number_or y10 (cond b (Some (word 10 v)) None)) (word 11 v) (word 12 v) (word 13 v) y14 y15 y16 y17 rest
     go true = refl
     go false = refl
 
@@ -102,16 +102,16 @@ way r = r.reversed
 first_way : (xs : List Piece) (r : BoundaryRef) → (first_ref xs r).reversed ≡ r.reversed
 first_way xs r = go (piece_for xs r.boundary)
   where
-    go : (o : Option Piece) → way (elim o [ none ↦ r | some x ↦ record { boundary = cond r.reversed x.second x.first; reversed = r.reversed } ]) ≡ r.reversed
-    go none = refl
-    go (some x) = refl
+    go : (o : Option Piece) → way (elim o [ None ↦ r | Some x ↦ record { boundary = cond r.reversed x.second x.first; reversed = r.reversed } ]) ≡ r.reversed
+    go None = refl
+    go (Some x) = refl
 
 second_way : (xs : List Piece) (r : BoundaryRef) → (second_ref xs r).reversed ≡ r.reversed
 second_way xs r = go (piece_for xs r.boundary)
   where
-    go : (o : Option Piece) → way (elim o [ none ↦ r | some x ↦ record { boundary = cond r.reversed x.first x.second; reversed = r.reversed } ]) ≡ r.reversed
-    go none = refl
-    go (some x) = refl
+    go : (o : Option Piece) → way (elim o [ None ↦ r | Some x ↦ record { boundary = cond r.reversed x.first x.second; reversed = r.reversed } ]) ≡ r.reversed
+    go None = refl
+    go (Some x) = refl
 
 -- what the words say of a half: its boundaries, and its centreline's points
 pub record HalfWords (pieces : List ℕ) (m : ℕ) (second : Bool) (xs : List Piece) (size : ℕ) (o : Option Line) (v : List ℕ) : Type 0 where

@@ -59,13 +59,11 @@ fn put_halves(
 {
     let n = t[0] as usize;
     let mut rank = 0;
-    let mut i = 0;
-    while i < n {
+    for i in 0..n {
         if seen[i] {
             put_half(t, i, n + rank, pieces, m, cut, next, centers, rank);
             rank += 1;
         }
-        i += 1;
     }
 }
 
@@ -75,12 +73,10 @@ fn cut_rows(t: &mut [u64], pieces: &[u64], m: usize, cut: &[u64], next: u64, cen
     ensures { t.new ≡ on_rows 52 (W.lane_cut pieces.now m cut.now next centers.now) t.old }
 {
     let n = t[0] as usize;
-    let mut i = 0;
-    while i < n {
+    for i in 0..n {
         let at = 1 + i * LANE;
         let end = at + LANE;
         split_first::cut_row(&mut t[at..end], pieces, m, cut, next, centers);
-        i += 1;
     }
 }
 

@@ -1,4 +1,5 @@
 -- The marks of a lane's group pick the lanes of the group, in the table's order. Assumes nothing.
+use Rattle.std.specs.Prelude.{Some}
 use mathlib.Core.Path.{◌≡◌, refl, sym, ap, ◌∙◌}
 use Prim.Native.Nat.{ℕ, ◌+◌}
 use native.Mathlib.Omega.{arith}
@@ -10,7 +11,6 @@ use borrow.Author.Tests.{ne_eqb, eqb-true, eqb-false, ltb-true}
 use Rattle.lists.specs.Rows.{over, keys}
 use Rattle.lists.specs.Select.{keep, has, ascending}
 use Rattle.lists.specs.Every.{all}
-use Rattle.lists.specs.declared.Found.TheVariants.{At}
 use Rattle.lists.proofs.Booleans.{and_both, and-fst, and-snd}
 use Rattle.lists.proofs.Rows.{mapped-reads, length-keys}
 use Rattle.lists.proofs.Select.{keep-map, keep-none, map-twice, all-weaken, above-all, ascending-tail}
@@ -72,7 +72,7 @@ keep_one x (k ∷ ks) up h = go (eqb k x) refl (λ e. keep_one x ks (ascending-t
 
 -- ---- the lanes of the group
 
-module _ (t : Tables) (own i : ℕ) (ei : place_of 52 t.lanes own ≡ At i) (neighbors : Bool) where
+module _ (t : Tables) (own i : ℕ) (ei : place_of 52 t.lanes own ≡ Some i) (neighbors : Bool) where
   group-is : group_of (lane_map t.lanes) (word 0 (row_at 52 t.lanes i)) neighbors ≡ group_of (view t) own neighbors
   group-is = ap (λ n. group_of (lane_map t.lanes) n neighbors) (place-id 52 t.lanes own i ei) ∙ go neighbors
     where

@@ -1,8 +1,8 @@
 -- What stands in a list: found by its key where keys ascend, and in lists made of others. Assumes nothing.
+use Rattle.std.specs.Prelude.{Some}
 use mathlib.Core.Path.{◌≡◌, refl, sym, ◌∙◌}
 use mathlib.Core.Bool.{Bool, true, false, ◌||◌, cond}
 use mathlib.Core.List.{List, [], ◌∷◌, ◌++◌, map}
-use mathlib.Core.Option.{some}
 use Prim.Native.Nat.{ℕ, zero, suc, ◌+◌, ◌<◌}
 use native.Mathlib.Nat.{le_of_suc-le-suc, not-suc-le-zero}
 use native.Mathlib.Omega.{arith}
@@ -27,7 +27,7 @@ module _ {A : Type 0} where
   all_in q (y ∷ ys) x (there i) h = all_in q ys x i (and-snd (q y) (all q ys) h)
 
   -- by its key
-  pub in_found : (key : A → ℕ) (xs : List A) (x : A) → ascending (map key xs) ≡ true → In x xs → find (λ y. eqb (key y) (key x)) xs ≡ some x
+  pub in_found : (key : A → ℕ) (xs : List A) (x : A) → ascending (map key xs) ≡ true → In x xs → find (λ y. eqb (key y) (key x)) xs ≡ Some x
   unfolding find ascending
   in_found key [] x up i = elim i [ ]
   in_found key (y ∷ ys) x up here = rw (eq-eqb (key y) (key y) refl)
@@ -35,12 +35,12 @@ module _ {A : Type 0} where
       let l : key y < key x = ltb-true (key y) (key x) (all_in (λ z. ltb (key y) (key z)) ys x i (sym (all_map (ltb (key y)) key ys) ∙ above-all (key y) (map key ys) up)) in
       rw (ne_eqb (key y) (key x) (λ q. omega arith)) (in_found key ys x (ascending-tail (key y) (map key ys) up) i)
 
-  pub found_in : (q : A → Bool) (xs : List A) (x : A) → find q xs ≡ some x → In x xs
+  pub found_in : (q : A → Bool) (xs : List A) (x : A) → find q xs ≡ Some x → In x xs
   unfolding find
   found_in q [] x e = absurd (no-some x e)
   found_in q (y ∷ ys) x e = go (q y) e (λ f. found_in q ys x f)
     where
-      go : (b : Bool) → cond b (some y) (find q ys) ≡ some x → (find q ys ≡ some x → In x ys) → In x (y ∷ ys)
+      go : (b : Bool) → cond b (Some y) (find q ys) ≡ Some x → (find q ys ≡ Some x → In x ys) → In x (y ∷ ys)
       go true f r = let z : y ≡ x = some_is f in rw z here
       go false f r = there (r f)
 

@@ -1,15 +1,14 @@
 -- The boundaries that a split marks are those that document 01 cuts, and the rows of their pieces have its pieces' ids. Assumes nothing.
+use Rattle.std.specs.Prelude.{Option, None, Some}
 use mathlib.Core.Path.{◌≡◌, refl, sym, ap, ◌∙◌}
 use Prim.Native.Nat.{ℕ, suc, ◌+◌}
 use mathlib.Core.Bool.{Bool, true, false, not, ◌&&◌, ◌||◌, cond}
 use mathlib.Core.List.{List, [], ◌∷◌, ◌++◌, map, map-append}
-use mathlib.Core.Option.{Option, none, some}
 use lib.Ieee.{Float}
 use lib.ListN.{length, drop}
 use Rattle.lists.specs.Every.{all}
 use Rattle.lists.specs.Rows.{over, keys}
 use Rattle.lists.specs.Select.{keep, any, has}
-use Rattle.lists.specs.declared.Found.TheVariants.{At}
 use Rattle.lists.proofs.Rows.{mapped-reads}
 use Rattle.lists.proofs.Select.{any-map, any-keep, all_map, keep-map, keep_same, map-twice}
 use Rattle.entities.specs.Records.{Lane, Boundary}
@@ -31,12 +30,12 @@ ids_in x = x.of.id ∷ x.first ∷ x.second ∷ []
 -- ---- one boundary, whether or not a line crosses the cut
 
 at-ids : (b : Boundary) (alone : Bool) (i j : ℕ) (s : Option Float) → ids_in (piece_at b alone i j s) ≡ b.id ∷ i ∷ j ∷ []
-at-ids b alone i j none = refl
-at-ids b alone i j (some s) = refl
+at-ids b alone i j None = refl
+at-ids b alone i j (Some s) = refl
 
 at-many : (b : Boundary) (alone : Bool) (i j : ℕ) (s : Option Float) → piece_ids (piece_at b alone i j s) ≡ cond alone 1 2
-at-many b alone i j none = refl
-at-many b alone i j (some s) = refl
+at-many b alone i j None = refl
+at-many b alone i j (Some s) = refl
 
 row_by : (beyond : Bool) (next k : ℕ) → ◌≡◌ {A = List ℕ} (k ∷ cond (not beyond) k next ∷ cond (not beyond) next (suc next) ∷ []) (piece_row beyond next k)
 row_by true next k = refl
@@ -101,7 +100,7 @@ boundary-keys t = sym (mapped-reads 5 (boundary_of t.coordinates) (λ (b : Bound
 
 -- ---- the group's marks, and the boundaries' marks, as they are written
 
-module _ (t : Tables) (own i : ℕ) (ei : place_of 52 t.lanes own ≡ At i) (neighbors : Bool) (seen₀ seen : List Bool) (es : seen ≡ over seen₀ 0 (group_marks t.lanes i neighbors)) where
+module _ (t : Tables) (own i : ℕ) (ei : place_of 52 t.lanes own ≡ Some i) (neighbors : Bool) (seen₀ seen : List Bool) (es : seen ≡ over seen₀ 0 (group_marks t.lanes i neighbors)) where
   abbrev group : List ℕ
   group = group_of (view t) own neighbors
 

@@ -1,33 +1,29 @@
 -- What a split decides by rows is what split-lane decides on the whole map. Assumes nothing.
+use Rattle.std.specs.Prelude.{Option, None, Some, Err, Ok}
 use mathlib.Core.Path.{◌≡◌, refl, sym, ap, ◌∙◌}
 use Prim.Native.Nat.{ℕ}
 use native.Mathlib.Omega.{arith}
 use mathlib.Core.Bool.{Bool, true, false}
 use mathlib.Core.List.{List, [], map, append-nil}
-use mathlib.Core.Option.{Option, none, some}
 use lib.Ieee.{Float}
 use lib.ListN.{length, take, length-map}
 use lib.Seq.{take_all}
 use Rattle.lists.specs.Rows.{over}
 use Rattle.lists.specs.Select.{keep, any, has}
 use Rattle.lists.proofs.Select.{map-twice}
-use Rattle.lists.specs.declared.Found.TheVariants.{At, Nothing}
 use Rattle.polyline.specs.Polyline.{line_length, point_at}
 use Rattle.entities.specs.Records.{Line, Lane, Boundary, Map}
 use Rattle.rules.specs.Names.{Tolerance, SplitAt, Refusal, LaneAbsent, NoUsableLine, PositionOutside, Point2}
 use Rattle.rules.specs.Map.{lane, centerline, uses, flat_point}
-use Rattle.rules.specs.Edit.{Res, refuse, yield, ◌>>=◌, Passed, passed, check, require, Edited}
+use Rattle.rules.specs.Edit.{Res, ◌>>=◌, Passed, passed, check, require, Edited}
 use Rattle.rules.specs.Split.{cut_station, cuttable, LanePlan, lane_plans, all_cross, pieces, cut, group_of, split_lane}
 use Rattle.tables.specs.View.{Tables, word, lane_of, view}
 use Rattle.row_tests.specs.Returned.{searchable}
 use Rattle.lookup.specs.Lookup.{place_of, row_at, center_line}
 use Rattle.lookup.proofs.Laws.{find_at, find_none, place-id}
 use Rattle.lookup.proofs.Center.{center_drawn_lem}
-use Rattle.split_plan.specs.Placing.{placing, placed, place_told, group_marks, marked_rows, plans_of, row_station, all_of, good_of, stations_told, group_stations, group_cut, row_crosses, all_pass, cross_told}
+use Rattle.split_plan.specs.Placing.{placing, placed, group_marks, marked_rows, plans_of, row_station, all_of, good_of, stations_told, group_stations, group_cut, row_crosses, all_pass}
 use Rattle.split_plan.specs.declared.Cut.{Cut}
-use Rattle.split_plan.specs.declared.Placed.TheVariants as P
-use Rattle.split_plan.specs.declared.Stations.TheVariants as L
-use Rattle.split_plan.specs.declared.Crossed.TheVariants as X
 use Rattle.split_plan.proofs.Marked.{Each, each-length, each-good, all-each}
 use Rattle.split_laws.proofs.Chosen.{lanes-chosen, ids-chosen}
 use Rattle.split_laws.proofs.ByRows.{row-plans, plans-of, plans-ids, plans_stations, row-crossings}
@@ -44,8 +40,8 @@ cut_by tol next own m group ls k ps = cut tol next m own group ps (pieces group 
 -- the plans of the lanes, what is told of them, and the cut that they make
 pub record Plans (tol : Tolerance) (next own : ℕ) (at : SplitAt) (neighbors : Bool) (t : Tables) (k : Cut) (seen : List Bool) (n : ℕ) : Type 0 where
   pub plans : List LanePlan
-  pub planned : lane_plans tol (view t) own k.station k.point (keep (λ x. has x.id (group_of (view t) own neighbors)) (view t).lanes) ≡ yield plans
-  pub crossed : all_cross (view t) k.point (keep (λ x. has x.id (group_of (view t) own neighbors)) (view t).lanes) ≡ yield passed
+  pub planned : lane_plans tol (view t) own k.station k.point (keep (λ x. has x.id (group_of (view t) own neighbors)) (view t).lanes) ≡ Ok plans
+  pub crossed : all_cross (view t) k.point (keep (λ x. has x.id (group_of (view t) own neighbors)) (view t).lanes) ≡ Ok passed
   pub by_stations : plans ≡ plans_of t.coordinates k.point (marked_rows seen t.lanes) (group_stations tol.piece t.coordinates t.lanes t.boundaries own k seen)
   pub of_lanes : map (λ x. x.of) plans ≡ keep (λ x. has x.id (group_of (view t) own neighbors)) (view t).lanes
   pub ids : map (λ x. x.of.id) plans ≡ group_cut tol.piece t.coordinates t.lanes t.boundaries own k seen
@@ -53,7 +49,7 @@ pub record Plans (tol : Tolerance) (next own : ℕ) (at : SplitAt) (neighbors : 
   pub many : length plans ≡ n
   pub marked : length (marked_rows seen t.lanes) ≡ n
   pub made : split_lane tol next own at neighbors (view t)
-      ≡ yield (cut_by tol next own (view t) (group_of (view t) own neighbors) (keep (λ x. has x.id (group_of (view t) own neighbors)) (view t).lanes) k plans)
+      ≡ Ok (cut_by tol next own (view t) (group_of (view t) own neighbors) (keep (λ x. has x.id (group_of (view t) own neighbors)) (view t).lanes) k plans)
 
 lane-key : (c : List Float) (w : List ℕ) → (lane_of c w).id ≡ word 0 w
 unfolding lane_of
@@ -63,44 +59,28 @@ lane-key c w = refl
 place-then : (piece : Float) (i : ℕ) (at : SplitAt) (o : Option Line) (f : Cut → Res Edited)
     → (require o (NoUsableLine i) >>= λ c. cut_station at (line_length c) >>= λ s. check (cuttable piece c s) (PositionOutside i) >>= λ _. require (flat_point (point_at c s)) (NoUsableLine i) >>= λ p. f (record { station = s; point = p }))
     ≡ (placing piece i at o >>= f)
-place-then piece i at none f = refl
-place-then piece i at (some c) f = go (cut_station at (line_length c))
+place-then piece i at None f = refl
+place-then piece i at (Some c) f = go (cut_station at (line_length c))
   where
     go : (x : Res Float) → (x >>= λ s. check (cuttable piece c s) (PositionOutside i) >>= λ _. require (flat_point (point_at c s)) (NoUsableLine i) >>= λ p. f (record { station = s; point = p }))
-        ≡ ((x >>= λ s. check (cuttable piece c s) (PositionOutside i) >>= λ _. require (flat_point (point_at c s)) (NoUsableLine i) >>= λ p. yield (record { station = s; point = p })) >>= f)
-    go (refuse r) = refl
-    go (yield s) = on (cuttable piece c s) (flat_point (point_at c s))
+        ≡ ((x >>= λ s. check (cuttable piece c s) (PositionOutside i) >>= λ _. require (flat_point (point_at c s)) (NoUsableLine i) >>= λ p. Ok (record { station = s; point = p })) >>= f)
+    go (Err r) = refl
+    go (Ok s) = on (cuttable piece c s) (flat_point (point_at c s))
       where
         on : (b : Bool) (q : Option Point2) → (check b (PositionOutside i) >>= λ _. require q (NoUsableLine i) >>= λ p. f (record { station = s; point = p }))
-            ≡ ((check b (PositionOutside i) >>= λ _. require q (NoUsableLine i) >>= λ p. yield (record { station = s; point = p })) >>= f)
+            ≡ ((check b (PositionOutside i) >>= λ _. require q (NoUsableLine i) >>= λ p. Ok (record { station = s; point = p })) >>= f)
         on false q = refl
-        on true none = refl
-        on true (some p) = refl
+        on true None = refl
+        on true (Some p) = refl
 
 -- what was told
-place-refused : (x : Res Cut) (r : Refusal) → place_told x ≡ P.Refused r → x ≡ refuse r
-place-refused (refuse q) r e = let z : q ≡ r = cc in rw z
-place-refused (yield k) r e = let z : ◌≡◌ {A = ℕ} 0 1 = cc in absurd (omega arith)
+stations_refused : (x : Res (List Float)) (r : Refusal) → stations_told x ≡ Err r → x ≡ Err r
+stations_refused (Err q) r e = let z : q ≡ r = cc in rw z
+stations_refused (Ok k) r e = let z : ◌≡◌ {A = ℕ} 0 1 = cc in absurd (omega arith)
 
-place_found : (x : Res Cut) (k : Cut) → place_told x ≡ P.At k → x ≡ yield k
-place_found (refuse q) k e = let z : ◌≡◌ {A = ℕ} 0 1 = cc in absurd (omega arith)
-place_found (yield j) k e = let z : j ≡ k = cc in rw z
-
-stations_refused : (x : Res (List Float)) (r : Refusal) → stations_told x ≡ L.Refused r → x ≡ refuse r
-stations_refused (refuse q) r e = let z : q ≡ r = cc in rw z
-stations_refused (yield k) r e = let z : ◌≡◌ {A = ℕ} 0 1 = cc in absurd (omega arith)
-
-stations_found : (x : Res (List Float)) (n : ℕ) → stations_told x ≡ L.Of n → (ss : List Float) × (x ≡ yield ss) × (length ss ≡ n)
-stations_found (refuse q) n e = let z : ◌≡◌ {A = ℕ} 0 1 = cc in absurd (omega arith)
-stations_found (yield ss) n e = (ss, refl, cc)
-
-cross-refused : (x : Res Passed) (r : Refusal) → cross_told x ≡ X.Refused r → x ≡ refuse r
-cross-refused (refuse q) r e = let z : q ≡ r = cc in rw z
-cross-refused (yield k) r e = let z : ◌≡◌ {A = ℕ} 0 1 = cc in absurd (omega arith)
-
-cross-passed : (x : Res Passed) → cross_told x ≡ X.All → x ≡ yield passed
-cross-passed (refuse q) e = let z : ◌≡◌ {A = ℕ} 0 1 = cc in absurd (omega arith)
-cross-passed (yield passed) e = refl
+stations_found : (x : Res (List Float)) (n : ℕ) → stations_told x ≡ Ok n → (ss : List Float) × (x ≡ Ok ss) × (length ss ≡ n)
+stations_found (Err q) n e = let z : ◌≡◌ {A = ℕ} 0 1 = cc in absurd (omega arith)
+stations_found (Ok ss) n e = (ss, refl, cc)
 
 -- ---- split_lane
 
@@ -114,16 +94,16 @@ module _ (tol : Tolerance) (next own : ℕ) (at : SplitAt) (neighbors : Bool) (t
   abbrev chosen : List Lane
   chosen = keep (λ x. has x.id group) (view t).lanes
 
-  pub split-absent : place_of 52 t.lanes own ≡ Nothing → split_lane tol next own at neighbors (view t) ≡ refuse (LaneAbsent own)
+  pub split-absent : place_of 52 t.lanes own ≡ None → split_lane tol next own at neighbors (view t) ≡ Err (LaneAbsent own)
   unfolding split_lane lane view
   split-absent e = rw (find_none 52 (lane_of t.coordinates) (λ l. l.id) (lane-key t.coordinates) t.lanes own e)
 
   -- the definition, once the cut is placed
   abbrev rest : Cut → Res Edited
-  rest k = lane_plans tol (view t) own k.station k.point chosen >>= λ ps. all_cross (view t) k.point chosen >>= λ _. yield (cut_by tol next own (view t) group chosen k ps)
+  rest k = lane_plans tol (view t) own k.station k.point chosen >>= λ ps. all_cross (view t) k.point chosen >>= λ _. Ok (cut_by tol next own (view t) group chosen k ps)
 
-  module _ (i : ℕ) (ei : place_of 52 t.lanes own ≡ At i) where
-    there : lane (view t) own ≡ some (lane_of t.coordinates (row_at 52 t.lanes i))
+  module _ (i : ℕ) (ei : place_of 52 t.lanes own ≡ Some i) where
+    there : lane (view t) own ≡ Some (lane_of t.coordinates (row_at 52 t.lanes i))
     unfolding lane view
     there = find_at 52 (lane_of t.coordinates) (λ l. l.id) (lane-key t.coordinates) t.lanes own i ei
 
@@ -135,15 +115,15 @@ module _ (tol : Tolerance) (next own : ℕ) (at : SplitAt) (neighbors : Bool) (t
     unfolding split_lane
     steps = rw (there, line) (place-then tol.piece own at (center_line t.coordinates t.lanes t.boundaries i) rest)
 
-    told : placed tol.piece t.coordinates t.lanes t.boundaries i at ≡ place_told (placing tol.piece own at (center_line t.coordinates t.lanes t.boundaries i))
-    told = ap (λ n. place_told (placing tol.piece n at (center_line t.coordinates t.lanes t.boundaries i))) (place-id 52 t.lanes own i ei)
+    told : placed tol.piece t.coordinates t.lanes t.boundaries i at ≡ placing tol.piece own at (center_line t.coordinates t.lanes t.boundaries i)
+    told = ap (λ n. (placing tol.piece n at (center_line t.coordinates t.lanes t.boundaries i))) (place-id 52 t.lanes own i ei)
 
     -- the lane's line, the fraction, the position
-    pub split_unplaced : (r : Refusal) → placed tol.piece t.coordinates t.lanes t.boundaries i at ≡ P.Refused r → split_lane tol next own at neighbors (view t) ≡ refuse r
-    split_unplaced r e = steps ∙ rw (place-refused (placing tol.piece own at (center_line t.coordinates t.lanes t.boundaries i)) r (sym told ∙ e))
+    pub split_unplaced : (r : Refusal) → placed tol.piece t.coordinates t.lanes t.boundaries i at ≡ Err r → split_lane tol next own at neighbors (view t) ≡ Err r
+    split_unplaced r e = steps ∙ rw (sym told ∙ e)
 
     -- the group's marks as they are written, and the stations and crossings of the marked rows
-    module _ (k : Cut) (ek : placed tol.piece t.coordinates t.lanes t.boundaries i at ≡ P.At k) (seen₀ seen : List Bool) (es : seen ≡ over seen₀ 0 (group_marks t.lanes i neighbors)) where
+    module _ (k : Cut) (ek : placed tol.piece t.coordinates t.lanes t.boundaries i at ≡ Ok k) (seen₀ seen : List Bool) (es : seen ≡ over seen₀ 0 (group_marks t.lanes i neighbors)) where
       abbrev station_of : List ℕ → Res Float
       station_of = row_station tol.piece t.coordinates t.boundaries own k
 
@@ -151,12 +131,12 @@ module _ (tol : Tolerance) (next own : ℕ) (at : SplitAt) (neighbors : Bool) (t
       marked = marked_rows seen t.lanes
 
       goes_on : split ≡ rest k
-      goes_on = steps ∙ rw (place_found (placing tol.piece own at (center_line t.coordinates t.lanes t.boundaries i)) k (sym told ∙ ek))
+      goes_on = steps ∙ rw (sym told ∙ ek)
 
       by_rows : map (lane_of t.coordinates) marked ≡ chosen
       by_rows = lanes-chosen t own i ei neighbors seen₀ seen es
 
-      plans-told : lane_plans tol (view t) own k.station k.point chosen ≡ (all_of station_of marked >>= λ ss. yield (plans_of t.coordinates k.point marked ss))
+      plans-told : lane_plans tol (view t) own k.station k.point chosen ≡ (all_of station_of marked >>= λ ss. Ok (plans_of t.coordinates k.point marked ss))
       unfolding view
       plans-told =
           ap (lane_plans tol (view t) own k.station k.point) (sym by_rows) ∙ row-plans tol t.coordinates t.boundaries (view t) refl own k marked
@@ -167,8 +147,8 @@ module _ (tol : Tolerance) (next own : ℕ) (at : SplitAt) (neighbors : Bool) (t
           ap (all_cross (view t) k.point) (sym by_rows) ∙ row-crossings tol t.coordinates t.boundaries (view t) refl own k k.point marked
 
       -- each lane of the group
-      pub split_unstationed : (r : Refusal) → stations_told (all_of (row_station tol.piece t.coordinates t.boundaries own k) (marked_rows seen t.lanes)) ≡ L.Refused r
-          → split_lane tol next own at neighbors (view t) ≡ refuse r
+      pub split_unstationed : (r : Refusal) → stations_told (all_of (row_station tol.piece t.coordinates t.boundaries own k) (marked_rows seen t.lanes)) ≡ Err r
+          → split_lane tol next own at neighbors (view t) ≡ Err r
       split_unstationed r e = goes_on ∙ rw (plans-told, stations_refused (all_of station_of marked) r e)
 
       -- the plans of the lanes that are cut have the group's ids, where the table's ids ascend
@@ -181,7 +161,7 @@ module _ (tol : Tolerance) (next own : ℕ) (at : SplitAt) (neighbors : Bool) (t
           ∙ ids-chosen t own i ei neighbors seen₀ seen es h
 
       -- all lanes have a station, and all boundaries cross
-      module _ (ss : List Float) (q : all_of station_of marked ≡ yield ss) where
+      module _ (ss : List Float) (q : all_of station_of marked ≡ Ok ss) where
         each : Each station_of marked ss
         each = all-each station_of marked ss q
 
@@ -195,14 +175,14 @@ module _ (tol : Tolerance) (next own : ℕ) (at : SplitAt) (neighbors : Bool) (t
         abbrev ps : List LanePlan
         ps = plans_of t.coordinates k.point marked ss
 
-        done : lane_plans tol (view t) own k.station k.point chosen ≡ yield ps
+        done : lane_plans tol (view t) own k.station k.point chosen ≡ Ok ps
         done = plans-told ∙ rw q
 
         by-plan : map (λ (x : LanePlan). x.station) ps ≡ ss
         unfolding view
         by-plan = plans_stations tol t.coordinates t.boundaries (view t) refl own k each
 
-        planned-all : (n : ℕ) → length ss ≡ n → all_pass (row_crosses t.coordinates t.boundaries k.point) marked ≡ yield passed → Plans tol next own at neighbors t k seen n
+        planned-all : (n : ℕ) → length ss ≡ n → all_pass (row_crosses t.coordinates t.boundaries k.point) marked ≡ Ok passed → Plans tol next own at neighbors t k seen n
         unfolding view
         planned-all n l e =
             record {
@@ -218,15 +198,15 @@ module _ (tol : Tolerance) (next own : ℕ) (at : SplitAt) (neighbors : Bool) (t
               made = goes_on ∙ rw (done, crossings-told, e);
             }
 
-      module _ (n : ℕ) (en : stations_told (all_of (row_station tol.piece t.coordinates t.boundaries own k) (marked_rows seen t.lanes)) ≡ L.Of n) where
+      module _ (n : ℕ) (en : stations_told (all_of (row_station tol.piece t.coordinates t.boundaries own k) (marked_rows seen t.lanes)) ≡ Ok n) where
         -- then their boundaries
-        pub split_uncrossed : (r : Refusal) → cross_told (all_pass (row_crosses t.coordinates t.boundaries k.point) (marked_rows seen t.lanes)) ≡ X.Refused r
-            → split_lane tol next own at neighbors (view t) ≡ refuse r
+        pub split_uncrossed : (r : Refusal) → (all_pass (row_crosses t.coordinates t.boundaries k.point) (marked_rows seen t.lanes)) ≡ Err r
+            → split_lane tol next own at neighbors (view t) ≡ Err r
         split_uncrossed r e =
             let (ss, q, l) = stations_found (all_of station_of marked) n en in
-            goes_on ∙ rw (plans-told, q, crossings-told, cross-refused (all_pass (row_crosses t.coordinates t.boundaries k.point) marked) r e)
+            goes_on ∙ rw (plans-told, q, crossings-told, e)
 
-        pub split-planned : cross_told (all_pass (row_crosses t.coordinates t.boundaries k.point) (marked_rows seen t.lanes)) ≡ X.All → Plans tol next own at neighbors t k seen n
+        pub split-planned : (all_pass (row_crosses t.coordinates t.boundaries k.point) (marked_rows seen t.lanes)) ≡ Ok passed → Plans tol next own at neighbors t k seen n
         split-planned e =
             let (ss, q, l) = stations_found (all_of station_of marked) n en in
-            planned-all ss q n l (cross-passed (all_pass (row_crosses t.coordinates t.boundaries k.point) marked) e)
+            planned-all ss q n l e

@@ -1,10 +1,10 @@
 -- The points of the boundaries after a split are as many as the numbers say, and their lines as short. Assumes nothing.
+use Rattle.std.specs.Prelude.{Option, None, Some}
 use mathlib.Core.Path.{◌≡◌, refl, sym, ap, ◌∙◌}
 use Prim.Native.Nat.{ℕ, suc, ◌+◌, ◌*◌, ◌≤◌, ◌<◌}
 use native.Mathlib.Omega.{arith}
 use mathlib.Core.Bool.{Bool, true, false, ◌&&◌, cond, and_assoc}
 use mathlib.Core.List.{List, [], ◌∷◌, ◌++◌, map, map-append}
-use mathlib.Core.Option.{Option, none, some}
 use lib.Dec.{eqb, leb, ltb}
 use lib.Ieee.{Float}
 use lib.ListN.{length, drop}
@@ -151,7 +151,7 @@ unfoldable pub AllTold : List ℕ → List ℕ → ℕ → List Piece → Type 0
 AllTold pieces lines j [] = ◌≡◌ {A = ℕ} 0 0
 AllTold pieces lines j (x ∷ xs) = PieceTold pieces lines j x × AllTold pieces lines (suc j) xs
 
-none-for : (i : ℕ) (xs : List Piece) → all (λ x. ltb i x.of.id) xs ≡ true → piece_for xs i ≡ none
+none-for : (i : ℕ) (xs : List Piece) → all (λ x. ltb i x.of.id) xs ≡ true → piece_for xs i ≡ None
 unfolding find all
 none-for i [] h = refl
 none-for i (x ∷ xs) h =
@@ -163,8 +163,8 @@ module _ (c : List Float) (pieces lines : List ℕ) (ys : List Piece) where
   no_pieces [] e = refl
   no_pieces (x ∷ xs) e = let z : ◌≡◌ {A = ℕ} 0 1 = cc in absurd (omega arith)
 
-  drawn-by : (b : Boundary) (o : Option Piece) → piece_for ys b.id ≡ o → cut_boundary ys b ≡ elim o [ none ↦ b | some x ↦ cond x.alone (redrawn x.first_line b) b ]
-  drawn-by b o e = ap (λ (q : Option Piece). elim q [ none ↦ b | some x ↦ cond x.alone (redrawn x.first_line b) b ]) e
+  drawn-by : (b : Boundary) (o : Option Piece) → piece_for ys b.id ≡ o → cut_boundary ys b ≡ elim o [ None ↦ b | Some x ↦ cond x.alone (redrawn x.first_line b) b ]
+  drawn-by b o e = ap (λ (q : Option Piece). elim q [ None ↦ b | Some x ↦ cond x.alone (redrawn x.first_line b) b ]) e
 
   id-is : (w : List ℕ) → (boundary_of c w).id ≡ word 0 w
   unfolding boundary_of
@@ -176,7 +176,7 @@ module _ (c : List Float) (pieces lines : List ℕ) (ys : List Piece) where
       sym (all_map (λ (b : Boundary). ltb i b.id) (λ (x : Piece). x.of) xs)
       ∙ (ap (all (λ (b : Boundary). ltb i b.id)) (sym whose) ∙ (all_map (λ (b : Boundary). ltb i b.id) (boundary_of c) (picked bs ws) ∙ all-picked (λ w. ltb i (word 0 w)) bs ws a))
 
-  here : (x : Piece) (xs : List Piece) (i : ℕ) → x.of.id ≡ i → piece_for (x ∷ xs) i ≡ some x
+  here : (x : Piece) (xs : List Piece) (i : ℕ) → x.of.id ≡ i → piece_for (x ∷ xs) i ≡ Some x
   unfolding find
   here x xs i e = rw (eq-eqb x.of.id i e)
 
@@ -201,8 +201,8 @@ module _ (c : List Float) (pieces lines : List ℕ) (ys : List Piece) where
   aligned lo j (b ∷ bs) [] xs look near up l whose told = no_pieces xs whose
   aligned lo j (false ∷ bs) (w ∷ ws) xs look near up l whose told =
       let i = word 0 w in
-      let n : piece_for ys i ≡ none = look i (leb-true lo i (all_head (λ w. leb lo (word 0 w)) w ws near)) ∙ none-for i xs (later i bs ws xs (ids-above w ws up) whose) in
-      (drawn-by (boundary_of c w) none (ap (piece_for ys) (id-is w) ∙ n), aligned lo j bs ws xs look (all_tail (λ w. leb lo (word 0 w)) w ws near) (ids_up w ws up) (omega arith) whose told)
+      let n : piece_for ys i ≡ None = look i (leb-true lo i (all_head (λ w. leb lo (word 0 w)) w ws near)) ∙ none-for i xs (later i bs ws xs (ids-above w ws up) whose) in
+      (drawn-by (boundary_of c w) None (ap (piece_for ys) (id-is w) ∙ n), aligned lo j bs ws xs look (all_tail (λ w. leb lo (word 0 w)) w ws near) (ids_up w ws up) (omega arith) whose told)
   aligned lo j (true ∷ bs) (w ∷ ws) [] look near up l whose told = let z : ◌≡◌ {A = ℕ} 0 1 = cc in absurd (omega arith)
   aligned lo j (true ∷ bs) (w ∷ ws) (x ∷ xs) look near up l whose told =
       let i = word 0 w in
@@ -210,8 +210,8 @@ module _ (c : List Float) (pieces lines : List ℕ) (ys : List Piece) where
       let r : map (boundary_of c) (picked bs ws) ≡ map (λ x. x.of) xs = cc in
       let e : x.of.id ≡ i = ap (λ (b : Boundary). b.id) (sym o) ∙ id-is w in
       let h = leb-true lo i (all_head (λ w. leb lo (word 0 w)) w ws near) in
-      let p : piece_for ys i ≡ some x = look i h ∙ here x xs i e in (
-        drawn-by (boundary_of c w) (some x) (ap (piece_for ys) (id-is w) ∙ p),
+      let p : piece_for ys i ≡ Some x = look i h ∙ here x xs i e in (
+        drawn-by (boundary_of c w) (Some x) (ap (piece_for ys) (id-is w) ∙ p),
         (
           told.0,
           aligned (suc i) (suc j) bs ws xs (λ k g. look k (omega arith) ∙ skipped x xs k (omega arith))

@@ -1,10 +1,10 @@
 -- The points of the explicit centrelines after a split are as many as the numbers say, and the lines as short. Assumes nothing.
+use Rattle.std.specs.Prelude.{Option, None, Some}
 use mathlib.Core.Path.{◌≡◌, refl, sym, ap, ◌∙◌}
 use Prim.Native.Nat.{ℕ, suc, ◌+◌, ◌*◌, ◌≤◌, ◌<◌}
 use native.Mathlib.Omega.{arith}
 use mathlib.Core.Bool.{Bool, true, false, not, ◌&&◌, ◌||◌, cond}
 use mathlib.Core.List.{List, [], ◌∷◌, ◌++◌, map, map-append}
-use mathlib.Core.Option.{Option, none, some}
 use lib.Dec.{eqb, leb, ltb}
 use lib.Ieee.{Float}
 use lib.ListN.{length, drop}
@@ -64,7 +64,7 @@ module _ (c : List Float) (centers : List ℕ) (g : List ℕ → Option Line) wh
   row-size w h = go (mark 6 w) h
     where
       go : (b : Bool) → (not b || (stored c (span_at 7 w) && leb (word 8 w) 256)) ≡ true
-          → (size (cond b (some (line_at c 7 w)) none) ≡ cond b (word 8 w) 0) × (short (cond b (some (line_at c 7 w)) none) ≡ true)
+          → (size (cond b (Some (line_at c 7 w)) None) ≡ cond b (word 8 w) 0) × (short (cond b (Some (line_at c 7 w)) None) ≡ true)
       go true e = let l = line-long c (span_at 7 w) (and-fst (stored c (span_at 7 w)) (leb (word 8 w) 256) e) in (l, ap (λ n. leb n 256) l ∙ and-snd (stored c (span_at 7 w)) (leb (word 8 w) 256) e)
       go false e = (refl, refl)
 
@@ -104,20 +104,20 @@ module _ (c : List Float) (centers : List ℕ) (g : List ℕ → Option Line) wh
 
 -- ---- the cut of a map has them so
 
-none-planned : (i : ℕ) (ps : List LanePlan) → all (λ x. ltb i x.of.id) ps ≡ true → plan_for ps i ≡ none
+none-planned : (i : ℕ) (ps : List LanePlan) → all (λ x. ltb i x.of.id) ps ≡ true → plan_for ps i ≡ None
 unfolding find all
 none-planned i [] h = refl
 none-planned i (x ∷ ps) h =
     let l = ltb-true i x.of.id (and-fst (ltb i x.of.id) (all (λ x. ltb i x.of.id) ps) h) in
     rw (ne_eqb x.of.id i (λ e. omega arith), none-planned i ps (and-snd (ltb i x.of.id) (all (λ x. ltb i x.of.id) ps) h))
 
-second-there : (next i : ℕ) (ps : List LanePlan) (x : LanePlan) → plan_for ps i ≡ some x → (j : ℕ) × (second_of (halves next ps) i ≡ some j)
+second-there : (next i : ℕ) (ps : List LanePlan) (x : LanePlan) → plan_for ps i ≡ Some x → (j : ℕ) × (second_of (halves next ps) i ≡ Some j)
 unfolding halves find
 second-there next i [] x e = let z : ◌≡◌ {A = ℕ} 0 1 = cc in absurd (omega arith)
 second-there next i (y ∷ ps) x e = go (eqb y.of.id i) (second-there (suc next) i ps x) e
   where
-    go : (b : Bool) → (plan_for ps i ≡ some x → (j : ℕ) × (second_of (halves (suc next) ps) i ≡ some j)) → cond b (some y) (plan_for ps i) ≡ some x
-        → (j : ℕ) × (◌≡◌ {A = Option ℕ} (elim (cond b (some (y.of.id, next)) (find (λ h. eqb h.0 i) (halves (suc next) ps))) [ none ↦ none | some h ↦ some h.1 ]) (some j))
+    go : (b : Bool) → (plan_for ps i ≡ Some x → (j : ℕ) × (second_of (halves (suc next) ps) i ≡ Some j)) → cond b (Some y) (plan_for ps i) ≡ Some x
+        → (j : ℕ) × (◌≡◌ {A = Option ℕ} (elim (cond b (Some (y.of.id, next)) (find (λ h. eqb h.0 i) (halves (suc next) ps))) [ None ↦ None | Some h ↦ Some h.1 ]) (Some j))
     go true k q = (next, refl)
     go false k q = k q
 
@@ -129,23 +129,23 @@ module _ (c : List Float) (centers : List ℕ) (xs : List Piece) (next : ℕ) (q
   no-plans [] e = refl
   no-plans (x ∷ ps) e = let z : ◌≡◌ {A = ℕ} 0 1 = cc in absurd (omega arith)
 
-  stays-uncut : (l : Lane) → plan_for qs l.id ≡ none → cut_lane qs xs (halves next qs) l ≡ uncut (halves next qs) l
+  stays-uncut : (l : Lane) → plan_for qs l.id ≡ None → cut_lane qs xs (halves next qs) l ≡ uncut (halves next qs) l
   stays-uncut l e =
-      ap (λ (o : Option LanePlan). elim o [ none ↦ uncut (halves next qs) l | some x ↦ elim (second_of (halves next qs) l.id) [ none ↦ uncut (halves next qs) l | some j ↦ first_half xs (halves next qs) j x ] ]) e
+      ap (λ (o : Option LanePlan). elim o [ None ↦ uncut (halves next qs) l | Some x ↦ elim (second_of (halves next qs) l.id) [ None ↦ uncut (halves next qs) l | Some j ↦ first_half xs (halves next qs) j x ] ]) e
 
-  stays : (l : Lane) → plan_for qs l.id ≡ none → (cut_lane qs xs (halves next qs) l).centerline ≡ l.centerline
+  stays : (l : Lane) → plan_for qs l.id ≡ None → (cut_lane qs xs (halves next qs) l).centerline ≡ l.centerline
   stays l e = ap (λ (k : Lane). k.centerline) (stays-uncut l e)
 
-  is-half : (l : Lane) (x : LanePlan) → plan_for qs l.id ≡ some x → (j : ℕ) → second_of (halves next qs) l.id ≡ some j → cut_lane qs xs (halves next qs) l ≡ first_half xs (halves next qs) j x
+  is-half : (l : Lane) (x : LanePlan) → plan_for qs l.id ≡ Some x → (j : ℕ) → second_of (halves next qs) l.id ≡ Some j → cut_lane qs xs (halves next qs) l ≡ first_half xs (halves next qs) j x
   is-half l x e j s = go (plan_for qs l.id) e (second_of (halves next qs) l.id) s
     where
-      go : (o : Option LanePlan) → o ≡ some x → (q : Option ℕ) → q ≡ some j
-          → ◌≡◌ {A = Lane} (elim o [ none ↦ uncut (halves next qs) l | some x ↦ elim q [ none ↦ uncut (halves next qs) l | some j ↦ first_half xs (halves next qs) j x ] ]) (first_half xs (halves next qs) j x)
-      go none e q s = let z : ◌≡◌ {A = ℕ} 0 1 = cc in absurd (omega arith)
-      go (some y) e none s = let z : ◌≡◌ {A = ℕ} 0 1 = cc in absurd (omega arith)
-      go (some y) e (some k) s = let a : y ≡ x = cc in let b : k ≡ j = cc in rw (a, b)
+      go : (o : Option LanePlan) → o ≡ Some x → (q : Option ℕ) → q ≡ Some j
+          → ◌≡◌ {A = Lane} (elim o [ None ↦ uncut (halves next qs) l | Some x ↦ elim q [ None ↦ uncut (halves next qs) l | Some j ↦ first_half xs (halves next qs) j x ] ]) (first_half xs (halves next qs) j x)
+      go None e q s = let z : ◌≡◌ {A = ℕ} 0 1 = cc in absurd (omega arith)
+      go (Some y) e None s = let z : ◌≡◌ {A = ℕ} 0 1 = cc in absurd (omega arith)
+      go (Some y) e (Some k) s = let a : y ≡ x = cc in let b : k ≡ j = cc in rw (a, b)
 
-  drawn : (l : Lane) (x : LanePlan) → plan_for qs l.id ≡ some x → (cut_lane qs xs (halves next qs) l).centerline ≡ x.first_center
+  drawn : (l : Lane) (x : LanePlan) → plan_for qs l.id ≡ Some x → (cut_lane qs xs (halves next qs) l).centerline ≡ x.first_center
   drawn l x e = let s = second-there next l.id qs x e in ap (λ (k : Lane). k.centerline) (is-half l x e s.0 s.1)
 
   id-is : (w : List ℕ) → (lane_of c w).id ≡ word 0 w
@@ -158,7 +158,7 @@ module _ (c : List Float) (centers : List ℕ) (xs : List Piece) (next : ℕ) (q
       sym (all_map (λ (l : Lane). ltb i l.id) (λ (x : LanePlan). x.of) ps)
       ∙ (ap (all (λ (l : Lane). ltb i l.id)) (sym whose) ∙ (all_map (λ (l : Lane). ltb i l.id) (lane_of c) (picked bs ws) ∙ all-picked (λ w. ltb i (word 0 w)) bs ws a))
 
-  here : (x : LanePlan) (ps : List LanePlan) (i : ℕ) → x.of.id ≡ i → plan_for (x ∷ ps) i ≡ some x
+  here : (x : LanePlan) (ps : List LanePlan) (i : ℕ) → x.of.id ≡ i → plan_for (x ∷ ps) i ≡ Some x
   unfolding find
   here x ps i e = rw (eq-eqb x.of.id i e)
 
@@ -183,7 +183,7 @@ module _ (c : List Float) (centers : List ℕ) (xs : List Piece) (next : ℕ) (q
   lined lo r (b ∷ bs) [] ps look near up l whose told = no-plans ps whose
   lined lo r (false ∷ bs) (w ∷ ws) ps look near up l whose told =
       let i = word 0 w in
-      let n : plan_for qs i ≡ none = look i (leb-true lo i (all_head (λ w. leb lo (word 0 w)) w ws near)) ∙ none-planned i ps (later i bs ws ps (ids-above w ws up) whose) in
+      let n : plan_for qs i ≡ None = look i (leb-true lo i (all_head (λ w. leb lo (word 0 w)) w ws near)) ∙ none-planned i ps (later i bs ws ps (ids-above w ws up) whose) in
       (stays (lane_of c w) (ap (plan_for qs) (id-is w) ∙ n), lined lo r bs ws ps look (all_tail (λ w. leb lo (word 0 w)) w ws near) (ids_up w ws up) (omega arith) whose told)
   lined lo r (true ∷ bs) (w ∷ ws) [] look near up l whose told = let z : ◌≡◌ {A = ℕ} 0 1 = cc in absurd (omega arith)
   lined lo r (true ∷ bs) (w ∷ ws) (x ∷ ps) look near up l whose told =
@@ -192,7 +192,7 @@ module _ (c : List Float) (centers : List ℕ) (xs : List Piece) (next : ℕ) (q
       let t : map (lane_of c) (picked bs ws) ≡ map (λ x. x.of) ps = cc in
       let e : x.of.id ≡ i = ap (λ (l : Lane). l.id) (sym o) ∙ id-is w in
       let h = leb-true lo i (all_head (λ w. leb lo (word 0 w)) w ws near) in
-      let p : plan_for qs i ≡ some x = look i h ∙ here x ps i e in (
+      let p : plan_for qs i ≡ Some x = look i h ∙ here x ps i e in (
         drawn (lane_of c w) x (ap (plan_for qs) (id-is w) ∙ p),
         (
           told.0,
@@ -211,8 +211,8 @@ center_total (l ∷ ls) = go l.centerline (center_total ls)
   where
     go : (o : Option Line) → points_of (each (λ l. optional_line l.centerline) ls) ≡ total (map (λ l. length (points_or l.centerline)) ls)
         → points_of (optional_line o ++ each (λ l. optional_line l.centerline) ls) ≡ length (points_or o) + total (map (λ l. length (points_or l.centerline)) ls)
-    go none e = omega (arith, e)
-    go (some c) e = omega (arith, e)
+    go None e = omega (arith, e)
+    go (Some c) e = omega (arith, e)
 
 center_all : (ls : List Lane) → all (λ c. leb (length c) 256) (each (λ l. optional_line l.centerline) ls) ≡ all (λ l. leb (length (points_or l.centerline)) 256) ls
 unfolding each all
@@ -221,8 +221,8 @@ center_all (l ∷ ls) = go l.centerline (center_all ls)
   where
     go : (o : Option Line) → all (λ c. leb (length c) 256) (each (λ l. optional_line l.centerline) ls) ≡ all (λ l. leb (length (points_or l.centerline)) 256) ls
         → all (λ c. leb (length c) 256) (optional_line o ++ each (λ l. optional_line l.centerline) ls) ≡ (leb (length (points_or o)) 256 && all (λ l. leb (length (points_or l.centerline)) 256) ls)
-    go none e = e
-    go (some c) e = ap (λ b. leb (length c) 256 && b) e
+    go None e = e
+    go (Some c) e = ap (λ b. leb (length c) 256 && b) e
 
 module _ (xs : List Piece) (hs : List (ℕ × ℕ)) where
   half-centers : (n : ℕ) (ps : List LanePlan) → map (λ l. l.centerline) (second_halves xs hs n ps) ≡ map (λ x. x.second_center) ps

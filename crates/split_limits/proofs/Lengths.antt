@@ -1,10 +1,10 @@
 -- How long the lists of ids, of lanes and of boundaries are after a split. Assumes nothing.
+use Rattle.std.specs.Prelude.{None, Some}
 use mathlib.Core.Path.{◌≡◌, refl, ap, ◌∙◌}
 use Prim.Native.Nat.{ℕ, suc, ◌+◌, ◌≤◌}
 use native.Mathlib.Omega.{arith}
 use mathlib.Core.Bool.{Bool, true, false, ◌&&◌, ◌||◌, cond}
 use mathlib.Core.List.{List, [], ◌∷◌, ◌++◌}
-use mathlib.Core.Option.{none, some}
 use lib.Dec.{eqb, ltb}
 use lib.Ieee.{Float}
 use lib.ListN.{length, length-append, length-map}
@@ -64,7 +64,7 @@ swap-added i j ids true e = omega (arith, swap-many i (i ∷ j ∷ []) ids e)
 swap-added i j ids false e = rw (swap-lacks i (i ∷ j ∷ []) ids e) (omega arith)
 
 module _ (join : Float) (m : Map) (base : ℕ) where
-  added : (next : ℕ) (ps : List LanePlan) (ids : List ℕ) → base ≤ next → below base (cut_ids ps) → length (follow_all join m none next ps ids) ≡ length ids + named_of (cut_ids ps) ids
+  added : (next : ℕ) (ps : List LanePlan) (ids : List ℕ) → base ≤ next → below base (cut_ids ps) → length (follow_all join m None next ps ids) ≡ length ids + named_of (cut_ids ps) ids
   unfolding follow_all keep
   added next [] ids h b = omega arith
   added next (x ∷ ps) ids h b =
@@ -80,11 +80,11 @@ module _ (join : Float) (m : Map) (base : ℕ) where
       go false = omega arith
 
 -- without an anchor one more for each cut lane that is named
-pub own-added : (join : Float) (m : Map) (next : ℕ) (ps : List LanePlan) (ids : List ℕ) → below next (cut_ids ps) → length (follow_all join m none next ps ids) ≡ length ids + named_of (cut_ids ps) ids
+pub own-added : (join : Float) (m : Map) (next : ℕ) (ps : List LanePlan) (ids : List ℕ) → below next (cut_ids ps) → length (follow_all join m None next ps ids) ≡ length ids + named_of (cut_ids ps) ids
 own-added join m next ps ids b = added join m next next ps ids (omega arith) b
 
 -- with an anchor as many as there were
-pub own_same : (join : Float) (m : Map) (a : Point2) (next : ℕ) (ps : List LanePlan) (ids : List ℕ) → length (follow_all join m (some a) next ps ids) ≡ length ids
+pub own_same : (join : Float) (m : Map) (a : Point2) (next : ℕ) (ps : List LanePlan) (ids : List ℕ) → length (follow_all join m (Some a) next ps ids) ≡ length ids
 unfolding follow_all
 own_same join m a next [] ids = refl
 own_same join m a next (x ∷ ps) ids =

@@ -1,9 +1,9 @@
 -- The lists of links stay within their limit in a split: predecessors are as many as they were. Assumes nothing.
+use Rattle.std.specs.Prelude.{Option, None, Some}
 use mathlib.Core.Path.{◌≡◌, refl, ap, ◌∙◌}
 use Prim.Native.Nat.{ℕ, suc}
 use mathlib.Core.Bool.{Bool, true, ◌&&◌}
 use mathlib.Core.List.{List, [], ◌∷◌, map}
-use mathlib.Core.Option.{Option, none, some}
 use lib.Dec.{eqb, leb}
 use lib.ListN.{length}
 use Rattle.lists.specs.Every.{all}
@@ -43,10 +43,10 @@ module _ (ps : List LanePlan) (xs : List Piece) (next : ℕ) (cuts : ascending (
         still : few (uncut hs l) ≡ true
         still = and_both (leb (length (came_from hs l.predecessors)) 16) (leb (length l.successors) 16) (came-few l h) (after-few l h)
 
-        go : (o : Option LanePlan) → plan_for ps l.id ≡ o → (s : Option ℕ) → few (elim o [ none ↦ uncut hs l | some x ↦ elim s [ none ↦ uncut hs l | some j ↦ first_half xs hs j x ] ]) ≡ true
-        go none e s = still
-        go (some x) e none = still
-        go (some x) e (some j) = and_both (leb (length (came_from hs x.of.predecessors)) 16) true (came-few x.of (found_all (λ x. eqb x.of.id l.id) (λ x. few x.of && up x.of) ps x e fine)) refl
+        go : (o : Option LanePlan) → plan_for ps l.id ≡ o → (s : Option ℕ) → few (elim o [ None ↦ uncut hs l | Some x ↦ elim s [ None ↦ uncut hs l | Some j ↦ first_half xs hs j x ] ]) ≡ true
+        go None e s = still
+        go (Some x) e None = still
+        go (Some x) e (Some j) = and_both (leb (length (came_from hs x.of.predecessors)) 16) true (came-few x.of (found_all (λ x. eqb x.of.id l.id) (λ x. few x.of && up x.of) ps x e fine)) refl
 
     halves-few : (n : ℕ) (qs : List LanePlan) → all (λ x. few x.of && up x.of) qs ≡ true → all few (second_halves xs hs n qs) ≡ true
     unfolding second_halves

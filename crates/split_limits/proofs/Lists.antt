@@ -1,10 +1,10 @@
 -- The lists of ids of roads, junctions and rules after a split fit where the tests of numbers say so. Assumes nothing.
+use Rattle.std.specs.Prelude.{Option, None, Some}
 use mathlib.Core.Path.{◌≡◌, refl, ap, ◌∙◌}
 use Prim.Native.Nat.{ℕ, zero, suc, ◌+◌, ◌*◌, ◌≤◌, ◌<◌}
 use native.Mathlib.Omega.{arith}
 use mathlib.Core.Bool.{Bool, true, false, not, ◌&&◌, cond}
 use mathlib.Core.List.{List, map}
-use mathlib.Core.Option.{Option, none, some}
 use lib.Dec.{eqb, leb}
 use lib.Ieee.{Float}
 use lib.ListN.{length, get_or, take, drop, length-drop}
@@ -76,8 +76,8 @@ module _ (next : ℕ) (ps : List LanePlan) where
 
 module _ (join : Float) (m : Map) (next : ℕ) (ps : List LanePlan) (new : below next (cut_ids ps)) where
   own-fits : (o : Option Point2) (w : List ℕ) → 5 + 1 + word 5 w ≤ length w → word 5 w ≤ 64 → leb (length (follow_all join m o next ps (ids_at 5 w))) 64 ≡ own_fits (is_some o) (cut_ids ps) w
-  own-fits none w r f = rw (own-added join m next ps (ids_at 5 w) new, ids-many w 5 r)
-  own-fits (some a) w r f = rw (own_same join m a next ps (ids_at 5 w), ids-many w 5 r) (le-leb (word 5 w) 64 f)
+  own-fits None w r f = rw (own-added join m next ps (ids_at 5 w) new, ids-many w 5 r)
+  own-fits (Some a) w r f = rw (own_same join m a next ps (ids_at 5 w), ids-many w 5 r) (le-leb (word 5 w) 64 f)
 
   -- a list that the kind of right of way alone has
   way-fits : (k : ℕ) (w : List ℕ) → (word 1 w ≡ 3 → k + 1 + word k w ≤ length w)

@@ -1,4 +1,5 @@
 -- The pieces of one line: where they are cut, and how many points they have. Assumes nothing.
+use Rattle.std.specs.Prelude.{Option, None, Some}
 use mathlib.Core.Path.{◌≡◌, refl, sym, ap, ◌∙◌}
 use Prim.Native.Nat.{ℕ, ◌+◌, ◌-◌, ◌*◌, ◌≤◌, ◌<◌}
 use native.Mathlib.Nat.{add-zero}
@@ -18,7 +19,7 @@ use Rattle.polyline.specs.declared.NearestPoint.{NearestPoint}
 use Rattle.polyline.proofs.Counts.{length-slice-le}
 use Rattle.polyline.proofs.Points.{over_none}
 use Rattle.entities.specs.Records.{Line}
-use Rattle.rules.specs.Names.{Point2, OptionNearest, NoNearest, ANearest}
+use Rattle.rules.specs.Names.{Point2}
 use Rattle.rules.specs.Map.{station}
 use Rattle.tables.specs.View.{part}
 use Rattle.tables.specs.Formed.{stored}
@@ -33,8 +34,8 @@ Measured p l s = (s ≡ sizes_of p l) × ((s.first ≤ 258) × (s.second ≤ 258
 
 -- ---- a line
 
-module _ (p : Point2) (l : Line) (o : OptionNearest) (e : o ≡ nearest_point l p) where
-  module _ (f : o ≡ NoNearest) where
+module _ (p : Point2) (l : Line) (o : Option NearestPoint) (e : o ≡ nearest_point l p) where
+  module _ (f : o ≡ None) where
     pub first-none : first_line_of p l ≡ []
     unfolding station
     first-none = rw (← e, f)
@@ -49,7 +50,7 @@ module _ (p : Point2) (l : Line) (o : OptionNearest) (e : o ≡ nearest_point l 
     pub pieces_none : (w : List Float) → (0 ≡ length (both_lines p l)) × (w ≡ over w 0 (flat (both_lines p l)))
     pieces_none w = rw (first-none, second_none) (refl, sym (over_none w 0))
 
-  module _ (n : NearestPoint) (f : o ≡ ANearest n) where
+  module _ (n : NearestPoint) (f : o ≡ Some n) where
     pub first_some : first_line_of p l ≡ first_piece l n.station
     unfolding station
     first_some = rw (← e, f)
@@ -77,10 +78,10 @@ module _ (p : Point2) (l : Line) (o : OptionNearest) (e : o ≡ nearest_point l 
 
 -- an empty line has no piece
 pub none-sizes : (p : Point2) → Measured p [] (record { first = 0; second = 0 })
-none-sizes p = sizes-none p [] NoNearest (unfold nearest_point in refl) refl
+none-sizes p = sizes-none p [] None (unfold nearest_point in refl) refl
 
 pub none_both : (p : Point2) → both_lines p [] ≡ []
-none_both p = let e : NoNearest ≡ nearest_point [] p = unfold nearest_point in refl in rw (first-none p [] NoNearest e refl, second_none p [] NoNearest e refl)
+none_both p = let e : None ≡ nearest_point [] p = unfold nearest_point in refl in rw (first-none p [] None e refl, second_none p [] None e refl)
 
 -- ---- the line of a row
 

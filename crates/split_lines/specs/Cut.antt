@@ -1,7 +1,6 @@
 -- The lines that a cut makes of a table's lines: how many points they have, where they lie one behind the other, and what is drawn. Nothing that a host calls
 -- rests on this page; the laws of split_laid tie it to the rules.
-use Rattle.std.specs.Prelude.{◌≡◌, ℕ, suc, ◌+◌, ◌*◌, ◌≤◌, Bool, true, not, ◌&&◌, ◌||◌, cond, List, [], ◌∷◌, ◌++◌, map, leb, Float, length}
-use Rattle.std.proofs.Math.Option.{Option, none, some}
+use Rattle.std.specs.Prelude.{◌≡◌, ℕ, suc, ◌+◌, ◌*◌, ◌≤◌, Bool, true, not, ◌&&◌, ◌||◌, cond, List, [], ◌∷◌, ◌++◌, map, leb, Float, length, Option, None, Some}
 use Rattle.lists.specs.Select.{each}
 use Rattle.polyline.specs.Polyline.{points, first_piece, second_piece}
 use Rattle.entities.specs.Records.{Line}
@@ -21,8 +20,8 @@ use Rattle.split_lines.specs.declared.Sizes.{Sizes}
 
 -- "A line is cut at its nearest station to the split point": the line before it and the line behind it. An empty line has no station.
 abbrev pub piece_at : (Line → Float → Line) → Line → Option Float → Line
-piece_at piece l none = []
-piece_at piece l (some s) = piece l s
+piece_at piece l None = []
+piece_at piece l (Some s) = piece l s
 
 abbrev pub first_line_of : Point2 → Line → Line
 first_line_of p l = piece_at first_piece l (station l p)

@@ -10,7 +10,6 @@ ghost use Rattle.split_lines.specs.Cut as D;
 
 use geometry::Point2;
 use order::has_line;
-use polyline::OptionNearest;
 use tables::POINT;
 
 // Words of a measured line: where its first piece starts, that one's points, the second's points.
@@ -32,11 +31,11 @@ fn line_sizes(line: &[f64], point: Point2) -> Sizes
 {
     let found = nearest::nearest_point(line, point);
     match found {
-        OptionNearest::None => Sizes {
+        None => Sizes {
             first: 0,
             second: 0,
         },
-        OptionNearest::Some(near) => Sizes {
+        Some(near) => Sizes {
             first: stations::slice_points(line, 0.0, near.station),
             second: stations::slice_points(line, near.station, polyline::length(line)),
         },
@@ -50,8 +49,8 @@ fn put_pieces(line: &[f64], point: Point2, out: &mut [f64]) -> usize
 {
     let found = nearest::nearest_point(line, point);
     match found {
-        OptionNearest::None => 0,
-        OptionNearest::Some(near) => {
+        None => 0,
+        Some(near) => {
             let pieces = stations::split_at(line, near.station, out);
             pieces.first + pieces.second
         }
@@ -111,14 +110,12 @@ pub fn measure(
     let n = t[0] as usize;
     let mut at = from;
     let mut m = 0;
-    let mut i = 0;
-    while i < n {
+    for i in 0..n {
         if chosen[i] {
             let s = row_sizes(t, 1 + i * stride, offset, marked, coordinates, point);
             at = put_measure(out, m, at, s);
             m += 1;
         }
-        i += 1;
     }
     at
 }
@@ -162,8 +159,7 @@ pub fn draw(
 {
     let n = t[0] as usize;
     let mut at = from;
-    let mut i = 0;
-    while i < n {
+    for i in 0..n {
         if chosen[i] {
             at = draw_row(
                 t,
@@ -176,7 +172,6 @@ pub fn draw(
                 at,
             );
         }
-        i += 1;
     }
     at
 }

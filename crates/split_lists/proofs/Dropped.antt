@@ -1,15 +1,13 @@
 -- Warnings of neighbours that are not cut: one slot, one row, and the marked rows in turn. Assumes nothing.
+use Rattle.std.specs.Prelude.{Option, None, Some}
 use mathlib.Core.Path.{◌≡◌, refl, sym, ap, ◌∙◌}
 use Prim.Native.Nat.{ℕ, suc, ◌+◌, ◌*◌, ◌^◌, ◌≤◌, ◌<◌}
 use native.Mathlib.Omega.{arith}
 use mathlib.Core.Bool.{Bool, true, false, cond}
 use mathlib.Core.List.{List, [], ◌∷◌, ◌++◌, append-nil, append_assoc}
-use mathlib.Core.Option.{Option, none, some}
 use lib.Dec.{eqb}
 use lib.ListN.{length, get_or, drop, length-append}
 use borrow.Author.Tests.{eq-eqb, ne_eqb}
-use Rattle.lists.specs.declared.Found.{Found}
-use Rattle.lists.specs.declared.Found.TheVariants.{At, Nothing}
 use Rattle.lists.specs.Every.{all}
 use Rattle.lists.proofs.Every.{all_append, all_nil}
 use Rattle.lists.specs.Rows.{keys, later, row_with}
@@ -38,11 +36,11 @@ use Rattle.split_lists.proofs.Noted.{Stand, none-noted, stand-long, note-room, n
 
 -- a warning where an id has no number
 unnumbered : List (ℕ × ℕ) → ℕ → List Issue → List Issue
-unnumbered hs i is = elim (second_of hs i) [ none ↦ is | some k ↦ [] ]
+unnumbered hs i is = elim (second_of hs i) [ None ↦ is | Some k ↦ [] ]
 
-later-there : (r : Found) → there (later r) ≡ there r
-later-there (At i) = refl
-later-there Nothing = refl
+later-there : (r : Option ℕ) → there (later r) ≡ there r
+later-there (Some i) = refl
+later-there None = refl
 
 beside-found : (next i : ℕ) (cut : List ℕ) (is : List Issue) → unnumbered (numbered next cut) i is ≡ cond (there (row_with i cut)) [] is
 unfolding unnumbered numbered row_with find
@@ -50,10 +48,10 @@ beside-found next i [] is = refl
 beside-found next i (k ∷ cut) is = go (eqb k i) (beside-found (suc next) i cut is)
   where
     number : Option (ℕ × ℕ) → List Issue
-    number o = elim (elim o as (λ q. Option ℕ) [ none ↦ none | some h ↦ some h.1 ]) [ none ↦ is | some k ↦ [] ]
+    number o = elim (elim o as (λ q. Option ℕ) [ None ↦ None | Some h ↦ Some h.1 ]) [ None ↦ is | Some k ↦ [] ]
 
     go : (b : Bool) → number (find (λ h. eqb h.0 i) (numbered (suc next) cut)) ≡ cond (there (row_with i cut)) [] is
-        → number (cond b (some (k, next)) (find (λ h. eqb h.0 i) (numbered (suc next) cut))) ≡ cond (there (cond b (At 0) (later (row_with i cut)))) [] is
+        → number (cond b (Some (k, next)) (find (λ h. eqb h.0 i) (numbered (suc next) cut))) ≡ cond (there (cond b (Some 0) (later (row_with i cut)))) [] is
     go true e = refl
     go false e = e ∙ ap (λ b. cond b [] is) (sym (later-there (row_with i cut)))
 
@@ -74,11 +72,11 @@ module _ (cut lanes : List ℕ) (next second at : ℕ) where
         lane : ℕ
         lane = get_or lanes (suc at) 0
 
-        go : (b : Bool) → dropped_beside (numbered next cut) second (cond b (some (same lane)) (some (opposing lane))) ≡ elim (second_of (numbered next cut) lane) [ none ↦ warned-of lane | some k ↦ [] ]
+        go : (b : Bool) → dropped_beside (numbered next cut) second (cond b (Some (same lane)) (Some (opposing lane))) ≡ elim (second_of (numbered next cut) lane) [ None ↦ warned-of lane | Some k ↦ [] ]
         go true = refl
         go false = refl
 
-    module _ (f : Found) (g : f ≡ row_with (get_or lanes (at + 1) 0) (keys 1 (length cut) cut)) where
+    module _ (f : Option ℕ) (g : f ≡ row_with (get_or lanes (at + 1) 0) (keys 1 (length cut) cut)) where
       held : dropped_beside (numbered next cut) second (slot_at at lanes) ≡ cond (there f) [] (warned-of (get_or lanes (at + 1) 0))
       held =
           slot_held ∙ beside-found next (get_or lanes (at + 1) 0) cut (warned-of (get_or lanes (at + 1) 0))
@@ -132,12 +130,12 @@ module _ (cut t : List ℕ) (next second i : ℕ) (l r : Notice) (a : issues l �
 -- each warning names one other lane
 module _ (cut : List ℕ) (next second : ℕ) where
   slot-short : (o : Option Neighbor) → all short (dropped_beside (numbered next cut) second o) ≡ true
-  slot-short none = all_nil short
-  slot-short (some n) = go (second_of (numbered next cut) n.lane)
+  slot-short None = all_nil short
+  slot-short (Some n) = go (second_of (numbered next cut) n.lane)
     where
-      go : (o : Option ℕ) → all short (elim o as (λ q. List Issue) [ none ↦ warning NeighborDropped (lane_entity second) (lane_entity n.lane ∷ []) ∷ [] | some k ↦ [] ]) ≡ true
-      go none = issues-short (N.Pair NeighborDropped second n.lane)
-      go (some k) = all_nil short
+      go : (o : Option ℕ) → all short (elim o as (λ q. List Issue) [ None ↦ warning NeighborDropped (lane_entity second) (lane_entity n.lane ∷ []) ∷ [] | Some k ↦ [] ]) ≡ true
+      go None = issues-short (N.Pair NeighborDropped second n.lane)
+      go (Some k) = all_nil short
 
   row-short : (w : List ℕ) → all short (row_dropped cut next second w) ≡ true
   row-short w =

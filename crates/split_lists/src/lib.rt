@@ -13,7 +13,6 @@ ghost use Rattle.split_plan.specs.Placing.{marked_rows};
 ghost use Rattle.split_lists.specs.Changes as D;
 
 use entities::{EntityKind, IssueCode};
-use lists::Found;
 use report::Notice;
 use tables::{BOUNDARY, JUNCTION, LANE, LEFT_SLOT, NONE, RIGHT_SLOT, ROAD, RULE};
 
@@ -49,18 +48,16 @@ fn list_marked(
     requires { (D.Listed s 4096 t.now marks.now) × ((at + length (D.marked_ids s marks.now t.now)) * 2 ≤ length out.old) }
     ensures { (result ≡ at + length (D.marked_ids s marks.now t.now)) × (out.new ≡ over out.old (at * 2) (each R.entity_words (refs kind (D.marked_ids s marks.now t.now)))) }
 {
-    let number = kind.number();
+    let number = u64::from(kind);
     let n = t[0] as usize;
     let mut place = at;
-    let mut i = 0;
-    while i < n {
+    for i in 0..n {
         if marks[i] {
             let word = place * ENTITY;
             out[word] = number;
             out[word + 1] = t[1 + i * s];
             place += 1;
         }
-        i += 1;
     }
     place
 }
@@ -131,10 +128,8 @@ fn count_pieces(pieces: &[u64], m: usize) -> usize
     ensures { (result ≡ length (D.pieces_issues pieces.now 0 m)) × (result ≤ m) }
 {
     let mut count = 0;
-    let mut j = 0;
-    while j < m {
+    for j in 0..m {
         count += report::notice_count(piece_notice(pieces, j));
-        j += 1;
     }
     count
 }
@@ -144,10 +139,8 @@ fn warn_pieces(pieces: &[u64], m: usize, warnings: &mut [u64]) -> usize
     ensures { (result ≡ length (D.pieces_issues pieces.now 0 m)) × (warnings.new ≡ R.warned_at 0 warnings.old (D.pieces_issues pieces.now 0 m)) }
 {
     let mut at = 0;
-    let mut j = 0;
-    while j < m {
+    for j in 0..m {
         at = warnings::note(warnings, at, piece_notice(pieces, j));
-        j += 1;
     }
     at
 }
@@ -163,8 +156,8 @@ fn slot_notice(lanes: &[u64], at: usize, cut: &[u64], next: u64, second: u64) ->
     let lane = lanes[at + 1];
     let found = find::find_row(cut, 1, cut.len(), lane);
     match found {
-        Found::At(_) => Notice::Nothing,
-        Found::Nothing => Notice::Pair(IssueCode::NeighborDropped, second, lane),
+        Some(_) => Notice::Nothing,
+        None => Notice::Pair(IssueCode::NeighborDropped, second, lane),
     }
 }
 
@@ -187,13 +180,11 @@ fn count_dropped(lanes: &[u64], seen: &[bool], cut: &[u64], next: u64) -> usize
     let n = lanes[0] as usize;
     let mut second = next;
     let mut count = 0;
-    let mut i = 0;
-    while i < n {
+    for i in 0..n {
         if seen[i] {
             count += count_row(lanes, i, cut, next, second);
             second += 1;
         }
-        i += 1;
     }
     count
 }
@@ -232,13 +223,11 @@ fn warn_dropped(
     let n = lanes[0] as usize;
     let mut second = next;
     let mut at = from;
-    let mut i = 0;
-    while i < n {
+    for i in 0..n {
         if seen[i] {
             at = warn_row(lanes, i, cut, next, second, warnings, at);
             second += 1;
         }
-        i += 1;
     }
 }
 

@@ -1,4 +1,6 @@
 -- The steps of a split put together: measures, room, lists, tables and the answer. Assumes nothing.
+use Rattle.report.specs.Report.{Answer}
+use Rattle.std.specs.Prelude.{Option, Some, Err}
 use mathlib.Core.Path.{◌≡◌, refl, sym, ap, ◌∙◌}
 use Prim.Native.Nat.{ℕ, ◌+◌, ◌*◌, ◌/◌, ◌^◌, ◌≤◌, ◌<◌}
 use native.Mathlib.Omega.{arith}
@@ -8,8 +10,6 @@ use lib.Dec.{leb}
 use lib.Ieee.{Float}
 use lib.ListN.{length}
 use Rattle.lists.specs.Rows.{over, keys, row_with}
-use Rattle.lists.specs.declared.Found.{Found}
-use Rattle.lists.specs.declared.Found.TheVariants.{At}
 use Rattle.lists.specs.Select.{ascending}
 use Rattle.lists.proofs.Rows.{keys-one, one_found, found_within}
 use Rattle.lists.proofs.Booleans.{and-fst, and-snd}
@@ -21,8 +21,6 @@ use Rattle.row_tests.specs.Good.{all_rows}
 use Rattle.store.specs.Rows.{on_rows}
 use Rattle.layout.specs.Layout.{line_tables}
 use Rattle.report.specs.declared.Counts.{Counts}
-use Rattle.report.specs.declared.Answer.{Answer}
-use Rattle.report.specs.declared.Answer.TheVariants.{Refused}
 use Rattle.report.proofs.Warnings.{room}
 use Rattle.room.specs.Room.{points_fit, lists_fit}
 use Rattle.grows.specs.Growing.{grows_at}
@@ -38,11 +36,11 @@ use Rattle.split_made.specs.Made.{Listable, Notable, Noted, answer_of, counts_of
 pub cut-asks : (cut : List ℕ) → ascending cut ≡ true → (0 < 1) × ((length cut * 1 ≤ length cut) × (ascending (keys 1 (length cut) cut) ≡ true))
 cut-asks cut h = (omega arith, (omega arith, rw (keys-one cut) h))
 
-module _ (cut : List ℕ) (next own : ℕ) (r : Found) (e : r ≡ row_with own (keys 1 (length cut) cut)) where
-  pub second_fits : next + length cut < 2 ^ 64 → (k : ℕ) → r ≡ At k → next + k < 2 ^ 64
+module _ (cut : List ℕ) (next own : ℕ) (r : Option ℕ) (e : r ≡ row_with own (keys 1 (length cut) cut)) where
+  pub second_fits : next + length cut < 2 ^ 64 → (k : ℕ) → r ≡ Some k → next + k < 2 ^ 64
   second_fits h k t = omega (arith, found_within own cut k (one_found own cut r e ∙ t))
 
-  pub answered : (n : Counts) (f : Found) → r ≡ f → answer_of n next f ≡ answer_of n next (row_with own cut)
+  pub answered : (n : Counts) (f : Option ℕ) → r ≡ f → answer_of n next f ≡ answer_of n next (row_with own cut)
   answered n f t = ap (answer_of n next) (sym (one_found own cut r e ∙ t))
 
 -- ---- measures
@@ -134,7 +132,7 @@ module _ (d : Drawn) (k : Cutting) (anchored past : List Bool) (t : Tables) wher
     placed : q ≡ lists_fit n created modified deleted warnings
     placed = qe ∙ ap (λ (z : Counts). lists_fit z created modified deleted warnings) me
 
-    pub no-list-room : q ≡ false → left t created modified deleted warnings (Refused NoRoom) ≡ split_made d k anchored past t created modified deleted warnings
+    pub no-list-room : q ≡ false → left t created modified deleted warnings (Err NoRoom) ≡ split_made d k anchored past t created modified deleted warnings
     unfolding split_made
     no-list-room h = rw (sym placed ∙ h)
 

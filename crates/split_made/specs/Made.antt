@@ -1,9 +1,7 @@
 -- A split that is decided, in words: whether the map after it has room, what the tables and lists hold at its end, and its answer. Nothing that a host calls
 -- rests on this page; the laws of split_facts tie it to the rules.
-use Rattle.std.specs.Prelude.{◌≡◌, ℕ, ◌+◌, ◌*◌, ◌^◌, ◌≤◌, ◌<◌, Bool, ◌&&◌, cond, List, length}
+use Rattle.std.specs.Prelude.{◌≡◌, ℕ, ◌+◌, ◌*◌, ◌^◌, ◌≤◌, ◌<◌, Bool, ◌&&◌, cond, List, length, Option, None, Some, Err}
 use Rattle.lists.specs.Rows.{row_with}
-use Rattle.lists.specs.declared.Found.{Found}
-use Rattle.lists.specs.declared.Found.TheVariants.{At, Nothing}
 use Rattle.entities.specs.Records.{Issue}
 use Rattle.rules.specs.Names.{EntityRef, NoRoom}
 use Rattle.rules.specs.Limits.{max_boundaries, max_lanes}
@@ -12,10 +10,8 @@ use Rattle.tables.specs.Columns.{junction_lanes_at, junction_words, road_lanes_a
 use Rattle.row_tests.specs.Good.{all_rows}
 use Rattle.store.specs.Rows.{on_rows}
 use Rattle.layout.specs.Layout.{line_tables}
-use Rattle.report.specs.Report.{listed, warned}
+use Rattle.report.specs.Report.{listed, warned, Answer, changed, divided}
 use Rattle.report.specs.declared.Counts.{Counts}
-use Rattle.report.specs.declared.Answer.{Answer}
-use Rattle.report.specs.declared.Answer.TheVariants.{Changed, Split, Refused}
 use Rattle.room.specs.Room.{points_fit, lists_fit}
 use Rattle.grows.specs.Growing.{Grows, grows_at}
 use Rattle.follows.specs.Following.{Follows, rules_follow}
@@ -131,9 +127,9 @@ pub record Listable (first ids : ℕ) (k : Cutting) (anchored past : List Bool) 
 -- ---- the end
 
 -- the answer names the second half of the lane that was to be split
-abbrev pub answer_of : Counts → ℕ → Found → Answer
-answer_of n next (At r) = Split n (next + r)
-answer_of n next Nothing = Changed n
+abbrev pub answer_of : Counts → ℕ → Option ℕ → Answer
+answer_of n next (Some r) = divided n (next + r)
+answer_of n next None = changed n
 
 -- what a call leaves, its counter aside
 pub record Left : Type 0 where
@@ -154,7 +150,7 @@ split_made d k anchored past t created modified deleted warnings =
     let w = lists_written d.first d.ids k anchored past t (noted created modified warnings) in
     cond (lists_fit n created modified deleted warnings)
     (left (tables_cut k d.points anchored past t) w.created w.modified deleted w.warnings (answer_of n k.next (row_with d.own k.cut)))
-    (left t created modified deleted warnings (Refused NoRoom))
+    (left t created modified deleted warnings (Err NoRoom))
 
 pub record Makeable (d : Drawn) (k : Cutting) (anchored past : List Bool) (t : Tables) : Type 0 where
   pub writable : Writable k d.points anchored past t

@@ -2,6 +2,7 @@
 #![tactic(auto)]
 
 ghost use Rattle.std.specs.Prelude.{◌≡◌, true, false, ◌+◌, ◌^◌, ◌<◌, length, []};
+ghost use Rattle.lent.specs.Lent.{map_tables, view_tables, SameSlices, SameLists};
 ghost use Rattle.lists.specs.Rows.{over, row_with};
 ghost use Rattle.lists.specs.Select.{ascending};
 ghost use Rattle.order.specs.Order.{column_of};
@@ -11,8 +12,8 @@ ghost use Rattle.split_made.specs.Made as D;
 
 use entities::Refusal;
 use geometry::Point2;
-use lists::{Found, both};
-use report::{Answer, Counts};
+use lists::both;
+use report::{Answer, Change, Counts};
 use tables::{
     BOUNDARY, BOUNDARY_START, JUNCTION, JUNCTION_LANES, LANE, LANE_CENTERLINE_START, ROAD,
     ROAD_LANES,
@@ -77,14 +78,7 @@ pub fn measure(
 
 // Whether the finished map keeps the limits and the lent lengths, its rows aside.
 pub fn fits(
-    lanes: &[u64],
-    boundaries: &[u64],
-    roads: &[u64],
-    junctions: &[u64],
-    rules: &[u64],
-    stop_lines: &[u64],
-    crosswalks: &[u64],
-    coordinates: &[f64],
+    map: lent::MapView,
     drawn: Drawn,
     seen: &[bool],
     cut: &[u64],
@@ -94,20 +88,28 @@ pub fn fits(
     centers: &[u64],
     anchored: &[bool],
 ) -> bool
-    requires { D.Fittable (D.cutting_of drawn seen.now cut.now marks.now pieces.now lines.now centers.now) anchored.now (S.tables_of lanes.now boundaries.now roads.now junctions.now rules.now stop_lines.now crosswalks.now coordinates.now) }
-    ensures { result ≡ D.fits_after (D.cutting_of drawn seen.now cut.now marks.now pieces.now lines.now centers.now) anchored.now (S.tables_of lanes.now boundaries.now roads.now junctions.now rules.now stop_lines.now crosswalks.now coordinates.now) }
+    requires { D.Fittable (D.cutting_of drawn seen.now cut.now marks.now pieces.now lines.now centers.now) anchored.now (view_tables map) }
+    ensures { result ≡ D.fits_after (D.cutting_of drawn seen.now cut.now marks.now pieces.now lines.now centers.now) anchored.now (view_tables map.entry) }
 {
     let points = split_room::points_after(
-        lanes, seen, centers, boundaries, marks, pieces, lines, stop_lines, crosswalks,
+        map.lanes,
+        seen,
+        centers,
+        map.boundaries,
+        marks,
+        pieces,
+        lines,
+        map.stop_lines,
+        map.crosswalks,
     );
     let pieces_fit = both(
         split_room::pieces_fit(lines, drawn.many),
         split_room::pieces_fit(centers, cut.len()),
     );
-    let lines_fit = both(pieces_fit, room::points_fit(points, coordinates));
-    let roads_fit = split_room::lists_fit(roads, ROAD, ROAD_LANES, cut);
-    let junctions_fit = split_room::lists_fit(junctions, JUNCTION, JUNCTION_LANES, cut);
-    let rules_fit = split_room::rules_fit(rules, anchored, cut);
+    let lines_fit = both(pieces_fit, room::points_fit(points, map.coordinates));
+    let roads_fit = split_room::lists_fit(map.roads, ROAD, ROAD_LANES, cut);
+    let junctions_fit = split_room::lists_fit(map.junctions, JUNCTION, JUNCTION_LANES, cut);
+    let rules_fit = split_room::rules_fit(map.rules, anchored, cut);
     both(lines_fit, both(both(roads_fit, junctions_fit), rules_fit))
 }
 
@@ -173,14 +175,7 @@ fn write_lists(
 
 // Roads and junctions grow, rules follow their anchors, and all lines are laid out anew.
 fn write(
-    lanes: &mut [u64],
-    boundaries: &mut [u64],
-    roads: &mut [u64],
-    junctions: &mut [u64],
-    rules: &mut [u64],
-    stop_lines: &mut [u64],
-    crosswalks: &mut [u64],
-    coordinates: &mut [f64],
+    map: &mut lent::Map,
     drawn: Drawn,
     seen: &[bool],
     cut: &[u64],
@@ -191,9 +186,18 @@ fn write(
     anchored: &[bool],
     past: &[bool],
 )
-    requires { D.Writable (D.cutting_of drawn seen.now cut.now marks.now pieces.now lines.now centers.now) drawn.points anchored.now past.now (S.tables_of lanes.old boundaries.old roads.old junctions.old rules.old stop_lines.old crosswalks.old coordinates.old) }
-    ensures { (S.tables_of lanes.new boundaries.new roads.new junctions.new rules.new stop_lines.new crosswalks.new coordinates.new) ≡ D.tables_cut (D.cutting_of drawn seen.now cut.now marks.now pieces.now lines.now centers.now) drawn.points anchored.now past.now (S.tables_of lanes.old boundaries.old roads.old junctions.old rules.old stop_lines.old crosswalks.old coordinates.old) }
+    requires { D.Writable (D.cutting_of drawn seen.now cut.now marks.now pieces.now lines.now centers.now) drawn.points anchored.now past.now (map_tables map.old) }
+    ensures made { (map_tables map.new) ≡ D.tables_cut (D.cutting_of drawn seen.now cut.now marks.now pieces.now lines.now centers.now) drawn.points anchored.now past.now (map_tables map.old) }
+    ensures same { SameSlices map.old map.new }
 {
+    let lanes = &mut *map.lanes;
+    let boundaries = &mut *map.boundaries;
+    let roads = &mut *map.roads;
+    let junctions = &mut *map.junctions;
+    let rules = &mut *map.rules;
+    let stop_lines = &mut *map.stop_lines;
+    let crosswalks = &mut *map.crosswalks;
+    let coordinates = &mut *map.coordinates;
     grows::grow_rows(roads, ROAD, ROAD_LANES, cut, drawn.next);
     grows::grow_rows(junctions, JUNCTION, JUNCTION_LANES, cut, drawn.next);
     follows::follow_rules(rules, cut, drawn.next, anchored, past);
@@ -226,21 +230,20 @@ fn answer(cut: &[u64], own: u64, next: u64, counts: Counts) -> Answer
 {
     let found = find::find_row(cut, 1, cut.len(), own);
     match found {
-        Found::At(r) => Answer::Split(counts, next + r as u64),
-        Found::Nothing => Answer::Changed(counts),
+        Some(r) => Ok(Change {
+            counts,
+            second: Some(next + r as u64),
+        }),
+        None => Ok(Change {
+            counts,
+            second: None,
+        }),
     }
 }
 
 // Made, where the lists have room.
 pub fn make(
-    lanes: &mut [u64],
-    boundaries: &mut [u64],
-    roads: &mut [u64],
-    junctions: &mut [u64],
-    rules: &mut [u64],
-    stop_lines: &mut [u64],
-    crosswalks: &mut [u64],
-    coordinates: &mut [f64],
+    map: &mut lent::Map,
     drawn: Drawn,
     seen: &[bool],
     cut: &[u64],
@@ -250,42 +253,34 @@ pub fn make(
     centers: &[u64],
     anchored: &[bool],
     past: &[bool],
-    created: &mut [u64],
-    modified: &mut [u64],
-    deleted: &mut [u64],
-    warnings: &mut [u64],
+    lists: &mut lent::Lists,
 ) -> Answer
-    requires { D.Makeable drawn (D.cutting_of drawn seen.now cut.now marks.now pieces.now lines.now centers.now) anchored.now past.now (S.tables_of lanes.old boundaries.old roads.old junctions.old rules.old stop_lines.old crosswalks.old coordinates.old) }
-    ensures { D.left (S.tables_of lanes.new boundaries.new roads.new junctions.new rules.new stop_lines.new crosswalks.new coordinates.new) created.new modified.new deleted.new warnings.new result ≡ D.split_made drawn (D.cutting_of drawn seen.now cut.now marks.now pieces.now lines.now centers.now) anchored.now past.now (S.tables_of lanes.old boundaries.old roads.old junctions.old rules.old stop_lines.old crosswalks.old coordinates.old) created.old modified.old deleted.old warnings.old }
+    requires { D.Makeable drawn (D.cutting_of drawn seen.now cut.now marks.now pieces.now lines.now centers.now) anchored.now past.now (map_tables map.old) }
+    ensures made { D.left (map_tables map.new) lists.new.created.now lists.new.modified.now lists.new.deleted.now lists.new.warnings.now result ≡ D.split_made drawn (D.cutting_of drawn seen.now cut.now marks.now pieces.now lines.now centers.now) anchored.now past.now (map_tables map.old) lists.old.created.now lists.old.modified.now lists.old.deleted.now lists.old.warnings.now }
+    ensures same { SameSlices map.old map.new }
+    ensures same_lists { SameLists lists.old lists.new }
 {
+    let lanes = &mut *map.lanes;
+    let boundaries = &mut *map.boundaries;
+    let roads = &mut *map.roads;
+    let junctions = &mut *map.junctions;
+    let rules = &mut *map.rules;
+    let created = &mut *lists.created;
+    let modified = &mut *lists.modified;
+    let deleted = &mut *lists.deleted;
+    let warnings = &mut *lists.warnings;
     let counts = count(
         drawn, lanes, boundaries, roads, junctions, rules, seen, cut, marks, pieces, anchored, past,
     );
     if !room::lists_fit(counts, created, modified, deleted, warnings) {
-        return Answer::Refused(Refusal::NoRoom);
+        return Err(Refusal::NoRoom);
     }
     write_lists(
         drawn, lanes, boundaries, roads, junctions, rules, seen, cut, marks, pieces, anchored,
         past, created, modified, warnings,
     );
     write(
-        lanes,
-        boundaries,
-        roads,
-        junctions,
-        rules,
-        stop_lines,
-        crosswalks,
-        coordinates,
-        drawn,
-        seen,
-        cut,
-        marks,
-        pieces,
-        lines,
-        centers,
-        anchored,
-        past,
+        map, drawn, seen, cut, marks, pieces, lines, centers, anchored, past,
     );
     answer(cut, drawn.own, drawn.next, counts)
 }

@@ -1,4 +1,5 @@
 -- Marks by row, one behind the other, and what a row's list names. Assumes nothing.
+use Rattle.std.specs.Prelude.{Option, None, Some}
 use mathlib.Core.Path.{◌≡◌, refl, sym, ap, ◌∙◌}
 use Prim.Native.Nat.{ℕ, zero, suc, ◌+◌, ◌-◌, ◌*◌, ◌≤◌, ◌<◌}
 use native.Mathlib.Nat.{le_of_suc-le-suc, not-suc-le-zero}
@@ -12,8 +13,6 @@ use lib.Seq.{take_all, take-suc, take-take, drop-cons, drop-drop, get_or-take, g
 use borrow.Author.Tests.{leb-true}
 use Rattle.lists.specs.Rows.{over, keys, row_with}
 use Rattle.lists.specs.Select.{any, has}
-use Rattle.lists.specs.declared.Found.{Found}
-use Rattle.lists.specs.declared.Found.TheVariants.{At, Nothing}
 use Rattle.lists.proofs.Every.{all_get_d}
 use Rattle.lists.proofs.Rows.{drop-take, length-reads, get_d_reads, over-nil, store-behind, there, one_has}
 use Rattle.tables.specs.View.{word, ids_at, rows}
@@ -28,17 +27,17 @@ module _ (cut ids : List ℕ) (n : ℕ) (h : n ≤ length ids) where
   abbrev pub names_from : ℕ → Bool
   names_from i = any (λ k. has k cut) (drop i (take n ids))
 
-  module _ (i : ℕ) (d : i < n) (r : Found) (e : r ≡ row_with (get_or ids i 0) (keys 1 (length cut) cut)) where
+  module _ (i : ℕ) (d : i < n) (r : Option ℕ) (e : r ≡ row_with (get_or ids i 0) (keys 1 (length cut) cut)) where
     names-turn : names_from i ≡ (there r || names_from (i + 1))
     unfolding any
     names-turn =
         let l : i < length (take n ids) = rw (length-take-le n ids h) d in
         rw (add-one, drop-cons (take n ids) i 0 l, get_or-take n ids i 0 d, one_has (get_or ids i 0) cut r e)
 
-    pub names-found : (j : ℕ) → r ≡ At j → names_from i ≡ true
+    pub names-found : (j : ℕ) → r ≡ Some j → names_from i ≡ true
     names-found j f = names-turn ∙ rw f
 
-    pub names-other : r ≡ Nothing → names_from i ≡ names_from (i + 1)
+    pub names-other : r ≡ None → names_from i ≡ names_from (i + 1)
     names-other f = names-turn ∙ rw f
 
   pub names-end : (i : ℕ) → n ≤ i → names_from i ≡ false
@@ -225,9 +224,9 @@ lane-named limit cut t w h i d =
     rw (e, row_named 52 18 16 limit cut t w h i d)
 
 -- a lane that is cut, and one that is not
-module _ (cut t : List ℕ) (row : ℕ) (r : Found) (e : r ≡ row_with (get_or t row 0) (keys 1 (length cut) cut)) where
-  pub lane-cut : (j : ℕ) → r ≡ At j → true ≡ lane_at cut row t
+module _ (cut t : List ℕ) (row : ℕ) (r : Option ℕ) (e : r ≡ row_with (get_or t row 0) (keys 1 (length cut) cut)) where
+  pub lane-cut : (j : ℕ) → r ≡ Some j → true ≡ lane_at cut row t
   lane-cut j f = rw (one_has (get_or t row 0) cut r e, f)
 
-  pub lane-other : r ≡ Nothing → (b : Bool) → b ≡ names_at cut (row + 18) t → b ≡ lane_at cut row t
+  pub lane-other : r ≡ None → (b : Bool) → b ≡ names_at cut (row + 18) t → b ≡ lane_at cut row t
   lane-other f b g = rw (one_has (get_or t row 0) cut r e, f) g

@@ -7,7 +7,6 @@ ghost use Rattle.lists.specs.Select.{any, ascending, has};
 ghost use Rattle.tables.specs.View.{word};
 ghost use Rattle.split_marks.specs.Touched as D;
 
-use lists::Found;
 use tables::{LANE, PREDECESSORS};
 
 // Words of a piece's row.
@@ -18,16 +17,14 @@ pub fn names_cut(ids: &[u64], n: usize, cut: &[u64]) -> bool
     requires { (n ≤ length ids.now) × (ascending cut.now ≡ true) }
     ensures { result ≡ any (λ i. has i cut.now) (take n ids.now) }
 {
-    let mut i = 0;
-    while i < n {
+    for i in 0..n {
         let found = rank::rank(cut, ids[i]);
         match found {
-            Found::At(_) => {
+            Some(_) => {
                 return true;
             }
-            Found::Nothing => {}
+            None => {}
         }
-        i += 1;
     }
     false
 }
@@ -50,10 +47,8 @@ pub fn mark_rows(t: &[u64], s: usize, k: usize, cut: &[u64], marks: &mut [bool])
     ensures { marks.new ≡ over marks.old 0 (D.row_marks cut.now s k t.now) }
 {
     let n = t[0] as usize;
-    let mut i = 0;
-    while i < n {
+    for i in 0..n {
         marks[i] = row_names(t, 1 + i * s, k, cut);
-        i += 1;
     }
 }
 
@@ -63,8 +58,8 @@ fn lane_touched(t: &[u64], row: usize, cut: &[u64]) -> bool
 {
     let found = rank::rank(cut, t[row]);
     match found {
-        Found::At(_) => true,
-        Found::Nothing => row_names(t, row, PREDECESSORS, cut),
+        Some(_) => true,
+        None => row_names(t, row, PREDECESSORS, cut),
     }
 }
 
@@ -74,10 +69,8 @@ pub fn mark_lanes(t: &[u64], cut: &[u64], marks: &mut [bool])
     ensures { marks.new ≡ over marks.old 0 (D.lane_marks cut.now t.now) }
 {
     let n = t[0] as usize;
-    let mut i = 0;
-    while i < n {
+    for i in 0..n {
         marks[i] = lane_touched(t, 1 + i * LANE, cut);
-        i += 1;
     }
 }
 
@@ -87,8 +80,7 @@ pub fn mark_alone(cut: &[bool], n: usize, pieces: &[u64], marks: &mut [bool])
     ensures { marks.new ≡ over marks.old 0 (D.alone_from pieces.now 0 (take n cut.now)) }
 {
     let mut j = 0;
-    let mut i = 0;
-    while i < n {
+    for i in 0..n {
         if cut[i] {
             let at = j * PIECE;
             marks[i] = pieces[at + 1] == pieces[at];
@@ -96,7 +88,6 @@ pub fn mark_alone(cut: &[bool], n: usize, pieces: &[u64], marks: &mut [bool])
         } else {
             marks[i] = false;
         }
-        i += 1;
     }
 }
 
@@ -106,12 +97,10 @@ pub fn count_marks(marks: &[bool], n: usize) -> usize
     ensures { (result ≡ D.marked (take n marks.now)) × (result ≤ n) }
 {
     let mut count = 0;
-    let mut i = 0;
-    while i < n {
+    for i in 0..n {
         if marks[i] {
             count += 1;
         }
-        i += 1;
     }
     count
 }

@@ -1,11 +1,11 @@
 -- Rules stored with their lanes as they follow in turns are their rows in which the lanes follow, and differ where the rows do. Assumes nothing.
+use Rattle.std.specs.Prelude.{Some}
 use mathlib.Core.Path.{◌≡◌, refl, sym, ap, ◌∙◌}
 use Prim.Native.Nat.{ℕ, zero, suc, ◌+◌, ◌*◌, ◌<◌}
 use native.Mathlib.Nat.{zero-mul}
 use native.Mathlib.Omega.{arith}
 use mathlib.Core.Bool.{Bool, true, false, not, ◌&&◌, ◌||◌, cond}
 use mathlib.Core.List.{List, ◌∷◌, map}
-use mathlib.Core.Option.{some}
 use lib.Dec.{eqb}
 use lib.Ieee.{Float}
 use lib.ListN.{length, get_or, take, drop}
@@ -85,7 +85,7 @@ lists-differ next cut w ids false = unfold insert_after each same_numbers in alo
 -- the marks of a rule's row are right: it has an anchor or not, and with one each own lane that is cut says on which half the anchor lies
 pub record RuleMarked (join : Float) (m : Map) (anchored : Bool) (past : List Bool) (next : ℕ) (ps : List LanePlan) (w : List ℕ) : Type 0 where
   pub anchor : anchored ≡ is_some (rule_anchor m (rule_of w))
-  pub marks : (a : Point2) → rule_anchor m (rule_of w) ≡ some a → Marks (λ x j. on_second join m x j a) past (ids_at 5 w) next ps
+  pub marks : (a : Point2) → rule_anchor m (rule_of w) ≡ Some a → Marks (λ x j. on_second join m x j a) past (ids_at 5 w) next ps
 
 module _ (join : Float) (m : Map) (next : ℕ) (ps : List LanePlan) (b : below next (cut_ids ps)) where
   abbrev cut : List ℕ

@@ -1,10 +1,10 @@
 -- A rule's own lanes that follow its anchor, by marks: what following in turns makes of them, and when they differ. Assumes nothing.
+use Rattle.std.specs.Prelude.{Option, None, Some}
 use mathlib.Core.Path.{◌≡◌, refl, sym, ap, ◌∙◌}
 use Prim.Native.Nat.{ℕ, suc, ◌≤◌, ◌<◌}
 use native.Mathlib.Omega.{arith}
 use mathlib.Core.Bool.{Bool, true, false, ◌&&◌, cond}
 use mathlib.Core.List.{List, [], ◌∷◌, map}
-use mathlib.Core.Option.{Option, none, some}
 use lib.Dec.{eqb, ltb}
 use lib.Ieee.{Float}
 use lib.ListN.{length, get_or, set, length-set}
@@ -21,8 +21,8 @@ use Rattle.follows.specs.Following.{first_place, followed, followed_all}
 use Rattle.follows.proofs.Places.{has-place, place_at, swap-set}
 
 abbrev pub is_some : {A : Type 0} → Option A → Bool
-is_some none = false
-is_some (some a) = true
+is_some None = false
+is_some (Some a) = true
 
 -- the ids of the lanes that are cut
 abbrev pub cut_ids : List LanePlan → List ℕ
@@ -108,20 +108,20 @@ module _ (side : LanePlan → ℕ → Bool) (past : List Bool) (base : ℕ) (ids
 -- ---- document 01's lanes, by the marks
 
 module _ (join : Float) (m : Map) (past : List Bool) where
-  follow-none : (next : ℕ) (ps : List LanePlan) (ids : List ℕ) → follow_all join m none next ps ids ≡ followed_all false past next (cut_ids ps) ids
+  follow-none : (next : ℕ) (ps : List LanePlan) (ids : List ℕ) → follow_all join m None next ps ids ≡ followed_all false past next (cut_ids ps) ids
   unfolding follow_all followed_all
   follow-none next [] ids = refl
   follow-none next (x ∷ ps) ids = follow-none (suc next) ps (swap_first x.of.id (x.of.id ∷ next ∷ []) ids)
 
-  follow-some : (a : Point2) (base next : ℕ) (ps : List LanePlan) (ids now : List ℕ) → follow_all join m (some a) next ps now ≡ sided_all (λ x j. on_second join m x j a) past base ids next ps now
+  follow-some : (a : Point2) (base next : ℕ) (ps : List LanePlan) (ids now : List ℕ) → follow_all join m (Some a) next ps now ≡ sided_all (λ x j. on_second join m x j a) past base ids next ps now
   unfolding follow_all sided_all
   follow-some a base next [] ids now = refl
   follow-some a base next (x ∷ ps) ids now = follow-some a base (suc next) ps ids (sided (λ x j. on_second join m x j a) past base ids x next now)
 
   pub follow-words : (anchor : Option Point2) (next : ℕ) (ps : List LanePlan) (ids : List ℕ) → below next (cut_ids ps)
-      → ((a : Point2) → anchor ≡ some a → Marks (λ x j. on_second join m x j a) past ids next ps)
+      → ((a : Point2) → anchor ≡ Some a → Marks (λ x j. on_second join m x j a) past ids next ps)
       → follow_all join m anchor next ps ids ≡ followed_all (is_some anchor) past next (cut_ids ps) ids
-  follow-words none next ps ids b marks = follow-none next ps ids
-  follow-words (some a) next ps ids b marks =
+  follow-words None next ps ids b marks = follow-none next ps ids
+  follow-words (Some a) next ps ids b marks =
       follow-some a next next ps ids ids
       ∙ sided-all (λ x j. on_second join m x j a) past next ids next ps ids (omega arith) b (marks a refl) (record { long = refl; old = λ p l u. refl })

@@ -8,8 +8,6 @@ ghost use Rattle.split_half.specs.Half as D;
 
 use entities::Side;
 use geometry::Point2;
-use lookup::OptionCount;
-use polyline::OptionNearest;
 use tables::{LANE, LANE_CENTERLINE, POINT};
 
 // Floats in the longest half, of 258 points, and in two of them joined.
@@ -29,7 +27,7 @@ fn half_between(
     left: &mut [f64],
     right: &mut [f64],
     out: &mut [f64],
-) -> OptionCount
+) -> Option<usize>
     requires { (D.Halving lanes.now boundaries.now coordinates.now i) × ((774 ≤ length piece.old) × ((774 ≤ length left.old) × ((774 ≤ length right.old) × (774 ≤ length out.old)))) }
     ensures { (result ≡ K.count_of (D.row_derived coordinates.now lanes.now boundaries.now point second i)) × (out.new ≡ D.line_over out.old (D.row_derived coordinates.now lanes.now boundaries.now point second i)) }
 {
@@ -55,19 +53,15 @@ fn half_between(
         piece,
         right,
     );
-    let OptionCount::Some(a) = l else {
-        return OptionCount::None;
-    };
-    let OptionCount::Some(b) = r else {
-        return OptionCount::None;
-    };
+    let a = l?;
+    let b = r?;
     let left_end = a * POINT;
     let right_end = b * POINT;
     let n = stations::centerline(&left[..left_end], &right[..right_end], out);
     if n == 0 {
-        return OptionCount::None;
+        return None;
     }
-    OptionCount::Some(n)
+    Some(n)
 }
 
 // The same with arrays of its own.
@@ -79,7 +73,7 @@ fn half_derived(
     point: Point2,
     second: bool,
     out: &mut [f64],
-) -> OptionCount
+) -> Option<usize>
     requires { (D.Halving lanes.now boundaries.now coordinates.now i) × (774 ≤ length out.old) }
     ensures { (result ≡ K.count_of (D.row_derived coordinates.now lanes.now boundaries.now point second i)) × (out.new ≡ D.line_over out.old (D.row_derived coordinates.now lanes.now boundaries.now point second i)) }
 {
@@ -109,7 +103,7 @@ fn half_center(
     point: Point2,
     second: bool,
     out: &mut [f64],
-) -> OptionCount
+) -> Option<usize>
     requires { (D.Halving lanes.now boundaries.now coordinates.now i) × (774 ≤ length out.old) }
     ensures { (result ≡ K.count_of (D.row_half coordinates.now lanes.now boundaries.now point second i)) × (out.new ≡ D.line_over out.old (D.row_half coordinates.now lanes.now boundaries.now point second i)) }
 {
@@ -117,7 +111,7 @@ fn half_center(
     if lanes[at] != 0 {
         let line = lookup::line_of(lanes, at + 1, coordinates);
         if polyline::count(line) != 0 {
-            return OptionCount::Some(split_half::half_line(line, point, second, out));
+            return Some(split_half::half_line(line, point, second, out));
         }
     }
     half_derived(lanes, i, boundaries, coordinates, point, second, out)
@@ -128,7 +122,7 @@ fn past_on(line: &[f64], station: f64, anchor: Point2) -> bool
     ensures { result ≡ D.past_on (points line.now) station anchor }
 {
     let found = nearest::nearest_point(line, anchor);
-    let OptionNearest::Some(near) = found else {
+    let Some(near) = found else {
         return false;
     };
     station <= near.station
@@ -153,10 +147,10 @@ fn past_in(
 {
     let first = half_center(lanes, i, boundaries, coordinates, point, false, one);
     let second = half_center(lanes, i, boundaries, coordinates, point, true, two);
-    let OptionCount::Some(a) = first else {
+    let Some(a) = first else {
         return false;
     };
-    let OptionCount::Some(b) = second else {
+    let Some(b) = second else {
         return false;
     };
     let one_end = a * POINT;

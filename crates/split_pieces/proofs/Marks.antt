@@ -1,4 +1,5 @@
 -- Marks by row: those of the boundaries that a lane of the group uses, as they are written. Assumes nothing.
+use Rattle.std.specs.Prelude.{Option, None, Some}
 use mathlib.Core.Path.{◌≡◌, refl, sym, ap, ◌∙◌}
 use Prim.Native.Nat.{ℕ, ◌+◌, ◌≤◌, ◌<◌}
 use native.Mathlib.Nat.{le_of_suc-le-suc, not-suc-le-zero}
@@ -8,8 +9,6 @@ use mathlib.Core.List.{List, [], ◌∷◌, ◌++◌, map}
 use lib.Dec.{eqb, ltb}
 use lib.ListN.{length, get_or, set, drop, length-map, length-set}
 use borrow.Author.Tests.{eq-eqb, ne_eqb, eqb-true, eqb-false, ltb-true}
-use Rattle.lists.specs.declared.Found.{Found}
-use Rattle.lists.specs.declared.Found.TheVariants.{At, Nothing}
 use Rattle.lists.specs.Every.{all}
 use Rattle.lists.specs.Rows.{over, later, row_with}
 use Rattle.lists.specs.Select.{any, ascending}
@@ -26,31 +25,31 @@ use Rattle.split_pieces.specs.Pieces.{boundary_keys, cut_marks, mark_found, side
 
 -- ---- one side of a lane
 
-module _ (t : List ℕ) (j : ℕ) (side : Side) (b : List ℕ) (m : List Bool) (r : BoundaryRef) (e : r ≡ ref_at (side_word side) (row_at 52 t j)) (f : Found) (g : f ≡ place_of 5 b r.boundary) where
-  told : (q : Found) → f ≡ q → mark_found q m ≡ side_marked t j side b m
+module _ (t : List ℕ) (j : ℕ) (side : Side) (b : List ℕ) (m : List Bool) (r : BoundaryRef) (e : r ≡ ref_at (side_word side) (row_at 52 t j)) (f : Option ℕ) (g : f ≡ place_of 5 b r.boundary) where
+  told : (q : Option ℕ) → f ≡ q → mark_found q m ≡ side_marked t j side b m
   told q h = ap (λ x. mark_found x m) (sym h ∙ g ∙ ap (λ (x : BoundaryRef). place_of 5 b x.boundary) e)
 
-  pub side-found : (x : ℕ) → f ≡ At x → set m x true ≡ side_marked t j side b m
-  side-found x h = told (At x) h
+  pub side-found : (x : ℕ) → f ≡ Some x → set m x true ≡ side_marked t j side b m
+  side-found x h = told (Some x) h
 
-  pub side-none : f ≡ Nothing → m ≡ side_marked t j side b m
-  side-none h = told Nothing h
+  pub side-none : f ≡ None → m ≡ side_marked t j side b m
+  side-none h = told None h
 
-  pub side-room : word 0 b ≤ length m → (x : ℕ) → f ≡ At x → x < length m
+  pub side-room : word 0 b ≤ length m → (x : ℕ) → f ≡ Some x → x < length m
   side-room l x h = omega (arith, place-within 5 b r.boundary x (sym g ∙ h))
 
-length_found : (f : Found) (m : List Bool) → length (mark_found f m) ≡ length m
-length_found (At x) m = length-set m x true
-length_found Nothing m = refl
+length_found : (f : Option ℕ) (m : List Bool) → length (mark_found f m) ≡ length m
+length_found (Some x) m = length-set m x true
+length_found None m = refl
 
 pub side-length : (t : List ℕ) (j : ℕ) (side : Side) (b : List ℕ) (m v : List Bool) → v ≡ side_marked t j side b m → length v ≡ length m
 side-length t j side b m v e = ap length e ∙ length_found (place_of 5 b (word (side_word side) (row_at 52 t j))) m
 
 -- ---- marks told by a test of keys
 
-found-later : (f : Found) (b : Bool) (m : List Bool) → mark_found (later f) (b ∷ m) ≡ b ∷ mark_found f m
-found-later (At x) b m = refl
-found-later Nothing b m = refl
+found-later : (f : Option ℕ) (b : Bool) (m : List Bool) → mark_found (later f) (b ∷ m) ≡ b ∷ mark_found f m
+found-later (Some x) b m = refl
+found-later None b m = refl
 
 module _ (i : ℕ) (f : ℕ → Bool) where
   abbrev also : ℕ → Bool
@@ -70,7 +69,7 @@ module _ (i : ℕ) (f : ℕ → Bool) where
   marked-keys [] rest a = refl
   marked-keys (k ∷ ks) rest a = go (eqb k i) refl (marked-keys ks rest (ascending-tail k ks a))
     where
-      go : (b : Bool) → eqb k i ≡ b → mark_found (row_with i ks) (map f ks ++ rest) ≡ map also ks ++ rest → mark_found (cond b (At 0) (later (row_with i ks))) (f k ∷ (map f ks ++ rest)) ≡ also k ∷ (map also ks ++ rest)
+      go : (b : Bool) → eqb k i ≡ b → mark_found (row_with i ks) (map f ks ++ rest) ≡ map also ks ++ rest → mark_found (cond b (Some 0) (later (row_with i ks))) (f k ∷ (map f ks ++ rest)) ≡ also k ∷ (map also ks ++ rest)
       go true e r =
           let q : k ≡ i = eqb-true k i e in
           let o : true ≡ also k = sym (or_right (f k) (eqb i k) (eq-eqb i k (sym q))) in

@@ -1,9 +1,7 @@
 -- The boundaries that a split cuts, and the ids of their pieces, by rows. Nothing that a host calls rests on this page; the laws of split_laws tie it to the rules.
-use Rattle.std.specs.Prelude.{◌≡◌, ℕ, suc, ◌+◌, ◌≤◌, Bool, true, not, cond, List, [], ◌∷◌, map, length, set, drop}
+use Rattle.std.specs.Prelude.{◌≡◌, ℕ, suc, ◌+◌, ◌≤◌, Bool, true, not, cond, List, [], ◌∷◌, map, length, set, drop, Option, None, Some}
 use Rattle.lists.specs.Rows.{keys}
 use Rattle.lists.specs.Select.{any, each}
-use Rattle.lists.specs.declared.Found.{Found}
-use Rattle.lists.specs.declared.Found.TheVariants.{At, Nothing}
 use Rattle.rules.specs.Names.{Side}
 use Rattle.rules.specs.Limits.{max_boundaries, max_lanes}
 use Rattle.tables.specs.View.{word, ref_at, rows}
@@ -29,9 +27,9 @@ abbrev pub cut_keys : List Bool → List ℕ → List ℕ
 cut_keys marks boundaries = picked marks (boundary_keys boundaries)
 
 -- the boundary of the lane in row j on a side is marked, if it is there
-abbrev pub mark_found : Found → List Bool → List Bool
-mark_found (At x) marks = set marks x true
-mark_found Nothing marks = marks
+abbrev pub mark_found : Option ℕ → List Bool → List Bool
+mark_found (Some x) marks = set marks x true
+mark_found None marks = marks
 
 abbrev pub side_marked : List ℕ → ℕ → Side → List ℕ → List Bool → List Bool
 side_marked lanes j side boundaries marks = mark_found (place_of boundary_words boundaries (ref_at (side_word side) (row_at lane_words lanes j)).boundary) marks

@@ -9,7 +9,6 @@ ghost use Rattle.lookup.specs.Lookup as K;
 ghost use Rattle.split_pieces.specs.Pieces as Q;
 
 use entities::Side;
-use lists::Found;
 use tables::BOUNDARY;
 
 // Words of a piece's row: the boundary, its first piece, its second.
@@ -29,10 +28,10 @@ fn mark_side(lanes: &[u64], j: usize, side: Side, boundaries: &[u64], marks: &mu
     let id = lookup::boundary_ref(lanes, j, side).boundary;
     let found = lookup::boundary(boundaries, id);
     match found {
-        Found::At(x) => {
+        Some(x) => {
             marks[x] = true;
         }
-        Found::Nothing => {}
+        None => {}
     }
 }
 
@@ -42,13 +41,11 @@ pub fn mark_cut(lanes: &[u64], seen: &[bool], boundaries: &[u64], marks: &mut [b
     ensures { marks.new ≡ over marks.old 0 (Q.cut_marks seen.now lanes.now boundaries.now) }
 {
     let n = lanes[0] as usize;
-    let mut j = 0;
-    while j < n {
+    for j in 0..n {
         if seen[j] {
             mark_side(lanes, j, Side::Left, boundaries, marks);
             mark_side(lanes, j, Side::Right, boundaries, marks);
         }
-        j += 1;
     }
 }
 
@@ -60,14 +57,12 @@ fn used_beyond(lanes: &[u64], seen: &[bool], id: u64) -> bool
     ensures { result ≡ Q.used_beyond seen.now lanes.now id }
 {
     let n = lanes[0] as usize;
-    let mut j = 0;
-    while j < n {
+    for j in 0..n {
         if !seen[j] {
             if uses::row_uses(lanes, j, id) {
                 return true;
             }
         }
-        j += 1;
     }
     false
 }
@@ -90,12 +85,10 @@ pub fn count_ids(lanes: &[u64], seen: &[bool], boundaries: &[u64], marks: &[bool
 {
     let n = boundaries[0] as usize;
     let mut ids = 0;
-    let mut x = 0;
-    while x < n {
+    for x in 0..n {
         if marks[x] {
             ids += ids_for(lanes, seen, boundaries[1 + x * BOUNDARY]);
         }
-        x += 1;
     }
     ids
 }
@@ -134,14 +127,12 @@ pub fn list_pieces(
     let n = boundaries[0] as usize;
     let mut id = next;
     let mut m = 0;
-    let mut x = 0;
-    while x < n {
+    for x in 0..n {
         if marks[x] {
             let b = boundaries[1 + x * BOUNDARY];
             id = put_piece(pieces, m, b, used_beyond(lanes, seen, b), id);
             m += 1;
         }
-        x += 1;
     }
     m
 }

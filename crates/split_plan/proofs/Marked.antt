@@ -1,4 +1,5 @@
 -- Those of a list that are marked, and the answers of all of them up to the first refusal. Assumes nothing.
+use Rattle.std.specs.Prelude.{Err, Ok}
 use mathlib.Core.Path.{◌≡◌, refl, sym, ap, ◌∙◌}
 use Prim.Native.Nat.{ℕ, zero, suc, ◌+◌, ◌<◌}
 use native.Mathlib.Nat.{le_of_suc-le-suc, not-suc-le-zero}
@@ -9,7 +10,7 @@ use mathlib.Core.List.{List, [], ◌∷◌, ◌++◌, append-nil, append_assoc}
 use lib.Ieee.{Float}
 use lib.ListN.{length, get_or, take, drop}
 use Rattle.rules.specs.Names.{Refusal}
-use Rattle.rules.specs.Edit.{Res, refuse, yield, ◌>>=◌, Passed, passed}
+use Rattle.rules.specs.Edit.{Res, ◌>>=◌, Passed, passed}
 use Rattle.split_plan.specs.Placing.{picked, all_of, good_of, all_pass}
 
 -- ---- those that are marked
@@ -64,10 +65,10 @@ module _ {A : Type 0} where
 
 pub data Each {A : Type 0} (f : A → Res Float) : List A → List Float → Type 0 where
   none : Each f [] []
-  one : {x : A} {y : Float} {xs : List A} {ys : List Float} → f x ≡ yield y → Each f xs ys → Each f (x ∷ xs) (y ∷ ys)
+  one : {x : A} {y : Float} {xs : List A} {ys : List Float} → f x ≡ Ok y → Each f xs ys → Each f (x ∷ xs) (y ∷ ys)
 
 module _ {A : Type 0} (f : A → Res Float) where
-  pub each_more : {xs : List A} {ys : List Float} → Each f xs ys → (x : A) (y : Float) → f x ≡ yield y → Each f (xs ++ (x ∷ [])) (ys ++ (y ∷ []))
+  pub each_more : {xs : List A} {ys : List Float} → Each f xs ys → (x : A) (y : Float) → f x ≡ Ok y → Each f (xs ++ (x ∷ [])) (ys ++ (y ∷ []))
   each_more none x y e = one e none
   each_more (one g r) x y e = one g (each_more r x y e)
 
@@ -75,7 +76,7 @@ module _ {A : Type 0} (f : A → Res Float) where
   each-length none = refl
   each-length (one g r) = ap suc (each-length r)
 
-  pub each_all : {xs : List A} {ys : List Float} → Each f xs ys → all_of f xs ≡ yield ys
+  pub each_all : {xs : List A} {ys : List Float} → Each f xs ys → all_of f xs ≡ Ok ys
   unfolding all_of
   each_all none = refl
   each_all (one g r) = rw (g, each_all r)
@@ -86,38 +87,38 @@ module _ {A : Type 0} (f : A → Res Float) where
   each-good none zs = refl
   each-good (one g r) zs = rw (g, each-good r zs)
 
-  pub each-refused : {xs : List A} {ys : List Float} → Each f xs ys → (x : A) (r : Refusal) (zs : List A) → f x ≡ refuse r → all_of f (xs ++ (x ∷ zs)) ≡ refuse r
+  pub each-refused : {xs : List A} {ys : List Float} → Each f xs ys → (x : A) (r : Refusal) (zs : List A) → f x ≡ Err r → all_of f (xs ++ (x ∷ zs)) ≡ Err r
   unfolding all_of
   each-refused none x r zs e = rw e
   each-refused (one g h) x r zs e = rw (g, each-refused h x r zs e)
 
-  pub good-refused : (x : A) (r : Refusal) (zs : List A) → f x ≡ refuse r → good_of f (x ∷ zs) ≡ []
+  pub good-refused : (x : A) (r : Refusal) (zs : List A) → f x ≡ Err r → good_of f (x ∷ zs) ≡ []
   unfolding good_of
   good-refused x r zs e = rw e
 
   -- from the answers of all
-  pub all-each : (xs : List A) (ys : List Float) → all_of f xs ≡ yield ys → Each f xs ys
+  pub all-each : (xs : List A) (ys : List Float) → all_of f xs ≡ Ok ys → Each f xs ys
   unfolding all_of
   all-each [] ys e = let z : ys ≡ [] = cc in rw z none
   all-each (x ∷ xs) ys e = go (f x) refl (all_of f xs) (all-each xs) e
     where
-      go : (a : Res Float) → f x ≡ a → (b : Res (List Float)) → ((zs : List Float) → b ≡ yield zs → Each f xs zs) → (a >>= λ y. b >>= λ zs. yield (y ∷ zs)) ≡ yield ys → Each f (x ∷ xs) ys
-      go (refuse r) p b q h = let z : ◌≡◌ {A = ℕ} 0 1 = cc in absurd (omega arith)
-      go (yield y) p (refuse r) q h = let z : ◌≡◌ {A = ℕ} 0 1 = cc in absurd (omega arith)
-      go (yield y) p (yield zs) q h = let z : ys ≡ y ∷ zs = cc in rw z (one p (q zs refl))
+      go : (a : Res Float) → f x ≡ a → (b : Res (List Float)) → ((zs : List Float) → b ≡ Ok zs → Each f xs zs) → (a >>= λ y. b >>= λ zs. Ok (y ∷ zs)) ≡ Ok ys → Each f (x ∷ xs) ys
+      go (Err r) p b q h = let z : ◌≡◌ {A = ℕ} 0 1 = cc in absurd (omega arith)
+      go (Ok y) p (Err r) q h = let z : ◌≡◌ {A = ℕ} 0 1 = cc in absurd (omega arith)
+      go (Ok y) p (Ok zs) q h = let z : ys ≡ y ∷ zs = cc in rw z (one p (q zs refl))
 
 -- ---- every one passes
 
 module _ {A : Type 0} (f : A → Res Passed) where
   -- the tests of those that are left, where the others passed
-  pub pass-more : (xs zs : List A) → all_pass f xs ≡ yield passed → all_pass f (xs ++ zs) ≡ all_pass f zs
+  pub pass-more : (xs zs : List A) → all_pass f xs ≡ Ok passed → all_pass f (xs ++ zs) ≡ all_pass f zs
   unfolding all_pass
   pass-more [] zs e = refl
   pass-more (x ∷ xs) zs e = go (f x) (pass-more xs zs) e
     where
-      go : (a : Res Passed) → (all_pass f xs ≡ yield passed → all_pass f (xs ++ zs) ≡ all_pass f zs) → (a >>= λ _. all_pass f xs) ≡ yield passed → (a >>= λ _. all_pass f (xs ++ zs)) ≡ all_pass f zs
-      go (refuse r) p h = let z : ◌≡◌ {A = ℕ} 0 1 = cc in absurd (omega arith)
-      go (yield ok) p h = p h
+      go : (a : Res Passed) → (all_pass f xs ≡ Ok passed → all_pass f (xs ++ zs) ≡ all_pass f zs) → (a >>= λ _. all_pass f xs) ≡ Ok passed → (a >>= λ _. all_pass f (xs ++ zs)) ≡ all_pass f zs
+      go (Err r) p h = let z : ◌≡◌ {A = ℕ} 0 1 = cc in absurd (omega arith)
+      go (Ok ok) p h = p h
 
   pub pass-first : (x : A) (zs : List A) → all_pass f (x ∷ zs) ≡ (f x >>= λ _. all_pass f zs)
   unfolding all_pass

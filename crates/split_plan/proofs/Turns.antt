@@ -1,4 +1,5 @@
 -- One turn of the loops over marked lanes, and their ends. Assumes nothing.
+use Rattle.std.specs.Prelude.{Err, Ok}
 use mathlib.Core.Path.{◌≡◌, refl, sym, ap, ◌∙◌}
 use Prim.Native.Nat.{ℕ, ◌+◌, ◌*◌, ◌≤◌, ◌<◌}
 use native.Mathlib.Omega.{arith}
@@ -10,32 +11,29 @@ use lib.Seq.{take_all, take_at, drop-drop}
 use Rattle.lists.specs.Rows.{over}
 use Rattle.lists.proofs.Rows.{length-reads, get_d_reads, over-nil, store-behind}
 use Rattle.rules.specs.Names.{Refusal}
-use Rattle.rules.specs.Edit.{Res, refuse, yield, ◌>>=◌, Passed, passed}
+use Rattle.rules.specs.Edit.{Res, ◌>>=◌, Passed, passed}
 use Rattle.tables.specs.View.{word, rows}
 use Rattle.row_tests.proofs.Lanes.{id-at}
 use Rattle.lookup.specs.Lookup.{row_at}
-use Rattle.split_plan.specs.Placing.{picked, marked_rows, all_of, good_of, all_pass, station_told, stations_told, cross_told}
-use Rattle.split_plan.specs.declared.Stationed.TheVariants as S
-use Rattle.split_plan.specs.declared.Stations.TheVariants as L
-use Rattle.split_plan.specs.declared.Crossed.TheVariants as X
+use Rattle.split_plan.specs.Placing.{picked, marked_rows, all_of, good_of, all_pass, stations_told}
 use Rattle.split_plan.proofs.Marked.{picked_none, Each, none, pick-one, pick-none, pick-rest, each_more, each-length, each_all, each-good, each-refused, good-refused, pass-more, pass-first}
 
 -- what was told of one lane
-pub at_told : (x : Res Float) (s : Float) → S.At s ≡ station_told x → x ≡ yield s
-at_told (refuse r) s e = let z : ◌≡◌ {A = ℕ} 0 1 = cc in absurd (omega arith)
-at_told (yield y) s e = let z : y ≡ s = cc in rw z
+pub at_told : (x : Res Float) (s : Float) → Ok s ≡ x → x ≡ Ok s
+at_told (Err r) s e = let z : ◌≡◌ {A = ℕ} 0 1 = cc in absurd (omega arith)
+at_told (Ok y) s e = let z : y ≡ s = cc in rw z
 
-pub refused-told : (x : Res Float) (r : Refusal) → S.Refused r ≡ station_told x → x ≡ refuse r
-refused-told (refuse q) r e = let z : q ≡ r = cc in rw z
-refused-told (yield y) r e = let z : ◌≡◌ {A = ℕ} 0 1 = cc in absurd (omega arith)
+pub refused-told : (x : Res Float) (r : Refusal) → Err r ≡ x → x ≡ Err r
+refused-told (Err q) r e = let z : q ≡ r = cc in rw z
+refused-told (Ok y) r e = let z : ◌≡◌ {A = ℕ} 0 1 = cc in absurd (omega arith)
 
-passed-told : (x : Res Passed) → X.All ≡ cross_told x → x ≡ yield passed
-passed-told (refuse q) e = let z : ◌≡◌ {A = ℕ} 0 1 = cc in absurd (omega arith)
-passed-told (yield passed) e = refl
+passed-told : (x : Res Passed) → (Ok passed) ≡ x → x ≡ Ok passed
+passed-told (Err q) e = let z : ◌≡◌ {A = ℕ} 0 1 = cc in absurd (omega arith)
+passed-told (Ok passed) e = refl
 
-uncrossed_told : (x : Res Passed) (r : Refusal) → X.Refused r ≡ cross_told x → x ≡ refuse r
-uncrossed_told (refuse q) r e = let z : q ≡ r = cc in rw z
-uncrossed_told (yield y) r e = let z : ◌≡◌ {A = ℕ} 0 1 = cc in absurd (omega arith)
+uncrossed_told : (x : Res Passed) (r : Refusal) → Err r ≡ x → x ≡ Err r
+uncrossed_told (Err q) r e = let z : q ≡ r = cc in rw z
+uncrossed_told (Ok y) r e = let z : ◌≡◌ {A = ℕ} 0 1 = cc in absurd (omega arith)
 
 -- the marked rows before row j
 abbrev pub first_rows : List Bool → List ℕ → ℕ → List (List ℕ)
@@ -111,7 +109,7 @@ module _ (f : List ℕ → Res Float) (s : List Bool) (t cut₀ : List ℕ) (sta
         }
 
     module _ (q : get_or s j false ≡ true) where
-      module _ (d : m < length cut₀) (e : m < length stations₀) (y : Float) (g : f (row_at 52 t j) ≡ yield y) where
+      module _ (d : m < length cut₀) (e : m < length stations₀) (y : Float) (g : f (row_at 52 t j) ≡ Ok y) where
         now : Each f (first_rows s t (j + 1)) (good_of f before ++ (y ∷ []))
         now = rw (row_more s t j b c q) (each_more f w.each (row_at 52 t j) y g)
 
@@ -134,50 +132,50 @@ module _ (f : List ℕ → Res Float) (s : List Bool) (t cut₀ : List ℕ) (sta
                   ∙ ap (over stations₀ 0) (sym good);
             }
 
-      module _ (r : Refusal) (g : f (row_at 52 t j) ≡ refuse r) where
+      module _ (r : Refusal) (g : f (row_at 52 t j) ≡ Err r) where
         good-all : good_of f (marked_rows s t) ≡ good_of f before
         good-all =
             ap (good_of f) (row-rest s t j b c q) ∙ each-good f w.each (row_at 52 t j ∷ rest s t j b c)
             ∙ ap (λ (l : List Float). good_of f before ++ l) (good-refused f (row_at 52 t j) r (rest s t j b c) g) ∙ append-nil (good_of f before)
 
-        pub turn-stops : (L.Refused r ≡ stations_told (all_of f (marked_rows s t)))
+        pub turn-stops : (Err r ≡ stations_told (all_of f (marked_rows s t)))
             × ((cut ≡ over cut₀ 0 (map (word 0) (take (length (good_of f (marked_rows s t))) (marked_rows s t)))) × (stations ≡ over stations₀ 0 (good_of f (marked_rows s t))))
         turn-stops =
-            let all : all_of f (marked_rows s t) ≡ refuse r = ap (all_of f) (row-rest s t j b c q) ∙ each-refused f w.each (row_at 52 t j) r (rest s t j b c) g in
+            let all : all_of f (marked_rows s t) ≡ Err r = ap (all_of f) (row-rest s t j b c q) ∙ each-refused f w.each (row_at 52 t j) r (rest s t j b c) g in
             let n : length before ≡ length (good_of f (marked_rows s t)) = sym (ap length good-all ∙ each-length f w.each) in
             let front : take (length (good_of f (marked_rows s t))) (marked_rows s t) ≡ before =
             ap (take (length (good_of f (marked_rows s t)))) (row-rest s t j b c q) ∙ take_at before (row_at 52 t j ∷ rest s t j b c) (length (good_of f (marked_rows s t))) n in
             (rw all, (w.ids ∙ ap (λ (l : List (List ℕ)). over cut₀ 0 (map (word 0) l)) (sym front), w.values ∙ ap (over stations₀ 0) (sym good-all)))
 
-  pub turn-ends : word 0 t ≤ j → (L.Of m ≡ stations_told (all_of f (marked_rows s t)))
+  pub turn-ends : word 0 t ≤ j → (Ok m ≡ stations_told (all_of f (marked_rows s t)))
       × ((cut ≡ over cut₀ 0 (map (word 0) (take (length (good_of f (marked_rows s t))) (marked_rows s t)))) × (stations ≡ over stations₀ 0 (good_of f (marked_rows s t))))
   turn-ends h =
       let here : first_rows s t j ≡ marked_rows s t = every_row s t j h in
       let n : length (marked_rows s t) ≤ length (good_of f (marked_rows s t)) = rw (← here) (omega (arith, each-length f w.each)) in
       let front : take (length (good_of f (marked_rows s t))) (marked_rows s t) ≡ before = take_all (length (good_of f (marked_rows s t))) (marked_rows s t) n ∙ sym here in
-      let all : all_of f (marked_rows s t) ≡ yield (good_of f before) = sym (ap (all_of f) here) ∙ each_all f w.each in
+      let all : all_of f (marked_rows s t) ≡ Ok (good_of f before) = sym (ap (all_of f) here) ∙ each_all f w.each in
       (rw (all, good_length), (w.ids ∙ ap (λ (l : List (List ℕ)). over cut₀ 0 (map (word 0) l)) (sym front), w.values ∙ ap (λ (l : List (List ℕ)). over stations₀ 0 (good_of f l)) here))
 
 -- ---- crossings
 
-pub cross-begins : (f : List ℕ → Res Passed) (s : List Bool) (t : List ℕ) → all_pass f (first_rows s t 0) ≡ yield passed
+pub cross-begins : (f : List ℕ → Res Passed) (s : List Bool) (t : List ℕ) → all_pass f (first_rows s t 0) ≡ Ok passed
 unfolding all_pass
 cross-begins f s t = rw (no_rows s t)
 
-module _ (f : List ℕ → Res Passed) (s : List Bool) (t : List ℕ) (j : ℕ) (v : all_pass f (first_rows s t j) ≡ yield passed) where
+module _ (f : List ℕ → Res Passed) (s : List Bool) (t : List ℕ) (j : ℕ) (v : all_pass f (first_rows s t j) ≡ Ok passed) where
   module _ (b : j < word 0 t) (c : word 0 t ≤ length s) where
-    pub cross-none : get_or s j false ≡ false → all_pass f (first_rows s t (j + 1)) ≡ yield passed
+    pub cross-none : get_or s j false ≡ false → all_pass f (first_rows s t (j + 1)) ≡ Ok passed
     cross-none q = rw (row-none s t j b c q) v
 
-    pub cross-one : get_or s j false ≡ true → X.All ≡ cross_told (f (row_at 52 t j)) → all_pass f (first_rows s t (j + 1)) ≡ yield passed
+    pub cross-one : get_or s j false ≡ true → (Ok passed) ≡ f (row_at 52 t j) → all_pass f (first_rows s t (j + 1)) ≡ Ok passed
     unfolding all_pass
     cross-one q g = ap (all_pass f) (row_more s t j b c q) ∙ pass-more f (first_rows s t j) (row_at 52 t j ∷ []) v ∙ rw (passed-told (f (row_at 52 t j)) g)
 
-    pub cross-stops : get_or s j false ≡ true → (r : Refusal) → X.Refused r ≡ cross_told (f (row_at 52 t j)) → X.Refused r ≡ cross_told (all_pass f (marked_rows s t))
+    pub cross-stops : get_or s j false ≡ true → (r : Refusal) → Err r ≡ f (row_at 52 t j) → Err r ≡ all_pass f (marked_rows s t)
     cross-stops q r g =
         let e : all_pass f (marked_rows s t) ≡ (f (row_at 52 t j) >>= λ _. all_pass f (rest s t j b c)) =
         ap (all_pass f) (row-rest s t j b c q) ∙ pass-more f (first_rows s t j) (row_at 52 t j ∷ rest s t j b c) v ∙ pass-first f (row_at 52 t j) (rest s t j b c) in
         rw (e, uncrossed_told (f (row_at 52 t j)) r g)
 
-  pub cross-ends : word 0 t ≤ j → X.All ≡ cross_told (all_pass f (marked_rows s t))
-  cross-ends h = let e : all_pass f (marked_rows s t) ≡ yield passed = sym (ap (all_pass f) (every_row s t j h)) ∙ v in rw e
+  pub cross-ends : word 0 t ≤ j → (Ok passed) ≡ all_pass f (marked_rows s t)
+  cross-ends h = let e : all_pass f (marked_rows s t) ≡ Ok passed = sym (ap (all_pass f) (every_row s t j h)) ∙ v in rw e

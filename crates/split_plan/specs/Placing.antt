@@ -1,28 +1,19 @@
 -- What split_lane decides of lanes before it writes: the cut, each lane's station, and whether each boundary crosses it, by rows. Nothing that a host calls rests
 -- on this page; the laws of split_laws tie it to the rules.
-use Rattle.std.specs.Prelude.{ℕ, Bool, cond, List, [], ◌∷◌, map, eqb, Float, length, take}
-use Rattle.std.proofs.Math.Option.{Option}
+use Rattle.std.specs.Prelude.{ℕ, Bool, cond, List, [], ◌∷◌, map, eqb, Float, length, take, Option, Err, Ok}
 use Rattle.lists.specs.Rows.{over}
 use Rattle.lists.specs.Select.{has}
 use Rattle.polyline.specs.Polyline.{flat, line_length, point_at, first_piece, second_piece}
 use Rattle.entities.specs.Records.{Line, Lane}
 use Rattle.rules.specs.Names.{SplitAt, NoUsableLine, PositionOutside, Point2}
 use Rattle.rules.specs.Map.{boundary, centerline, station, flat_point}
-use Rattle.rules.specs.Edit.{Res, refuse, yield, ◌>>=◌, Passed, passed, check, require}
+use Rattle.rules.specs.Edit.{Res, ◌>>=◌, Passed, passed, check, require}
 use Rattle.rules.specs.Split.{LanePlan, center_piece, cut_station, cuttable, crosses, group_of}
 use Rattle.tables.specs.View.{word, rows, lane_of}
 use Rattle.tables.specs.Columns.{lane_left, lane_right, lane_words, row_id}
 use Rattle.group.specs.Walk.{lane_map, ids_of}
 use Rattle.lookup.specs.Lookup.{row_at, drawn, center_line, points_or}
 use Rattle.split_plan.specs.declared.Cut.{Cut}
-use Rattle.split_plan.specs.declared.Placed.{Placed}
-use Rattle.split_plan.specs.declared.Placed.TheVariants as P
-use Rattle.split_plan.specs.declared.Stationed.{Stationed}
-use Rattle.split_plan.specs.declared.Stationed.TheVariants as S
-use Rattle.split_plan.specs.declared.Stations.{Stations}
-use Rattle.split_plan.specs.declared.Stations.TheVariants as L
-use Rattle.split_plan.specs.declared.Crossed.{Crossed}
-use Rattle.split_plan.specs.declared.Crossed.TheVariants as X
 
 -- ---- where to cut
 
@@ -31,7 +22,7 @@ abbrev pub cutting : Float → ℕ → Line → Float → Res Cut
 cutting piece i c s = do
   ok ← check (cuttable piece c s) (PositionOutside i)
   p ← require (flat_point (point_at c s)) (NoUsableLine i)
-  yield (record { station = s; point = p })
+  Ok (record { station = s; point = p })
 
 -- the lane's own line, the fraction, the position
 abbrev pub placing : Float → ℕ → SplitAt → Option Line → Res Cut
@@ -40,13 +31,9 @@ placing piece i at o = do
   s ← cut_station at (line_length c)
   cutting piece i c s
 
-abbrev pub place_told : Res Cut → Placed
-place_told (refuse r) = P.Refused r
-place_told (yield k) = P.At k
-
 -- of the lane in row i
-abbrev pub placed : Float → List Float → List ℕ → List ℕ → ℕ → SplitAt → Placed
-placed piece c lanes boundaries i at = place_told (placing piece (word row_id (row_at lane_words lanes i)) at (center_line c lanes boundaries i))
+abbrev pub placed : Float → List Float → List ℕ → List ℕ → ℕ → SplitAt → Res Cut
+placed piece c lanes boundaries i at = (placing piece (word row_id (row_at lane_words lanes i)) at (center_line c lanes boundaries i))
 
 -- an array of work with a line at its front, where there is one
 abbrev pub line_over : List Float → Option Line → List Float
@@ -62,11 +49,7 @@ stationing piece own i k o = do
   let s = cond (eqb i own) k.station near in
       do
         ok ← check (cuttable piece c s) (PositionOutside i)
-        yield s
-
-abbrev pub station_told : Res Float → Stationed
-station_told (refuse r) = S.Refused r
-station_told (yield s) = S.At s
+        Ok s
 
 -- of a lane's row
 abbrev pub row_station : Float → List Float → List ℕ → ℕ → Cut → List ℕ → Res Float
@@ -86,26 +69,26 @@ group_marks lanes i neighbors = map (λ k. has k (group_of (lane_map lanes) (wor
 
 -- the first refusal, or all values
 unfoldable pub all_of : {A : Type 0} → (A → Res Float) → List A → Res (List Float)
-all_of f [] = yield []
+all_of f [] = Ok []
 all_of f (x ∷ xs) =
     let rest = all_of f xs in
     (do
       y ← f x
       ys ← rest
-      yield (y ∷ ys))
+      Ok (y ∷ ys))
 
 -- the values before the first refusal
 abbrev pub before : Res Float → List Float → List Float
-before (refuse r) ys = []
-before (yield y) ys = y ∷ ys
+before (Err r) ys = []
+before (Ok y) ys = y ∷ ys
 
 unfoldable pub good_of : {A : Type 0} → (A → Res Float) → List A → List Float
 good_of f [] = []
 good_of f (x ∷ xs) = let rest = good_of f xs in before (f x) rest
 
-abbrev pub stations_told : Res (List Float) → Stations
-stations_told (refuse r) = L.Refused r
-stations_told (yield ss) = L.Of (length ss)
+abbrev pub stations_told : Res (List Float) → Res ℕ
+stations_told (Err r) = Err r
+stations_told (Ok ss) = Ok (length ss)
 
 -- the rows of the lanes that are marked
 abbrev pub marked_rows : List Bool → List ℕ → List (List ℕ)
@@ -141,13 +124,9 @@ row_crosses c boundaries p w = do
   id_crosses c boundaries p (word lane_right w)
 
 unfoldable pub all_pass : {A : Type 0} → (A → Res Passed) → List A → Res Passed
-all_pass f [] = yield passed
+all_pass f [] = Ok passed
 all_pass f (x ∷ xs) =
     let rest = all_pass f xs in
     (do
       ok ← f x
       rest)
-
-abbrev pub cross_told : Res Passed → Crossed
-cross_told (refuse r) = X.Refused r
-cross_told (yield ok) = X.All

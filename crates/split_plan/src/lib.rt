@@ -1,8 +1,7 @@
 // edit/split.rs: where a lane is cut. Refusals come in the order of the Rust; nothing lent is written.
 #![tactic(auto)]
 
-ghost use Rattle.std.specs.Prelude.{◌≡◌, ◌+◌, ◌*◌, ◌≤◌, ◌<◌, length};
-ghost use Rattle.std.proofs.Math.Option.{some};
+ghost use Rattle.std.specs.Prelude.{◌≡◌, ◌+◌, ◌*◌, ◌≤◌, ◌<◌, length, Some};
 ghost use Rattle.polyline.specs.Polyline.{points};
 ghost use Rattle.rules.specs.Split as D;
 ghost use Rattle.tables.specs.View.{word};
@@ -12,8 +11,6 @@ ghost use Rattle.split_plan.specs.Placing as P;
 use entities::{Refusal, SplitAt};
 use geometry::Point2;
 use lists::both;
-use lookup::OptionCount;
-use polyline::OptionPoint3;
 use tables::{LANE, POINT};
 
 // Floats in the longest line, of 256 points.
@@ -26,31 +23,6 @@ pub struct Cut {
     pub point: Point2,
 }
 
-#[derive(Clone, Copy)]
-pub enum Placed {
-    Refused(Refusal),
-    At(Cut),
-}
-
-#[derive(Clone, Copy)]
-pub enum Stationed {
-    Refused(Refusal),
-    At(f64),
-}
-
-// How many lanes have a station, or the first refusal.
-#[derive(Clone, Copy)]
-pub enum Stations {
-    Refused(Refusal),
-    Of(usize),
-}
-
-#[derive(Clone, Copy)]
-pub enum Crossed {
-    Refused(Refusal),
-    All,
-}
-
 // ---- where to cut
 
 // Whether more than a margin of a line lies on either side of a station.
@@ -61,31 +33,31 @@ pub fn cuttable(margin: f64, line: &[f64], station: f64) -> bool
 }
 
 // The cut at a station of the lane's line.
-fn cut_at(piece: f64, lane: u64, line: &[f64], station: f64) -> Placed
-    ensures { result ≡ P.place_told (P.cutting piece lane (points line.now) station) }
+fn cut_at(piece: f64, lane: u64, line: &[f64], station: f64) -> Result<Cut, Refusal>
+    ensures { result ≡ P.cutting piece lane (points line.now) station }
 {
     if !cuttable(piece, line, station) {
-        return Placed::Refused(Refusal::PositionOutside(lane));
+        return Err(Refusal::PositionOutside(lane));
     }
     let found = polyline::point_at(line, station);
-    let OptionPoint3::Some(p) = found else {
-        return Placed::Refused(Refusal::NoUsableLine(lane));
+    let Some(p) = found else {
+        return Err(Refusal::NoUsableLine(lane));
     };
-    Placed::At(Cut {
+    Ok(Cut {
         station,
         point: p.xy(),
     })
 }
 
-fn place_on(piece: f64, lane: u64, line: &[f64], at: SplitAt) -> Placed
-    ensures { result ≡ P.place_told (P.placing piece lane at (some (points line.now))) }
+fn place_on(piece: f64, lane: u64, line: &[f64], at: SplitAt) -> Result<Cut, Refusal>
+    ensures { result ≡ P.placing piece lane at (Some (points line.now)) }
 {
     match at {
         SplitAt::Fraction(f) => {
             if both(0.0 < f, f < 1.0) {
                 return cut_at(piece, lane, line, f * polyline::length(line));
             }
-            Placed::Refused(Refusal::FractionOutside)
+            Err(Refusal::FractionOutside)
         }
         SplitAt::Station(s) => cut_at(piece, lane, line, s),
     }
@@ -100,14 +72,14 @@ fn place_in(
     coordinates: &[f64],
     at: SplitAt,
     line: &mut [f64],
-) -> Placed
+) -> Result<Cut, Refusal>
     requires { (K.Drawable lanes.now boundaries.now coordinates.now) × ((i < word 0 lanes.now) × (768 ≤ length line.old)) }
     ensures { (result ≡ P.placed piece coordinates.now lanes.now boundaries.now i at) × (line.new ≡ P.line_over line.old (K.center_line coordinates.now lanes.now boundaries.now i)) }
 {
     let lane = lanes[1 + i * LANE];
     let found = lane_lines::centerline(lanes, i, boundaries, coordinates, line);
-    let OptionCount::Some(n) = found else {
-        return Placed::Refused(Refusal::NoUsableLine(lane));
+    let Some(n) = found else {
+        return Err(Refusal::NoUsableLine(lane));
     };
     let end = n * POINT;
     place_on(piece, lane, &line[..end], at)
@@ -120,7 +92,7 @@ pub fn place_cut(
     boundaries: &[u64],
     coordinates: &[f64],
     at: SplitAt,
-) -> Placed
+) -> Result<Cut, Refusal>
     requires { (K.Drawable lanes.now boundaries.now coordinates.now) × (i < word 0 lanes.now) }
     ensures { result ≡ P.placed piece coordinates.now lanes.now boundaries.now i at }
 {

@@ -30,8 +30,7 @@ pub fn pieces_fit(lines: &[u64], n: usize) -> bool
     requires { n * 3 ≤ length lines.now }
     ensures { result ≡ D.pieces_fit lines.now 0 n }
 {
-    let mut j = 0;
-    while j < n {
+    for j in 0..n {
         let at = j * PIECE;
         if !both(
             lines[at + 1] <= MAX_LINE_POINTS,
@@ -39,7 +38,6 @@ pub fn pieces_fit(lines: &[u64], n: usize) -> bool
         ) {
             return false;
         }
-        j += 1;
     }
     true
 }
@@ -52,8 +50,7 @@ fn boundary_points(boundaries: &[u64], marks: &[bool], pieces: &[u64], lines: &[
     let n = boundaries[0] as usize;
     let mut points = 0;
     let mut j = 0;
-    let mut i = 0;
-    while i < n {
+    for i in 0..n {
         let size = boundaries[1 + i * BOUNDARY + BOUNDARY_SIZE] as usize;
         if marks[i] {
             let at = j * PIECE;
@@ -65,7 +62,6 @@ fn boundary_points(boundaries: &[u64], marks: &[bool], pieces: &[u64], lines: &[
         } else {
             points += size;
         }
-        i += 1;
     }
     points
 }
@@ -90,8 +86,7 @@ fn lane_points(lanes: &[u64], seen: &[bool], centers: &[u64]) -> usize
     let n = lanes[0] as usize;
     let mut points = 0;
     let mut r = 0;
-    let mut i = 0;
-    while i < n {
+    for i in 0..n {
         if seen[i] {
             let at = r * PIECE;
             points += centers[at + 1] as usize + centers[at + 2] as usize;
@@ -99,7 +94,6 @@ fn lane_points(lanes: &[u64], seen: &[bool], centers: &[u64]) -> usize
         } else {
             points += center_points(lanes, i);
         }
-        i += 1;
     }
     points
 }
@@ -145,12 +139,10 @@ pub fn lists_fit(t: &[u64], s: usize, k: usize, cut: &[u64]) -> bool
     ensures { result ≡ all_rows s (D.list_fits cut.now k) t.now }
 {
     let n = t[0] as usize;
-    let mut i = 0;
-    while i < n {
+    for i in 0..n {
         if !list_fits(t, 1 + i * s + k, cut) {
             return false;
         }
-        i += 1;
     }
     true
 }
@@ -161,12 +153,10 @@ fn count_named(ids: &[u64], cut: &[u64]) -> usize
     ensures { (result ≡ D.named_of cut.now ids.now) × (result ≤ 1024) }
 {
     let mut count = 0;
-    let mut r = 0;
-    while r < cut.len() {
+    for r in 0..cut.len() {
         if lists::contains(ids, cut[r]) {
             count += 1;
         }
-        r += 1;
     }
     count
 }
@@ -207,14 +197,12 @@ pub fn rules_fit(rules: &[u64], anchored: &[bool], cut: &[u64]) -> bool
     ensures { result ≡ D.rules_fit anchored.now cut.now 0 (rows 330 (λ w. w) rules.now) }
 {
     let n = rules[0] as usize;
-    let mut i = 0;
-    while i < n {
+    for i in 0..n {
         let at = 1 + i * RULE;
         let end = at + RULE;
         if !rule_fits(&rules[at..end], anchored[i], cut) {
             return false;
         }
-        i += 1;
     }
     true
 }

@@ -1,4 +1,5 @@
 -- Predecessors of a lane after a split: a cut lane's second half in its place, behind those that stay. Assumes nothing.
+use Rattle.std.specs.Prelude.{Option, None, Some}
 use mathlib.Core.Path.{◌≡◌, refl, sym, ap, ◌∙◌}
 use Prim.Native.Nat.{ℕ, suc, ◌+◌, ◌≤◌, ◌<◌}
 use native.Mathlib.Omega.{arith}
@@ -8,8 +9,6 @@ use lib.Dec.{eqb, ltb}
 use lib.ListN.{length, get_or, set, take, drop, length-append}
 use lib.Seq.{length-take-le, take_all, get_or-take, get_or-drop}
 use borrow.Author.Tests.{eqb-true, ltb-true}
-use Rattle.lists.specs.declared.Found.{Found}
-use Rattle.lists.specs.declared.Found.TheVariants.{At, Nothing}
 use Rattle.lists.specs.Rows.{over, keys, later, row_with}
 use Rattle.lists.specs.Select.{keep, each, has, above, ascending, numbered}
 use Rattle.lists.proofs.Rows.{there, found-has, one_found, length_over, take-over, over-over, over-kept, over-nil, store-behind, get_d_over-behind}
@@ -24,9 +23,9 @@ use Rattle.split_rows.specs.Halves.{Cuts, RowCame, came_row}
 -- ---- second halves in the order of the ids
 
 -- the second half of a lane that was found among the cut ones
-abbrev number_in : ℕ → Found → List ℕ
-number_in next (At r) = (next + r) ∷ []
-number_in next Nothing = []
+abbrev number_in : ℕ → Option ℕ → List ℕ
+number_in next (Some r) = (next + r) ∷ []
+number_in next None = []
 
 -- the second halves of the cut ones among ids, in the ids' order
 unfoldable pub seconds_of : ℕ → List ℕ → List ℕ → List ℕ
@@ -36,9 +35,9 @@ seconds_of next cut ids = each (λ i. number_in next (row_with i cut)) ids
 unfoldable pub uncut_of : List ℕ → List ℕ → List ℕ
 uncut_of cut ids = keep (λ i. not (has i cut)) ids
 
-number-later : (next : ℕ) (r : Found) → number_in next (later r) ≡ number_in (suc next) r
-number-later next (At r) = let e : next + suc r ≡ suc next + r = omega arith in ap (λ n. n ∷ []) e
-number-later next Nothing = refl
+number-later : (next : ℕ) (r : Option ℕ) → number_in next (later r) ≡ number_in (suc next) r
+number-later next (Some r) = let e : next + suc r ≡ suc next + r = omega arith in ap (λ n. n ∷ []) e
+number-later next None = refl
 
 lacks : (c i : ℕ) (ys : List ℕ) → above c ys ≡ true → i ≤ c → has i ys ≡ false
 lacks c i ys a l = go (has i ys) refl
@@ -47,12 +46,12 @@ lacks c i ys a l = go (has i ys) refl
     go true h = let g = ltb-true c i (all-has (ltb c) i ys (above-all c ys a) h) in absurd (omega arith)
     go false h = refl
 
-not_found : (i : ℕ) (ks : List ℕ) → has i ks ≡ false → row_with i ks ≡ Nothing
+not_found : (i : ℕ) (ks : List ℕ) → has i ks ≡ false → row_with i ks ≡ None
 not_found i ks h = go (row_with i ks) (sym (found-has i ks) ∙ h)
   where
-    go : (r : Found) → there r ≡ false → r ≡ Nothing
-    go (At j) e = absurd (true≢false e)
-    go Nothing e = refl
+    go : (r : Option ℕ) → there r ≡ false → r ≡ None
+    go (Some j) e = absurd (true≢false e)
+    go None e = refl
 
 module _ (c : ℕ) (cut : List ℕ) (up : above c cut ≡ true) (next : ℕ) where
   -- the smallest cut lane's second half comes first
@@ -64,17 +63,17 @@ module _ (c : ℕ) (cut : List ℕ) (up : above c cut ≡ true) (next : ℕ) whe
     where
       go : seconds_of next (c ∷ cut) ids ≡ cond (has c ids) (next ∷ seconds_of (suc next) cut ids) (seconds_of (suc next) cut ids)
           → (b : Bool) → eqb c i ≡ b → (h : Bool) → has c ids ≡ h
-          → (number_in next (cond b (At 0) (later (row_with i cut))) ++ seconds_of next (c ∷ cut) ids)
+          → (number_in next (cond b (Some 0) (later (row_with i cut))) ++ seconds_of next (c ∷ cut) ids)
           ≡ cond (b || h) (next ∷ (number_in (suc next) (row_with i cut) ++ seconds_of (suc next) cut ids)) (number_in (suc next) (row_with i cut) ++ seconds_of (suc next) cut ids)
       go rest true e h g =
           let z : i ≡ c = sym (eqb-true c i e) in
-          let n : row_with i cut ≡ Nothing = not_found i cut (lacks c i cut up (omega arith)) in
+          let n : row_with i cut ≡ None = not_found i cut (lacks c i cut up (omega arith)) in
           let a : has c ids ≡ false = lacks i c ids u (omega arith) in
           let o : next + 0 ≡ next = omega arith in
           rw (n, o, rest, a)
       go rest false e true g =
           let l : i < c = ltb-true i c (all-has (ltb i) c ids (above-all i ids u) g) in
-          let n : row_with i cut ≡ Nothing = not_found i cut (lacks c i cut up (omega arith)) in
+          let n : row_with i cut ≡ None = not_found i cut (lacks c i cut up (omega arith)) in
           rw (n, rest, g)
       go rest false e false g = rw (number-later next (row_with i cut), rest, g)
 
@@ -109,9 +108,9 @@ came-many next cut [] = refl
 came-many next cut (i ∷ ids) = go (came-many next cut ids) (row_with i cut) (has i cut) (found-has i cut)
   where
     go : length (uncut_of cut ids) + length (seconds_of next cut ids) ≡ length ids
-        → (r : Found) (b : Bool) → b ≡ there r → length (cond (not b) (i ∷ uncut_of cut ids) (uncut_of cut ids)) + length (number_in next r ++ seconds_of next cut ids) ≡ suc (length ids)
-    go less (At r) b e = rw e (omega (arith, less))
-    go less Nothing b e = rw e (omega (arith, less))
+        → (r : Option ℕ) (b : Bool) → b ≡ there r → length (cond (not b) (i ∷ uncut_of cut ids) (uncut_of cut ids)) + length (number_in next r ++ seconds_of next cut ids) ≡ suc (length ids)
+    go less (Some r) b e = rw e (omega (arith, less))
+    go less None b e = rw e (omega (arith, less))
 
 -- ---- one turn of the loop
 
@@ -160,7 +159,7 @@ module _ (cut : List ℕ) (next : ℕ) (w s : List ℕ) (f : Cuts next cut) (r :
           ∙ (get_d_over-behind w 19 (uncut_of cut (take i ids)) (19 + i) 0 (omega (arith, c.kept, coming-all)) (omega (arith, c.kept, coming-all, few, r.words))
           ∙ (sym (get_or-drop 19 w i 0) ∙ sym (get_or-take (word 18 w) (drop 19 w) i 0 l)))
 
-      module _ (q : Found) (e : q ≡ row_with (word (19 + i) row) (keys 1 (length cut) cut)) where
+      module _ (q : Option ℕ) (e : q ≡ row_with (word (19 + i) row) (keys 1 (length cut) cut)) where
         place : row_with (get_or ids i 0) cut ≡ q
         place = ap (λ j. row_with j cut) (sym read) ∙ one_found (word (19 + i) row) cut q e
 
@@ -177,7 +176,7 @@ module _ (cut : List ℕ) (next : ℕ) (w s : List ℕ) (f : Cuts next cut) (r :
             keep-more (λ j. not (has j cut)) ids i 0 short
             ∙ ap (λ z. uncut_of cut (take i ids) ++ cond (not z) (get_or ids i 0 ∷ []) []) is_cut
 
-        turn-cut : (x : ℕ) → q ≡ At x → Coming cut next w s row (set seconds came (next + x)) left (came + 1) (i + 1)
+        turn-cut : (x : ℕ) → q ≡ Some x → Coming cut next w s row (set seconds came (next + x)) left (came + 1) (i + 1)
         turn-cut x t =
             let a : uncut_of cut (take (i + 1) ids) ≡ uncut_of cut (take i ids) = uncut-more ∙ (ap (λ z. uncut_of cut (take i ids) ++ cond (not (there z)) (get_or ids i 0 ∷ []) []) t ∙ append-nil (uncut_of cut (take i ids))) in
             let b : seconds_of next cut (take (i + 1) ids) ≡ seconds_of next cut (take i ids) ++ ((next + x) ∷ []) = seconds-more ∙ ap (λ z. seconds_of next cut (take i ids) ++ number_in next z) t in
@@ -189,7 +188,7 @@ module _ (cut : List ℕ) (next : ℕ) (w s : List ℕ) (f : Cuts next cut) (r :
               found = rw b (ap (λ z. set z came (next + x)) c.found ∙ store-behind s 0 came (seconds_of next cut (take i ids)) (next + x) (omega (arith, c.gone)) (omega (arith, coming-all, few)));
             }
 
-        turn-stays : q ≡ Nothing → Coming cut next w s (set row (19 + left) (word (19 + i) row)) seconds (left + 1) came (i + 1)
+        turn-stays : q ≡ None → Coming cut next w s (set row (19 + left) (word (19 + i) row)) seconds (left + 1) came (i + 1)
         turn-stays t =
             let a : uncut_of cut (take (i + 1) ids) ≡ uncut_of cut (take i ids) ++ (word (19 + i) row ∷ []) =
             uncut-more ∙ (ap (λ z. uncut_of cut (take i ids) ++ cond (not (there z)) (get_or ids i 0 ∷ []) []) t ∙ ap (λ z. uncut_of cut (take i ids) ++ (z ∷ [])) (sym read)) in
@@ -206,10 +205,10 @@ module _ (cut : List ℕ) (next : ℕ) (w s : List ℕ) (f : Cuts next cut) (r :
             }
 
         module _ (u v : List ℕ) (m n : ℕ) where
-          pub coming-cut : (x : ℕ) → q ≡ At x → u ≡ row → v ≡ set seconds came (next + x) → m ≡ left → n ≡ came + 1 → Coming cut next w s u v m n (i + 1)
+          pub coming-cut : (x : ℕ) → q ≡ Some x → u ≡ row → v ≡ set seconds came (next + x) → m ≡ left → n ≡ came + 1 → Coming cut next w s u v m n (i + 1)
           coming-cut x t a b d g = rw (a, b, d, g) (turn-cut x t)
 
-          pub coming-stays : q ≡ Nothing → u ≡ set row (19 + left) (word (19 + i) row) → v ≡ seconds → m ≡ left + 1 → n ≡ came → Coming cut next w s u v m n (i + 1)
+          pub coming-stays : q ≡ None → u ≡ set row (19 + left) (word (19 + i) row) → v ≡ seconds → m ≡ left + 1 → n ≡ came → Coming cut next w s u v m n (i + 1)
           coming-stays t a b d g = rw (a, b, d, g) (turn-stays t)
 
     -- the second halves behind those that stay: the list is as long as it was, so its count stays

@@ -1,12 +1,11 @@
 -- Which piece of a cut boundary a half takes. Assumes nothing.
+use Rattle.std.specs.Prelude.{Option, None, Some}
 use mathlib.Core.Path.{◌≡◌, refl, sym, ap, ◌∙◌}
 use Prim.Native.Nat.{ℕ, ◌+◌, ◌*◌, ◌≤◌}
 use native.Mathlib.Omega.{arith}
 use mathlib.Core.Bool.{Bool, true, false, beq, true≢false}
 use mathlib.Core.List.{List}
 use lib.ListN.{length}
-use Rattle.lists.specs.declared.Found.{Found}
-use Rattle.lists.specs.declared.Found.TheVariants.{At, Nothing}
 use Rattle.lists.specs.Rows.{keys, row_with}
 use Rattle.lists.proofs.Rows.{length-keys, found_within}
 use Rattle.tables.specs.View.{word}
@@ -24,12 +23,12 @@ piece-second true false e = (refl, omega arith)
 piece-second false true e = (refl, omega arith)
 piece-second false false e = absurd (true≢false e)
 
-module _ (pieces : List ℕ) (m b : ℕ) (second reversed : Bool) (room : m * 3 ≤ length pieces) (f : Found) (e : f ≡ row_with b (keys 3 m pieces)) where
-  pub piece-room : (x : ℕ) → f ≡ At x → x * 3 + 3 ≤ length pieces
+module _ (pieces : List ℕ) (m b : ℕ) (second reversed : Bool) (room : m * 3 ≤ length pieces) (f : Option ℕ) (e : f ≡ row_with b (keys 3 m pieces)) where
+  pub piece-room : (x : ℕ) → f ≡ Some x → x * 3 + 3 ≤ length pieces
   piece-room x t = omega (arith, found_within b (keys 3 m pieces) x (sym e ∙ t), length-keys 3 m pieces)
 
-  pub piece-taken : (x k : ℕ) → f ≡ At x → k ≡ piece_word second reversed → word (x * 3 + k) pieces ≡ half_ref pieces m second b reversed
+  pub piece-taken : (x k : ℕ) → f ≡ Some x → k ≡ piece_word second reversed → word (x * 3 + k) pieces ≡ half_ref pieces m second b reversed
   piece-taken x k t q = ap (λ j. word (x * 3 + j) pieces) q ∙ sym (ap (piece_found pieces (piece_word second reversed) b) (sym e ∙ t))
 
-  pub piece-whole : f ≡ Nothing → b ≡ half_ref pieces m second b reversed
+  pub piece-whole : f ≡ None → b ≡ half_ref pieces m second b reversed
   piece-whole t = sym (ap (piece_found pieces (piece_word second reversed) b) (sym e ∙ t))

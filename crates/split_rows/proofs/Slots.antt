@@ -1,16 +1,14 @@
 -- The neighbours of a half, in words: the second half of a cut lane is found by the lane's place among the cut ones. Assumes nothing.
+use Rattle.std.specs.Prelude.{Option, None, Some}
 use mathlib.Core.Path.{◌≡◌, refl, sym, ap, ◌∙◌}
 use Prim.Native.Nat.{ℕ, zero, suc, ◌+◌, ◌*◌, ◌^◌, ◌≤◌, ◌<◌}
 use native.Mathlib.Omega.{arith}
 use mathlib.Core.Bool.{true, false}
 use mathlib.Core.List.{List, [], ◌∷◌}
-use mathlib.Core.Option.{Option, none, some}
 use lib.Dec.{eqb}
 use lib.ListN.{length, get_or, set}
 use lib.Seq.{set-get_or, set-set}
 use borrow.Author.Tests.{eq-eqb, ne_eqb}
-use Rattle.lists.specs.declared.Found.{Found}
-use Rattle.lists.specs.declared.Found.TheVariants.{At, Nothing}
 use Rattle.lists.specs.Rows.{over, keys, row_with}
 use Rattle.lists.specs.Select.{ascending, numbered, second_of}
 use Rattle.lists.proofs.Rows.{keys-one, one_found, found_within, store_at, store-behind, over-kept}
@@ -29,7 +27,7 @@ module _ (cut : List ℕ) (next : ℕ) (f : Cuts next cut) where
   cut-asks = (omega arith, (omega arith, rw (keys-one cut) f.ascend))
 
   -- its second half's id is there
-  pub second_fits : (i : ℕ) (r : Found) → r ≡ row_with i (keys 1 (length cut) cut) → (k : ℕ) → r ≡ At k → next + k < 2 ^ 64
+  pub second_fits : (i : ℕ) (r : Option ℕ) → r ≡ row_with i (keys 1 (length cut) cut) → (k : ℕ) → r ≡ Some k → next + k < 2 ^ 64
   second_fits i r e k t = omega (arith, found_within i cut k (one_found i cut r e ∙ t), f.ids)
 
 -- ---- a slot that stays
@@ -50,15 +48,15 @@ module _ (w : List ℕ) (k : ℕ) (h : k + 2 ≤ length w) where
 
 -- what a slot reads as
 module _ (w : List ℕ) (k : ℕ) where
-  reads_none : word k w ≡ 0 → slot_at k w ≡ none
+  reads_none : word k w ≡ 0 → slot_at k w ≡ None
   reads_none z = rw (eq-eqb (word k w) 0 z)
 
-  reads_same : word k w ≡ 1 → slot_at k w ≡ some (same (word (suc k) w))
+  reads_same : word k w ≡ 1 → slot_at k w ≡ Some (same (word (suc k) w))
   reads_same z =
       let a : eqb (word k w) 0 ≡ false = ne_eqb (word k w) 0 (λ e. omega arith) in
       rw (a, eq-eqb (word k w) 1 z)
 
-  reads-opposite : word k w ≡ 2 → slot_at k w ≡ some (opposing (word (suc k) w))
+  reads-opposite : word k w ≡ 2 → slot_at k w ≡ Some (opposing (word (suc k) w))
   reads-opposite z =
       let a : eqb (word k w) 0 ≡ false = ne_eqb (word k w) 0 (λ e. omega arith) in
       let b : eqb (word k w) 1 ≡ false = ne_eqb (word k w) 1 (λ e. omega arith) in
@@ -70,33 +68,33 @@ module _ (cut : List ℕ) (next : ℕ) (i : ℕ) where
   abbrev hs : List (ℕ × ℕ)
   hs = numbered next cut
 
-  number : (r : Found) → row_with i cut ≡ r → second_of hs i ≡ number_at next r
+  number : (r : Option ℕ) → row_with i cut ≡ r → second_of hs i ≡ number_at next r
   number r e = second-numbered next i cut ∙ ap (number_at next) e
 
-  first-same : first_slot hs (some (same i)) ≡ some (same i)
+  first-same : first_slot hs (Some (same i)) ≡ Some (same i)
   first-same = go (second_of hs i)
     where
-      go : (o : Option ℕ) → elim o as (λ _. Option Neighbor) [ none ↦ some (same i) | some j ↦ some (same i) ] ≡ some (same i)
-      go none = refl
-      go (some j) = refl
+      go : (o : Option ℕ) → elim o as (λ _. Option Neighbor) [ None ↦ Some (same i) | Some j ↦ Some (same i) ] ≡ Some (same i)
+      go None = refl
+      go (Some j) = refl
 
-  first-cut : (k : ℕ) → row_with i cut ≡ At k → first_slot hs (some (opposing i)) ≡ some (opposing (next + k))
-  first-cut k t = ap (λ o. elim o as (λ _. Option Neighbor) [ none ↦ some (opposing i) | some j ↦ some (opposing j) ]) (number (At k) t)
+  first-cut : (k : ℕ) → row_with i cut ≡ Some k → first_slot hs (Some (opposing i)) ≡ Some (opposing (next + k))
+  first-cut k t = ap (λ o. elim o as (λ _. Option Neighbor) [ None ↦ Some (opposing i) | Some j ↦ Some (opposing j) ]) (number (Some k) t)
 
-  first-uncut : row_with i cut ≡ Nothing → first_slot hs (some (opposing i)) ≡ some (opposing i)
-  first-uncut t = ap (λ o. elim o as (λ _. Option Neighbor) [ none ↦ some (opposing i) | some j ↦ some (opposing j) ]) (number Nothing t)
+  first-uncut : row_with i cut ≡ None → first_slot hs (Some (opposing i)) ≡ Some (opposing i)
+  first-uncut t = ap (λ o. elim o as (λ _. Option Neighbor) [ None ↦ Some (opposing i) | Some j ↦ Some (opposing j) ]) (number None t)
 
-  second-same : (k : ℕ) → row_with i cut ≡ At k → second_slot hs (some (same i)) ≡ some (same (next + k))
-  second-same k t = ap (λ o. elim o as (λ _. Option Neighbor) [ none ↦ none | some j ↦ some (same j) ]) (number (At k) t)
+  second-same : (k : ℕ) → row_with i cut ≡ Some k → second_slot hs (Some (same i)) ≡ Some (same (next + k))
+  second-same k t = ap (λ o. elim o as (λ _. Option Neighbor) [ None ↦ None | Some j ↦ Some (same j) ]) (number (Some k) t)
 
-  second-opposite : (k : ℕ) → row_with i cut ≡ At k → second_slot hs (some (opposing i)) ≡ some (opposing i)
-  second-opposite k t = ap (λ o. elim o as (λ _. Option Neighbor) [ none ↦ none | some j ↦ some (opposing i) ]) (number (At k) t)
+  second-opposite : (k : ℕ) → row_with i cut ≡ Some k → second_slot hs (Some (opposing i)) ≡ Some (opposing i)
+  second-opposite k t = ap (λ o. elim o as (λ _. Option Neighbor) [ None ↦ None | Some j ↦ Some (opposing i) ]) (number (Some k) t)
 
-  same-alone : row_with i cut ≡ Nothing → second_slot hs (some (same i)) ≡ none
-  same-alone t = ap (λ o. elim o as (λ _. Option Neighbor) [ none ↦ none | some j ↦ some (same j) ]) (number Nothing t)
+  same-alone : row_with i cut ≡ None → second_slot hs (Some (same i)) ≡ None
+  same-alone t = ap (λ o. elim o as (λ _. Option Neighbor) [ None ↦ None | Some j ↦ Some (same j) ]) (number None t)
 
-  opposite-alone : row_with i cut ≡ Nothing → second_slot hs (some (opposing i)) ≡ none
-  opposite-alone t = ap (λ o. elim o as (λ _. Option Neighbor) [ none ↦ none | some j ↦ some (opposing i) ]) (number Nothing t)
+  opposite-alone : row_with i cut ≡ None → second_slot hs (Some (opposing i)) ≡ None
+  opposite-alone t = ap (λ o. elim o as (λ _. Option Neighbor) [ None ↦ None | Some j ↦ Some (opposing i) ]) (number None t)
 
 -- ---- what the code writes
 
@@ -113,18 +111,18 @@ module _ (w : List ℕ) (k : ℕ) (cut : List ℕ) (next : ℕ) (h : k + 2 ≤ l
       go (suc (suc x)) z = absurd (n (omega arith))
 
   -- an opposite neighbour that is cut is the second half
-  module _ (z : word k w ≡ 2) (r : Found) (e : r ≡ row_with (word (k + 1) w) (keys 1 (length cut) cut)) where
+  module _ (z : word k w ≡ 2) (r : Option ℕ) (e : r ≡ row_with (word (k + 1) w) (keys 1 (length cut) cut)) where
     lane : word (k + 1) w ≡ word (suc k) w
     lane = let n : k + 1 ≡ suc k = omega arith in ap (λ j. get_or w j 0) n
 
     place : row_with (word (suc k) w) cut ≡ r
     place = ap (λ i. row_with i cut) (sym lane) ∙ one_found (word (k + 1) w) cut r e
 
-    pub first_found : (x : ℕ) → r ≡ At x → set w (k + 1) (next + x) ≡ first_in
+    pub first_found : (x : ℕ) → r ≡ Some x → set w (k + 1) (next + x) ≡ first_in
     unfolding set_slot
     first_found x t = rw (reads-opposite w k z, first-cut cut next (word (suc k) w) x (place ∙ t)) (slot-lane w k h 2 (next + x) z)
 
-    pub first_absent : r ≡ Nothing → w ≡ first_in
+    pub first_absent : r ≡ None → w ≡ first_in
     unfolding set_slot
     first_absent t = rw (reads-opposite w k z, first-uncut cut next (word (suc k) w) (place ∙ t)) (slot-own w k h 2 z)
 
@@ -139,7 +137,7 @@ module _ (w v : List ℕ) (k : ℕ) (cut : List ℕ) (next : ℕ) (h : k + 2 ≤
   unfolding set_slot
   second_empty z = rw (reads_none v k z) cleared
 
-  module _ (l : word k v ≤ 2) (n : word k v ≡ 0 → ⊥) (r : Found) (e : r ≡ row_with (word (k + 1) v) (keys 1 (length cut) cut)) where
+  module _ (l : word k v ≤ 2) (n : word k v ≡ 0 → ⊥) (r : Option ℕ) (e : r ≡ row_with (word (k + 1) v) (keys 1 (length cut) cut)) where
     lane-read : word (k + 1) v ≡ word (suc k) v
     lane-read = let n : k + 1 ≡ suc k = omega arith in ap (λ j. get_or v j 0) n
 
@@ -149,7 +147,7 @@ module _ (w v : List ℕ) (k : ℕ) (cut : List ℕ) (next : ℕ) (h : k + 2 ≤
     opposite : (word k v ≡ 1 → ⊥) → word k v ≡ 2
     opposite m = omega arith
 
-    pub second-absent : r ≡ Nothing → set w k 0 ≡ second_in
+    pub second-absent : r ≡ None → set w k 0 ≡ second_in
     second-absent t = go (word k v) refl
       where
         go : (x : ℕ) → word k v ≡ x → set w k 0 ≡ second_in
@@ -157,7 +155,7 @@ module _ (w v : List ℕ) (k : ℕ) (cut : List ℕ) (next : ℕ) (h : k + 2 ≤
         go (suc zero) z = unfold set_slot in rw (reads_same v k z, same-alone cut next (word (suc k) v) (placed ∙ t)) cleared
         go (suc (suc x)) z = unfold set_slot in rw (reads-opposite v k (omega arith), opposite-alone cut next (word (suc k) v) (placed ∙ t)) cleared
 
-    module _ (x : ℕ) (t : r ≡ At x) where
+    module _ (x : ℕ) (t : r ≡ Some x) where
       written : (way y : ℕ) → set (set (set w k 0) k way) (k + 1) y ≡ over w k (way ∷ y ∷ [])
       written way y =
           ap (λ u. set u (k + 1) y) (set-set w k 0 way ∙ store_at w k way (omega arith))

@@ -1,16 +1,14 @@
 -- The rows of both halves, as the code writes them one store after the other. Assumes nothing.
+use Rattle.std.specs.Prelude.{Option, None, Some}
 use mathlib.Core.Path.{◌≡◌, refl, sym, ap, ◌∙◌}
 use Prim.Native.Nat.{ℕ, suc, ◌+◌, ◌-◌, ◌≤◌, ◌<◌}
 use native.Mathlib.Omega.{arith}
 use mathlib.Core.Bool.{Bool, true, false, not, cond}
 use mathlib.Core.List.{List, [], ◌∷◌}
-use mathlib.Core.Option.{Option, none, some}
 use lib.Dec.{eqb, leb}
 use lib.ListN.{length, get_or, set, take, drop, length-set}
 use lib.Seq.{get_or-drop, drop-drop, get_or-take, take-take, drop-set-lt, get_or-set_other}
 use borrow.Author.Tests.{leb-true}
-use Rattle.lists.specs.declared.Found.{Found}
-use Rattle.lists.specs.declared.Found.TheVariants.{At, Nothing}
 use Rattle.lists.specs.Rows.{keys, row_with}
 use Rattle.lists.specs.Select.{ascending, numbered}
 use Rattle.lists.proofs.Every.{all_get_d}
@@ -45,7 +43,7 @@ module _ (k : ℕ) (u w : List ℕ) (d : drop k u ≡ drop k w) where
   same-slot j l = go (word j u) (word j w) (same_word j l) (word (suc j) u) (word (suc j) w) (same_word (suc j) (omega arith))
     where
       go : (a b : ℕ) → a ≡ b → (x y : ℕ) → x ≡ y
-          → cond (eqb a 0) none (cond (eqb a 1) (some (same x)) (some (opposing x))) ≡ cond (eqb b 0) none (cond (eqb b 1) (some (same y)) (some (opposing y)))
+          → cond (eqb a 0) None (cond (eqb a 1) (Some (same x)) (Some (opposing x))) ≡ cond (eqb b 0) None (cond (eqb b 1) (Some (same y)) (Some (opposing y)))
       go a b e x y f = rw (e, f)
 
   same-ids : (j : ℕ) → k ≤ j → ids_at j u ≡ ids_at j w
@@ -65,8 +63,8 @@ module _ (u w : List ℕ) (d : take 35 u ≡ take 35 w) where
 -- ---- a slot and a list written
 
 slot-short : (o : Option Neighbor) → length (slot_words o) ≤ 2
-slot-short none = omega arith
-slot-short (some n) = omega arith
+slot-short None = omega arith
+slot-short (Some n) = omega arith
 
 module _ (w : List ℕ) (k : ℕ) (o : Option Neighbor) (h : k + 2 ≤ length w) where
   slot-long : length (set_slot k o w) ≡ length w
@@ -285,17 +283,17 @@ module _ (pieces : List ℕ) (m : ℕ) (cut : List ℕ) (next : ℕ) (centers : 
             ascend = ap ascending first-refl.1.1 ∙ f.ascend;
           })
 
-  module _ (r : Found) (e : r ≡ row_with (word 0 w) (keys 1 (length cut) cut)) where
-    pub cut-first : (rank : ℕ) → r ≡ At rank → (v : List ℕ) → v ≡ first_row pieces m cut next centers rank w → (z : List ℕ) → z ≡ came_row cut next v → z ≡ lane_cut pieces m cut next centers w
+  module _ (r : Option ℕ) (e : r ≡ row_with (word 0 w) (keys 1 (length cut) cut)) where
+    pub cut-first : (rank : ℕ) → r ≡ Some rank → (v : List ℕ) → v ≡ first_row pieces m cut next centers rank w → (z : List ℕ) → z ≡ came_row cut next v → z ≡ lane_cut pieces m cut next centers w
     cut-first rank t v d z q =
         q ∙ (ap (came_row cut next) d ∙ sym (ap (λ n. row_cut pieces m cut next centers n w) (one_found (word 0 w) cut r e ∙ t)))
 
-    pub cut-other : r ≡ Nothing → (v : List ℕ) → v ≡ w → (z : List ℕ) → z ≡ came_row cut next v → z ≡ lane_cut pieces m cut next centers w
+    pub cut-other : r ≡ None → (v : List ℕ) → v ≡ w → (z : List ℕ) → z ≡ came_row cut next v → z ≡ lane_cut pieces m cut next centers w
     cut-other t v d z q = q ∙ (ap (came_row cut next) d ∙ sym (ap (λ n. row_cut pieces m cut next centers n w) (one_found (word 0 w) cut r e ∙ t)))
 
   pub lane-long : Cuts next cut → length (lane_cut pieces m cut next centers w) ≡ 52
   lane-long a = go (row_with (word 0 w) cut)
     where
-      go : (r : Found) → length (row_cut pieces m cut next centers r w) ≡ 52
-      go (At rank) = came-long cut next (first_row pieces m cut next centers rank w) a (half-asks rank (first_row pieces m cut next centers rank w) refl)
-      go Nothing = came-long cut next w a came-asks
+      go : (r : Option ℕ) → length (row_cut pieces m cut next centers r w) ≡ 52
+      go (Some rank) = came-long cut next (first_row pieces m cut next centers rank w) a (half-asks rank (first_row pieces m cut next centers rank w) refl)
+      go None = came-long cut next w a came-asks

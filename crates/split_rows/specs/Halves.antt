@@ -1,12 +1,10 @@
 -- The rows of the lanes after a split, in words. Cut lanes are an ascending list `cut`; the second half of the one at place r is next + r. The pieces of cut
 -- boundaries are rows of three words, the boundary, its first piece, its second; the measures of cut centrelines are rows of three words by the lane's place.
 -- Nothing that a host calls rests on this page; the laws of split_laid tie it to the rules.
-use Rattle.std.specs.Prelude.{◌≡◌, ℕ, ◌+◌, ◌*◌, ◌^◌, ◌≤◌, ◌<◌, Bool, true, false, cond, List, [], ◌∷◌, leb, length, set}
+use Rattle.std.specs.Prelude.{◌≡◌, ℕ, ◌+◌, ◌*◌, ◌^◌, ◌≤◌, ◌<◌, Bool, true, false, cond, List, [], ◌∷◌, leb, length, set, Option, None, Some}
 use Rattle.lists.specs.Every.{all}
 use Rattle.lists.specs.Rows.{keys, over, row_with}
 use Rattle.lists.specs.Select.{ascending, numbered}
-use Rattle.lists.specs.declared.Found.{Found}
-use Rattle.lists.specs.declared.Found.TheVariants.{At, Nothing}
 use Rattle.rules.specs.Split.{first_slot, second_slot, came_from}
 use Rattle.rules.specs.Limits.{max_links}
 use Rattle.tables.specs.View.{word, mark, ids_at, slot_at}
@@ -21,9 +19,9 @@ use Rattle.mentions.specs.Naming.{change_at}
 abbrev pub piece_word : Bool → Bool → ℕ
 piece_word second reversed = cond second (cond reversed 1 2) (cond reversed 2 1)
 
-abbrev pub piece_found : List ℕ → ℕ → ℕ → Found → ℕ
-piece_found pieces k b (At x) = word (x * 3 + k) pieces
-piece_found pieces k b Nothing = b
+abbrev pub piece_found : List ℕ → ℕ → ℕ → Option ℕ → ℕ
+piece_found pieces k b (Some x) = word (x * 3 + k) pieces
+piece_found pieces k b None = b
 
 -- the boundary that a half has in place of b; one that is not cut stays
 abbrev pub half_ref : List ℕ → ℕ → Bool → ℕ → Bool → ℕ
@@ -79,9 +77,9 @@ abbrev pub came_row : List ℕ → ℕ → List ℕ → List ℕ
 came_row cut next w = change_at (came_from (numbered next cut)) predecessors_at w
 
 -- any lane's row after the split
-abbrev pub row_cut : List ℕ → ℕ → List ℕ → ℕ → List ℕ → Found → List ℕ → List ℕ
-row_cut pieces m cut next centers (At rank) w = came_row cut next (first_row pieces m cut next centers rank w)
-row_cut pieces m cut next centers Nothing w = came_row cut next w
+abbrev pub row_cut : List ℕ → ℕ → List ℕ → ℕ → List ℕ → Option ℕ → List ℕ → List ℕ
+row_cut pieces m cut next centers (Some rank) w = came_row cut next (first_row pieces m cut next centers rank w)
+row_cut pieces m cut next centers None w = came_row cut next w
 
 abbrev pub lane_cut : List ℕ → ℕ → List ℕ → ℕ → List ℕ → List ℕ → List ℕ
 lane_cut pieces m cut next centers w = row_cut pieces m cut next centers (row_with (word row_id w) cut) w

@@ -9,7 +9,6 @@ ghost use Rattle.tables.specs.View.{word, slot_at};
 ghost use Rattle.store.specs.Rows.{set_slot};
 ghost use Rattle.split_rows.specs.Halves as D;
 
-use lists::Found;
 use tables::{
     FIRST_PREDECESSOR, LANE_CENTERLINE_SIZE, LANE_CENTERLINE_START, NONE, OPPOSITE, PREDECESSORS,
     SAME,
@@ -38,8 +37,8 @@ pub fn half_ref(boundary: u64, reversed: bool, pieces: &[u64], m: usize, second:
 {
     let found = find::find_row(pieces, PIECE, m, boundary);
     match found {
-        Found::At(x) => pieces[x * PIECE + piece_word(second, reversed)],
-        Found::Nothing => boundary,
+        Some(x) => pieces[x * PIECE + piece_word(second, reversed)],
+        None => boundary,
     }
 }
 
@@ -55,10 +54,10 @@ pub fn first_slot(row: &mut [u64], k: usize, cut: &[u64], next: u64)
     }
     let found = find::find_row(cut, 1, cut.len(), row[k + 1]);
     match found {
-        Found::At(r) => {
+        Some(r) => {
             row[k + 1] = next + r as u64;
         }
-        Found::Nothing => {}
+        None => {}
     }
 }
 
@@ -75,14 +74,14 @@ pub fn second_slot(row: &mut [u64], old: &[u64], k: usize, cut: &[u64], next: u6
     let lane = old[k + 1];
     let found = find::find_row(cut, 1, cut.len(), lane);
     match found {
-        Found::At(r) => {
+        Some(r) => {
             row[k] = way;
             row[k + 1] = lane;
             if way == SAME {
                 row[k + 1] = next + r as u64;
             }
         }
-        Found::Nothing => {}
+        None => {}
     }
 }
 
@@ -97,21 +96,19 @@ pub fn come_from(row: &mut [u64], cut: &[u64], next: u64)
     let mut seconds = [0; LINKS];
     let mut left = 0;
     let mut came = 0;
-    let mut i = 0;
-    while i < n {
+    for i in 0..n {
         let id = row[FIRST_PREDECESSOR + i];
         let found = find::find_row(cut, 1, cut.len(), id);
         match found {
-            Found::At(r) => {
+            Some(r) => {
                 seconds[came] = next + r as u64;
                 came += 1;
             }
-            Found::Nothing => {
+            None => {
                 row[FIRST_PREDECESSOR + left] = id;
                 left += 1;
             }
         }
-        i += 1;
     }
     slots::copy(&seconds[..came], row, FIRST_PREDECESSOR + left);
 }

@@ -1,4 +1,5 @@
 -- Marks of rules: a lane's, those of a rule's own lanes, and those of all rules, one rule behind the other. Assumes nothing.
+use Rattle.std.specs.Prelude.{Option, None, Some}
 use mathlib.Core.Path.{◌≡◌, refl, sym, ap, ◌∙◌}
 use Prim.Native.Nat.{ℕ, zero, suc, ◌+◌, ◌-◌, ◌*◌, ◌≤◌, ◌<◌}
 use native.Mathlib.Nat.{le_of_suc-le-suc, not-suc-le-zero}
@@ -6,15 +7,12 @@ use native.Mathlib.Numerals.{add-one}
 use native.Mathlib.Omega.{arith}
 use mathlib.Core.Bool.{Bool, true, false}
 use mathlib.Core.List.{List, [], ◌∷◌, ◌++◌, map, map-append}
-use mathlib.Core.Option.{Option, none, some}
 use lib.Ieee.{Float}
 use lib.ListN.{length, get_or, set, take, drop, length-set, length-map, length-drop, drop_of_length-le, take-append-drop}
 use lib.Seq.{take_all, take-suc, take-take, drop-cons, drop-drop, length-take-le}
 use borrow.Rule.Slice.PartMut.{put_mid}
 use Rattle.lists.specs.Rows.{over, keys, row_with}
 use Rattle.lists.specs.Select.{any, has}
-use Rattle.lists.specs.declared.Found.{Found}
-use Rattle.lists.specs.declared.Found.TheVariants.{At, Nothing}
 use Rattle.lists.proofs.Rows.{drop-take, length-reads, get_d_reads, length_over, over-nil, over_in, over-part, store-behind, found_within, one_found, row_within}
 use Rattle.geometry.specs.Float.{zeroᶠ}
 use Rattle.rules.specs.Names.{Point2}
@@ -24,9 +22,7 @@ use Rattle.tables.specs.Formed.{counted, rule_formed}
 use Rattle.row_tests.specs.Good.{all_rows}
 use Rattle.row_tests.proofs.Formed.{rule-lanes}
 use Rattle.row_tests.proofs.Tables.{table-some, table-few, row_room}
-use Rattle.lookup.specs.declared.OptionPoint2.{OptionPoint2}
-use Rattle.lookup.specs.declared.OptionPoint2.TheVariants as A
-use Rattle.lookup.specs.Lookup.{row_at, place_of, crossed, point_given}
+use Rattle.lookup.specs.Lookup.{row_at, place_of, crossed}
 use Rattle.lookup.proofs.Laws.{word_in, row-passes}
 use Rattle.split_half.specs.Half.{row_past}
 use Rattle.split_marks.proofs.Marks.{Tested, test-begins, test-more, test-ends}
@@ -39,23 +35,23 @@ any-default [] i d e h = absurd (not-suc-le-zero h)
 any-default (x ∷ l) zero d e h = refl
 any-default (x ∷ l) (suc i) d e h = any-default l i d e (le_of_suc-le-suc h)
 
-module _ (join : Float) (c : List Float) (lanes boundaries : List ℕ) (p : Point2) (cut : List ℕ) (stations : List Float) (anchor : Point2) (id : ℕ) (f : Found)
+module _ (join : Float) (c : List Float) (lanes boundaries : List ℕ) (p : Point2) (cut : List ℕ) (stations : List Float) (anchor : Point2) (id : ℕ) (f : Option ℕ)
     (e : f ≡ row_with id (keys 1 (length cut) cut)) where
   abbrev past : Bool
   past = lane_past join c lanes boundaries p cut stations anchor id
 
-  pub lane-uncut : f ≡ Nothing → false ≡ past
+  pub lane-uncut : f ≡ None → false ≡ past
   lane-uncut q = rw (one_found id cut f e, q)
 
-  module _ (r : ℕ) (q : f ≡ At r) where
+  module _ (r : ℕ) (q : f ≡ Some r) where
     pub rank-within : r < length cut
     rank-within = found_within id cut r (one_found id cut f e ∙ q)
 
-    module _ (g : Found) (d : g ≡ place_of 52 lanes id) where
-      pub lane-absent : g ≡ Nothing → false ≡ past
+    module _ (g : Option ℕ) (d : g ≡ place_of 52 lanes id) where
+      pub lane-absent : g ≡ None → false ≡ past
       lane-absent k = rw (one_found id cut f e, q, ← d, k)
 
-      pub lane-there : (i : ℕ) → g ≡ At i → length cut ≤ length stations → (b : Bool) (x : Float) → b ≡ row_past join c lanes boundaries p i (get_or stations r x) anchor → b ≡ past
+      pub lane-there : (i : ℕ) → g ≡ Some i → length cut ≤ length stations → (b : Bool) (x : Float) → b ≡ row_past join c lanes boundaries p i (get_or stations r x) anchor → b ≡ past
       lane-there i k l b x h = rw (one_found id cut f e, q, ← d, k) (h ∙ ap (λ s. row_past join c lanes boundaries p i s anchor) (any-default stations r x zeroᶠ (omega (arith, rank-within))))
 
 -- ---- a list of lanes
@@ -118,29 +114,21 @@ module _ (t : List ℕ) (h : counted 512 330 t ≡ true) (i : ℕ) (d : i < word
         sym (f ∙ ap (any (λ k. has k cut)) z)
 
     module _ (c : List Float) (stops crosswalks : List ℕ) where
-      pub anchor_named : b ≡ true → (r : OptionPoint2) → r ≡ point_given (rule_anchor (crossed c stops crosswalks) (rule_of (row_at 330 t i))) → r ≡ point_given (anchor_of c stops crosswalks cut (row_at 330 t i))
+      pub anchor_named : b ≡ true → (r : Option Point2) → r ≡ rule_anchor (crossed c stops crosswalks) (rule_of (row_at 330 t i)) → r ≡ anchor_of c stops crosswalks cut (row_at 330 t i)
       anchor_named q r k = rw (named, q) k
 
-      pub anchor_other : b ≡ false → A.None ≡ point_given (anchor_of c stops crosswalks cut (row_at 330 t i))
+      pub anchor_other : b ≡ false → None ≡ anchor_of c stops crosswalks cut (row_at 330 t i)
       anchor_other q = rw (named, q)
 
-given-none : (o : Option Point2) → A.None ≡ point_given o → o ≡ none
-given-none none e = refl
-given-none (some a) e = let z : ◌≡◌ {A = ℕ} 0 1 = cc in absurd (omega arith)
-
-given-some : (o : Option Point2) (a : Point2) → A.Some a ≡ point_given o → o ≡ some a
-given-some none a e = let z : ◌≡◌ {A = ℕ} 0 1 = cc in absurd (omega arith)
-given-some (some b) a e = cc
-
-module _ (join : Float) (c : List Float) (lanes boundaries : List ℕ) (p : Point2) (cut : List ℕ) (stations : List Float) (o : Option Point2) (ids : List ℕ) (w : List Bool) (r : OptionPoint2) (e : r ≡ point_given o) where
+module _ (join : Float) (c : List Float) (lanes boundaries : List ℕ) (p : Point2) (cut : List ℕ) (stations : List Float) (o : Option Point2) (ids : List ℕ) (w : List Bool) (r : Option Point2) (e : r ≡ o) where
   abbrev Ruled : Bool → List Bool → Type 0
   Ruled b v = (b ≡ is_there o) × (v ≡ over w 0 (marks_by join c lanes boundaries p cut stations o ids))
 
-  pub rule-none : r ≡ A.None → Ruled false w
-  rule-none q = rw (given-none o (sym q ∙ e)) (refl, sym (over-nil w 0))
+  pub rule-none : r ≡ None → Ruled false w
+  rule-none q = rw (sym (sym q ∙ e)) (refl, sym (over-nil w 0))
 
-  pub rule-some : (a : Point2) → r ≡ A.Some a → (v : List Bool) (l : List ℕ) → v ≡ over w 0 (map (lane_past join c lanes boundaries p cut stations a) l) → l ≡ ids → Ruled true v
-  rule-some a q v l g k = rw (given-some o a (sym q ∙ e)) (refl, g ∙ ap (λ z. over w 0 (map (lane_past join c lanes boundaries p cut stations a) z)) k)
+  pub rule-some : (a : Point2) → r ≡ Some a → (v : List Bool) (l : List ℕ) → v ≡ over w 0 (map (lane_past join c lanes boundaries p cut stations a) l) → l ≡ ids → Ruled true v
+  rule-some a q v l g k = rw (sym (sym q ∙ e)) (refl, g ∙ ap (λ z. over w 0 (map (lane_past join c lanes boundaries p cut stations a) z)) k)
 
 -- ---- all rules
 
@@ -214,8 +202,8 @@ module _ (join : Float) (c : List Float) (lanes boundaries : List ℕ) (p : Poin
       marks-few = go (anchor_of c stops crosswalks cut (row_at 330 t i))
         where
           go : (o : Option Point2) → length (marks_by join c lanes boundaries p cut stations o (ids_at 5 (row_at 330 t i))) ≤ 64
-          go none = omega arith
-          go (some a) = rw length-map (ids_few t m.counts i d formed)
+          go None = omega arith
+          go (Some a) = rw length-map (ids_few t m.counts i d formed)
 
       pub done_more : (a v : List Bool) → Done i a v → (b : Bool) (u : List Bool)
           → (b ≡ anchored (row_at 330 t i)) × (u ≡ over (take (i * 64 + 64 - i * 64) (drop (i * 64) v)) 0 (marks i)) → Done (i + 1) (set a i b) (put_mid (i * 64) (i * 64 + 64 - i * 64) v u)

@@ -1,11 +1,8 @@
 -- Which rules that name a cut lane have an anchor, and past which cuts it lies, as marks: one a rule, and 64 a rule, one for each place of its own lanes.
 -- Nothing that a host calls rests on this page; the laws of split_named tie it to the rules.
-use Rattle.std.specs.Prelude.{◌≡◌, ℕ, suc, ◌*◌, ◌≤◌, ◌<◌, Bool, true, false, cond, List, [], ◌∷◌, map, Float, length, get_or}
-use Rattle.std.proofs.Math.Option.{Option, none, some}
+use Rattle.std.specs.Prelude.{◌≡◌, ℕ, suc, ◌*◌, ◌≤◌, ◌<◌, Bool, true, false, cond, List, [], ◌∷◌, map, Float, length, get_or, Option, None, Some}
 use Rattle.lists.specs.Rows.{over, row_with}
 use Rattle.lists.specs.Select.{any, ascending, has}
-use Rattle.lists.specs.declared.Found.{Found}
-use Rattle.lists.specs.declared.Found.TheVariants.{At, Nothing}
 use Rattle.geometry.specs.Float.{zeroᶠ}
 use Rattle.rules.specs.Names.{Point2}
 use Rattle.rules.specs.Map.{rule_anchor}
@@ -20,13 +17,13 @@ use Rattle.split_half.specs.Half.{row_past}
 -- ---- a rule
 
 -- the cut lane at place r among the cut ones, in row i of the lanes: the anchor lies past its cut
-abbrev pub found_past : Float → List Float → List ℕ → List ℕ → Point2 → Float → Point2 → Found → Bool
-found_past join c lanes boundaries p s anchor (At i) = row_past join c lanes boundaries p i s anchor
-found_past join c lanes boundaries p s anchor Nothing = false
+abbrev pub found_past : Float → List Float → List ℕ → List ℕ → Point2 → Float → Point2 → Option ℕ → Bool
+found_past join c lanes boundaries p s anchor (Some i) = row_past join c lanes boundaries p i s anchor
+found_past join c lanes boundaries p s anchor None = false
 
-abbrev pub rank_past : Float → List Float → List ℕ → List ℕ → Point2 → List Float → Point2 → ℕ → Found → Bool
-rank_past join c lanes boundaries p stations anchor id (At r) = found_past join c lanes boundaries p (get_or stations r zeroᶠ) anchor (place_of lane_words lanes id)
-rank_past join c lanes boundaries p stations anchor id Nothing = false
+abbrev pub rank_past : Float → List Float → List ℕ → List ℕ → Point2 → List Float → Point2 → ℕ → Option ℕ → Bool
+rank_past join c lanes boundaries p stations anchor id (Some r) = found_past join c lanes boundaries p (get_or stations r zeroᶠ) anchor (place_of lane_words lanes id)
+rank_past join c lanes boundaries p stations anchor id None = false
 
 -- a lane of the rule is cut, and the anchor lies past its cut
 abbrev pub lane_past : Float → List Float → List ℕ → List ℕ → Point2 → List ℕ → List Float → Point2 → ℕ → Bool
@@ -34,16 +31,16 @@ lane_past join c lanes boundaries p cut stations anchor id = rank_past join c la
 
 -- the anchor of a rule that names a cut lane
 abbrev pub anchor_of : List Float → List ℕ → List ℕ → List ℕ → List ℕ → Option Point2
-anchor_of c stops crosswalks cut w = cond (any (λ i. has i cut) (ids_at rule_lanes_at w)) (rule_anchor (crossed c stops crosswalks) (rule_of w)) none
+anchor_of c stops crosswalks cut w = cond (any (λ i. has i cut) (ids_at rule_lanes_at w)) (rule_anchor (crossed c stops crosswalks) (rule_of w)) None
 
 abbrev pub is_there : {A : Type 0} → Option A → Bool
-is_there none = false
-is_there (some a) = true
+is_there None = false
+is_there (Some a) = true
 
 -- the marks of its own lanes
 abbrev pub marks_by : Float → List Float → List ℕ → List ℕ → Point2 → List ℕ → List Float → Option Point2 → List ℕ → List Bool
-marks_by join c lanes boundaries p cut stations none ids = []
-marks_by join c lanes boundaries p cut stations (some anchor) ids = map (lane_past join c lanes boundaries p cut stations anchor) ids
+marks_by join c lanes boundaries p cut stations None ids = []
+marks_by join c lanes boundaries p cut stations (Some anchor) ids = map (lane_past join c lanes boundaries p cut stations anchor) ids
 
 -- ---- all rules
 

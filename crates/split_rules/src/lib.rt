@@ -11,8 +11,6 @@ ghost use Rattle.lookup.specs.Lookup as K;
 ghost use Rattle.split_rules.specs.Past as D;
 
 use geometry::Point2;
-use lists::Found;
-use lookup::OptionPoint2;
 use tables::{RULE, RULE_LANES};
 
 // Marks of a rule, one for each place of its own lanes.
@@ -34,11 +32,11 @@ fn lane_past(
     ensures { result ≡ D.lane_past join coordinates.now lanes.now boundaries.now point cut.now stations.now anchor id }
 {
     let ranked = rank::rank(cut, id);
-    let Found::At(r) = ranked else {
+    let Some(r) = ranked else {
         return false;
     };
     let found = lookup::lane(lanes, id);
-    let Found::At(i) = found else {
+    let Some(i) = found else {
         return false;
     };
     split_past::past_cut(
@@ -69,8 +67,7 @@ fn mark_lanes(
     requires { (K.Drawable lanes.now boundaries.now coordinates.now) × ((ascending cut.now ≡ true) × ((length cut.now ≤ length stations.now) × (length ids.now ≤ length past.old))) }
     ensures { past.new ≡ over past.old 0 (map (D.lane_past join coordinates.now lanes.now boundaries.now point cut.now stations.now anchor) ids.now) }
 {
-    let mut p = 0;
-    while p < ids.len() {
+    for p in 0..ids.len() {
         past[p] = lane_past(
             join,
             lanes,
@@ -82,7 +79,6 @@ fn mark_lanes(
             anchor,
             ids[p],
         );
-        p += 1;
     }
 }
 
@@ -94,9 +90,9 @@ fn anchor_of(
     stop_lines: &[u64],
     crosswalks: &[u64],
     coordinates: &[f64],
-) -> OptionPoint2
+) -> Option<Point2>
     requires { (counted 512 330 rules.now ≡ true) × ((i < word 0 rules.now) × ((rule_formed (K.row_at 330 rules.now i) ≡ true) × ((ascending cut.now ≡ true) × (K.Crossable stop_lines.now crosswalks.now coordinates.now)))) }
-    ensures { result ≡ K.point_given (D.anchor_of coordinates.now stop_lines.now crosswalks.now cut.now (K.row_at 330 rules.now i)) }
+    ensures { result ≡ D.anchor_of coordinates.now stop_lines.now crosswalks.now cut.now (K.row_at 330 rules.now i) }
 {
     let from = 1 + i * RULE + RULE_LANES + 1;
     let n = rules[from - 1] as usize;
@@ -104,7 +100,7 @@ fn anchor_of(
     if split_marks::names_cut(&rules[from..to], n, cut) {
         return anchors::rule_anchor(rules, i, stop_lines, crosswalks, coordinates);
     }
-    OptionPoint2::None
+    None
 }
 
 // The mark of the rule in row i, and those of its own lanes.
@@ -126,7 +122,7 @@ fn mark_rule(
     ensures { (result ≡ D.is_there (D.anchor_of coordinates.now stop_lines.now crosswalks.now cut.now (K.row_at 330 rules.now i))) × (past.new ≡ over past.old 0 (D.marks_by join coordinates.now lanes.now boundaries.now point cut.now stations.now (D.anchor_of coordinates.now stop_lines.now crosswalks.now cut.now (K.row_at 330 rules.now i)) (ids_at 5 (K.row_at 330 rules.now i)))) }
 {
     let found = anchor_of(rules, i, cut, stop_lines, crosswalks, coordinates);
-    let OptionPoint2::Some(anchor) = found else {
+    let Some(anchor) = found else {
         return false;
     };
     let from = 1 + i * RULE + RULE_LANES + 1;
@@ -165,8 +161,7 @@ pub fn mark_rules(
     ensures { (anchored.new ≡ over anchored.old 0 (D.anchored_by coordinates.now stop_lines.now crosswalks.now cut.now rules.now)) × (past.new ≡ D.past_by join coordinates.now lanes.now boundaries.now point cut.now stations.now stop_lines.now crosswalks.now rules.now past.old) }
 {
     let n = rules[0] as usize;
-    let mut i = 0;
-    while i < n {
+    for i in 0..n {
         let first = i * MARKS;
         let last = first + MARKS;
         anchored[i] = mark_rule(
@@ -183,6 +178,5 @@ pub fn mark_rules(
             crosswalks,
             &mut past[first..last],
         );
-        i += 1;
     }
 }

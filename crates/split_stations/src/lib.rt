@@ -1,8 +1,7 @@
 // edit/split.rs: the lanes that are cut, and where each is.
 #![tactic(auto)]
 
-ghost use Rattle.std.specs.Prelude.{◌≡◌, true, not, ◌+◌, ◌*◌, ◌≤◌, ◌<◌, length};
-ghost use Rattle.std.proofs.Math.Option.{some};
+ghost use Rattle.std.specs.Prelude.{◌≡◌, true, not, ◌+◌, ◌*◌, ◌≤◌, ◌<◌, length, Some};
 ghost use Rattle.lists.specs.Every.{all};
 ghost use Rattle.lists.specs.Rows.{over};
 ghost use Rattle.polyline.specs.Polyline.{points};
@@ -12,29 +11,27 @@ ghost use Rattle.lookup.specs.Lookup as K;
 ghost use Rattle.split_plan.specs.Placing as P;
 
 use entities::Refusal;
-use lookup::OptionCount;
-use polyline::OptionNearest;
-use split_plan::{Cut, Stationed, Stations};
+use split_plan::Cut;
 use tables::{LANE, POINT};
 
 // Floats in the longest line, of 256 points.
 const LINE_FLOATS: usize = 768;
 
-fn station_on(piece: f64, own: u64, lane: u64, line: &[f64], cut: Cut) -> Stationed
-    ensures { result ≡ P.station_told (P.stationing piece own lane cut (some (points line.now))) }
+fn station_on(piece: f64, own: u64, lane: u64, line: &[f64], cut: Cut) -> Result<f64, Refusal>
+    ensures { result ≡ P.stationing piece own lane cut (Some (points line.now)) }
 {
     let found = nearest::nearest_point(line, cut.point);
-    let OptionNearest::Some(near) = found else {
-        return Stationed::Refused(Refusal::NoUsableLine(lane));
+    let Some(near) = found else {
+        return Err(Refusal::NoUsableLine(lane));
     };
     let mut station = near.station;
     if lane == own {
         station = cut.station;
     }
     if split_plan::cuttable(piece, line, station) {
-        return Stationed::At(station);
+        return Ok(station);
     }
-    Stationed::Refused(Refusal::PositionOutside(lane))
+    Err(Refusal::PositionOutside(lane))
 }
 
 // The same of the lane in row j; `line` is an array of work.
@@ -47,14 +44,14 @@ fn station_in(
     coordinates: &[f64],
     cut: Cut,
     line: &mut [f64],
-) -> Stationed
+) -> Result<f64, Refusal>
     requires { (K.Drawable lanes.now boundaries.now coordinates.now) × ((j < word 0 lanes.now) × (768 ≤ length line.old)) }
-    ensures { (result ≡ P.station_told (P.row_station piece coordinates.now boundaries.now own cut (K.row_at 52 lanes.now j))) × (line.new ≡ P.line_over line.old (K.center_line coordinates.now lanes.now boundaries.now j)) }
+    ensures { (result ≡ P.row_station piece coordinates.now boundaries.now own cut (K.row_at 52 lanes.now j)) × (line.new ≡ P.line_over line.old (K.center_line coordinates.now lanes.now boundaries.now j)) }
 {
     let lane = lanes[1 + j * LANE];
     let found = lane_lines::centerline(lanes, j, boundaries, coordinates, line);
-    let OptionCount::Some(n) = found else {
-        return Stationed::Refused(Refusal::NoUsableLine(lane));
+    let Some(n) = found else {
+        return Err(Refusal::NoUsableLine(lane));
     };
     let end = n * POINT;
     station_on(piece, own, lane, &line[..end], cut)
@@ -68,9 +65,9 @@ fn lane_station(
     boundaries: &[u64],
     coordinates: &[f64],
     cut: Cut,
-) -> Stationed
+) -> Result<f64, Refusal>
     requires { (K.Drawable lanes.now boundaries.now coordinates.now) × (j < word 0 lanes.now) }
-    ensures { result ≡ P.station_told (P.row_station piece coordinates.now boundaries.now own cut (K.row_at 52 lanes.now j)) }
+    ensures { result ≡ P.row_station piece coordinates.now boundaries.now own cut (K.row_at 52 lanes.now j) }
 {
     let mut line = [0.0; LINE_FLOATS];
     station_in(
@@ -108,28 +105,19 @@ pub fn plan_lanes(
     seen: &[bool],
     cut: &mut [u64],
     stations: &mut [f64],
-) -> Stations
+) -> Result<usize, Refusal>
     requires { (K.Drawable lanes.now boundaries.now coordinates.now) × ((word 0 lanes.now ≤ length seen.now) × ((word 0 lanes.now ≤ length cut.old) × (word 0 lanes.now ≤ length stations.old))) }
     ensures { (result ≡ P.stations_told (P.all_of (P.row_station piece coordinates.now boundaries.now own place) (P.marked_rows seen.now lanes.now))) × ((cut.new ≡ over cut.old 0 (P.group_cut piece coordinates.now lanes.now boundaries.now own place seen.now)) × (stations.new ≡ over stations.old 0 (P.group_stations piece coordinates.now lanes.now boundaries.now own place seen.now))) }
 {
     let n = lanes[0] as usize;
     let mut count = 0;
-    let mut j = 0;
-    while j < n {
+    for j in 0..n {
         if seen[j] {
-            let planned = lane_station(piece, own, lanes, j, boundaries, coordinates, place);
-            match planned {
-                Stationed::Refused(refusal) => {
-                    return Stations::Refused(refusal);
-                }
-                Stationed::At(station) => {
-                    cut[count] = lanes[1 + j * LANE];
-                    stations[count] = station;
-                    count += 1;
-                }
-            }
+            let station = lane_station(piece, own, lanes, j, boundaries, coordinates, place)?;
+            cut[count] = lanes[1 + j * LANE];
+            stations[count] = station;
+            count += 1;
         }
-        j += 1;
     }
-    Stations::Of(count)
+    Ok(count)
 }

@@ -1,4 +1,5 @@
 -- The rows of boundaries after a split: those that point to a first piece, and the new ones. Assumes nothing.
+use Rattle.std.specs.Prelude.{Option, None, Some}
 use mathlib.Core.Path.{◌≡◌, refl, sym, ap, ◌∙◌}
 use Prim.Native.Nat.{ℕ, ◌+◌, ◌*◌, ◌≤◌, ◌<◌}
 use native.Mathlib.Omega.{arith}
@@ -8,8 +9,6 @@ use lib.Dec.{eqb, leb}
 use lib.ListN.{length, set, drop, length-append, length-drop}
 use lib.Seq.{get_or-take, get_or-drop}
 use borrow.Author.Tests.{eq-eqb, ne_eqb, leb-true}
-use Rattle.lists.specs.declared.Found.{Found}
-use Rattle.lists.specs.declared.Found.TheVariants.{At, Nothing}
 use Rattle.lists.specs.Every.{all}
 use Rattle.lists.specs.Rows.{over, keys, row_with}
 use Rattle.lists.proofs.Every.{all_get_d}
@@ -27,11 +26,11 @@ use Rattle.split_tables.specs.Cut.{pointed_at, pointed_piece, first_piece_row, s
 -- ---- a row that points to its first piece
 
 module _ (w pieces : List ℕ) (m : ℕ) (lines : List ℕ) (h : length w ≡ 5) where
-  module _ (f : Found) (e : f ≡ row_with (word 0 w) (keys 3 m pieces)) where
-    pub piece-within : (j : ℕ) → f ≡ At j → j < m
+  module _ (f : Option ℕ) (e : f ≡ row_with (word 0 w) (keys 3 m pieces)) where
+    pub piece-within : (j : ℕ) → f ≡ Some j → j < m
     piece-within j t = omega (arith, found_within (word 0 w) (keys 3 m pieces) j (sym e ∙ t), length-keys 3 m pieces)
 
-    pub point-on : (j : ℕ) → f ≡ At j → word (j * 3 + 1) pieces ≡ word 0 w → set (set w 2 (word (j * 3) lines)) 3 (word (j * 3 + 1) lines) ≡ pointed_piece pieces m lines w
+    pub point-on : (j : ℕ) → f ≡ Some j → word (j * 3 + 1) pieces ≡ word 0 w → set (set w 2 (word (j * 3) lines)) 3 (word (j * 3 + 1) lines) ≡ pointed_piece pieces m lines w
     point-on j t q =
         let start = word (j * 3) lines in
         let size = word (j * 3 + 1) lines in
@@ -40,12 +39,12 @@ module _ (w pieces : List ℕ) (m : ℕ) (lines : List ℕ) (h : length w ≡ 5)
         ∙ sym
         (ap (pointed_at pieces lines w) (sym e ∙ t) ∙ ap (λ b. cond b (over w 2 (start ∷ size ∷ [])) w) (eq-eqb (word (j * 3 + 1) pieces) (word 0 w) q)))
 
-    pub point-off : (j : ℕ) → f ≡ At j → (word (j * 3 + 1) pieces ≡ word 0 w → ⊥) → w ≡ pointed_piece pieces m lines w
+    pub point-off : (j : ℕ) → f ≡ Some j → (word (j * 3 + 1) pieces ≡ word 0 w → ⊥) → w ≡ pointed_piece pieces m lines w
     point-off j t q =
         sym
         (ap (pointed_at pieces lines w) (sym e ∙ t) ∙ ap (λ b. cond b (over w 2 (word (j * 3) lines ∷ word (j * 3 + 1) lines ∷ [])) w) (ne_eqb (word (j * 3 + 1) pieces) (word 0 w) q))
 
-    pub point-none : f ≡ Nothing → w ≡ pointed_piece pieces m lines w
+    pub point-none : f ≡ None → w ≡ pointed_piece pieces m lines w
     point-none t = sym (ap (pointed_at pieces lines w) (sym e ∙ t))
 
   pub point-long : length (pointed_piece pieces m lines w) ≡ 5
@@ -55,9 +54,9 @@ module _ (w pieces : List ℕ) (m : ℕ) (lines : List ℕ) (h : length w ≡ 5)
       on j true = length_over w 2 (word (j * 3) lines ∷ word (j * 3 + 1) lines ∷ []) (omega arith) ∙ h
       on j false = h
 
-      go : (r : Found) → length (pointed_at pieces lines w r) ≡ 5
-      go (At j) = on j (eqb (word (j * 3 + 1) pieces) (word 0 w))
-      go Nothing = h
+      go : (r : Option ℕ) → length (pointed_at pieces lines w r) ≡ 5
+      go (Some j) = on j (eqb (word (j * 3 + 1) pieces) (word 0 w))
+      go None = h
 
 pub point-keeps : (t pieces : List ℕ) (m : ℕ) (lines : List ℕ) → 1 + word 0 t * 5 ≤ length t → Keeping 5 (pointed_piece pieces m lines) t
 point-keeps t pieces m lines r j l = point-long (row_at 5 t j) pieces m lines (row-long 5 t j r l)

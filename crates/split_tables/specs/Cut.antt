@@ -1,12 +1,10 @@
 -- The tables of boundaries and lanes after a split, in words. Pieces of cut boundaries are rows of three words, the boundary, its first piece, its second; the
 -- measures of their lines are rows of three words in the same order, where the first piece starts, its points, the second's points. Nothing that a host calls
 -- rests on this page; the laws of split_laid tie it to the rules.
-use Rattle.std.specs.Prelude.{◌≡◌, ℕ, suc, ◌+◌, ◌*◌, ◌≤◌, ◌<◌, Bool, true, cond, List, [], ◌∷◌, ◌++◌, eqb, leb, length, take, drop}
+use Rattle.std.specs.Prelude.{◌≡◌, ℕ, suc, ◌+◌, ◌*◌, ◌≤◌, ◌<◌, Bool, true, cond, List, [], ◌∷◌, ◌++◌, eqb, leb, length, take, drop, Option, None, Some}
 use Rattle.lists.specs.Every.{all}
 use Rattle.lists.specs.Rows.{keys, over, row_with}
 use Rattle.lists.specs.Select.{ascending}
-use Rattle.lists.specs.declared.Found.{Found}
-use Rattle.lists.specs.declared.Found.TheVariants.{At, Nothing}
 use Rattle.rules.specs.Limits.{max_boundaries, max_lanes}
 use Rattle.tables.specs.View.{word, rows}
 use Rattle.tables.specs.Formed.{counted}
@@ -21,9 +19,9 @@ use Rattle.split_rows.specs.Halves.{lane_cut, second_row, Halved, RowCuts}
 -- ---- boundaries
 
 -- a boundary that keeps its id for its first piece points to that piece's line
-abbrev pub pointed_at : List ℕ → List ℕ → List ℕ → Found → List ℕ
-pointed_at pieces lines w (At j) = cond (eqb (word (j * 3 + 1) pieces) (word row_id w)) (over w boundary_start (word (j * 3) lines ∷ word (j * 3 + 1) lines ∷ [])) w
-pointed_at pieces lines w Nothing = w
+abbrev pub pointed_at : List ℕ → List ℕ → List ℕ → Option ℕ → List ℕ
+pointed_at pieces lines w (Some j) = cond (eqb (word (j * 3 + 1) pieces) (word row_id w)) (over w boundary_start (word (j * 3) lines ∷ word (j * 3 + 1) lines ∷ [])) w
+pointed_at pieces lines w None = w
 
 abbrev pub pointed_piece : List ℕ → ℕ → List ℕ → List ℕ → List ℕ
 pointed_piece pieces m lines w = pointed_at pieces lines w (row_with (word row_id w) (keys 3 m pieces))

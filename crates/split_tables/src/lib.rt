@@ -12,7 +12,6 @@ ghost use Rattle.lookup.specs.Lookup.{row_at};
 ghost use Rattle.merge_draw.specs.Redrawing.{as_given};
 ghost use Rattle.split_tables.specs.Cut as D;
 
-use lists::Found;
 use tables::{
     BOUNDARY, BOUNDARY_ATTRIBUTES, BOUNDARY_ID, BOUNDARY_KIND, BOUNDARY_SIZE, BOUNDARY_START,
 };
@@ -30,14 +29,14 @@ fn point_row(row: &mut [u64], pieces: &[u64], m: usize, lines: &[u64])
     let id = row[BOUNDARY_ID];
     let found = find::find_row(pieces, PIECE, m, id);
     match found {
-        Found::At(j) => {
+        Some(j) => {
             let at = j * PIECE;
             if pieces[at + 1] == id {
                 row[BOUNDARY_START] = lines[at];
                 row[BOUNDARY_SIZE] = lines[at + 1];
             }
         }
-        Found::Nothing => {}
+        None => {}
     }
 }
 
@@ -46,12 +45,10 @@ fn point_rows(t: &mut [u64], pieces: &[u64], m: usize, lines: &[u64])
     ensures { t.new ≡ on_rows 5 (D.pointed_piece pieces.now m lines.now) t.old }
 {
     let n = t[0] as usize;
-    let mut i = 0;
-    while i < n {
+    for i in 0..n {
         let at = 1 + i * BOUNDARY;
         let end = at + BOUNDARY;
         point_row(&mut t[at..end], pieces, m, lines);
-        i += 1;
     }
 }
 
@@ -87,13 +84,11 @@ fn add_rows(t: &mut [u64], marks: &[bool], pieces: &[u64], m: usize, lines: &[u6
 {
     let n = t[0] as usize;
     let mut j = 0;
-    let mut x = 0;
-    while x < n {
+    for x in 0..n {
         if marks[x] {
             add_row(t, x, pieces, lines, j);
             j += 1;
         }
-        x += 1;
     }
 }
 

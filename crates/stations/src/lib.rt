@@ -9,17 +9,16 @@ ghost use Rattle.polyline.specs.Polyline.{points, flat};
 ghost use Rattle.geometry.specs.Float.{clamp, zeroᶠ};
 
 use geometry::Point3;
-use polyline::OptionPoint3;
 
 // Floats in a point.
 const POINT: usize = 3;
 
 // A point written at place i, if there is one; how many were written.
-fn put_optional(out: &mut [f64], i: usize, p: OptionPoint3) -> usize
+fn put_optional(out: &mut [f64], i: usize, p: Option<Point3>) -> usize
     requires { (i + length (L.optional p)) * 3 ≤ length out.old }
     ensures { (result ≡ length (L.optional p)) × (out.new ≡ over out.old (i * 3) (flat (L.optional p))) }
 {
-    let OptionPoint3::Some(q) = p else {
+    let Some(q) = p else {
         return 0;
     };
     polyline::put_point(out, i, q);
@@ -55,16 +54,14 @@ fn between_points(line: &[f64], from: f64, to: f64) -> usize
     }
     let mut at = 0.0;
     let mut p = polyline::point(line, 0);
-    let mut i = 1;
     let mut found = 0;
-    while i < n {
+    for i in 1..n {
         let q = polyline::point(line, i);
         at = at + p.distance(q);
         if inside(from, to, at) {
             found += 1;
         }
         p = q;
-        i += 1;
     }
     found
 }
@@ -80,24 +77,22 @@ fn put_between(line: &[f64], from: f64, to: f64, out: &mut [f64], k: usize) -> u
     }
     let mut at = 0.0;
     let mut p = polyline::point(line, 0);
-    let mut i = 1;
     let mut found = 0;
-    while i < n {
+    for i in 1..n {
         let q = polyline::point(line, i);
         at = at + p.distance(q);
         found = found + put_if(out, k + found, q, inside(from, to, at));
         p = q;
-        i += 1;
     }
     found
 }
 
-fn optional_points(p: OptionPoint3) -> usize
+fn optional_points(p: Option<Point3>) -> usize
     ensures { result ≡ length (L.optional p) }
 {
     match p {
-        OptionPoint3::None => 0,
-        OptionPoint3::Some(_) => 1,
+        None => 0,
+        Some(_) => 1,
     }
 }
 
@@ -133,8 +128,8 @@ fn put_slice(
     len: f64,
     from: f64,
     to: f64,
-    start: OptionPoint3,
-    end: OptionPoint3,
+    start: Option<Point3>,
+    end: Option<Point3>,
     out: &mut [f64],
 ) -> usize
     requires { (len ≡ L.line_length (points line.now)) × ((start ≡ L.point_at (points line.now) (clamp from zeroᶠ len)) × ((end ≡ L.point_at (points line.now) (clamp to zeroᶠ len)) × (length (L.slice (points line.now) from to) * 3 ≤ length out.old))) }
@@ -207,10 +202,8 @@ pub fn resample_count(line: &[f64], n: usize, out: &mut [f64]) -> usize
     }
     let wanted = at_least_two(n);
     let len = polyline::length(line);
-    let mut i = 0;
-    while i < wanted {
+    for i in 0..wanted {
         put_optional(out, i, polyline::point_at(line, share(len, i, wanted - 1)));
-        i += 1;
     }
     wanted
 }
@@ -237,16 +230,12 @@ pub fn centerline_points(left: &[f64], right: &[f64]) -> usize
 }
 
 // Half way between two points, if both are there.
-fn middle(a: OptionPoint3, b: OptionPoint3) -> OptionPoint3
+fn middle(a: Option<Point3>, b: Option<Point3>) -> Option<Point3>
     ensures { result ≡ L.middle a b }
 {
-    let OptionPoint3::Some(p) = a else {
-        return OptionPoint3::None;
-    };
-    let OptionPoint3::Some(q) = b else {
-        return OptionPoint3::None;
-    };
-    OptionPoint3::Some(p.lerp(q, 0.5))
+    let p = a?;
+    let q = b?;
+    Some(p.lerp(q, 0.5))
 }
 
 pub fn centerline(left: &[f64], right: &[f64], out: &mut [f64]) -> usize
@@ -259,8 +248,7 @@ pub fn centerline(left: &[f64], right: &[f64], out: &mut [f64]) -> usize
     }
     let l = polyline::length(left);
     let r = polyline::length(right);
-    let mut i = 0;
-    while i < n {
+    for i in 0..n {
         put_optional(
             out,
             i,
@@ -269,7 +257,6 @@ pub fn centerline(left: &[f64], right: &[f64], out: &mut [f64]) -> usize
                 polyline::point_at(right, share(r, i, n - 1)),
             ),
         );
-        i += 1;
     }
     n
 }

@@ -1,4 +1,5 @@
 -- Calls on two lanes, computed: what the claim asks of them, document 01's case 6, and two editors that the claim turns down. Assumes nothing.
+use Rattle.std.specs.Prelude.{Err}
 use mathlib.Core.Path.{◌≡◌, refl, sym, ap, ◌∙◌}
 use mathlib.Core.Bool.{Bool, true, false, true≢false}
 use mathlib.Core.List.{List, [], ◌∷◌, ◌++◌, map}
@@ -14,9 +15,7 @@ use Rattle.rules.proofs.Opened.{opened}
 use Rattle.tables.specs.View.{part, rows, view, lane_of, boundary_of, road_of, junction_of, rule_of, stop_line_of, crosswalk_of}
 use Rattle.tables.specs.Formed.{all_clear, spans, lane_formed, rule_formed, formed, sound_tables}
 use Rattle.store.specs.Store.{lane_onto, boundary_onto, road_onto, junction_onto, rule_onto, writes, packed, store_rows, store}
-use Rattle.report.specs.Report.{listed, warned}
-use Rattle.report.specs.declared.Answer.{Answer}
-use Rattle.report.specs.declared.Answer.TheVariants.{Changed, Refused}
+use Rattle.report.specs.Report.{listed, warned, Answer, changed}
 use Rattle.store.specs.Store.{room_of}
 use Rattle.step.specs.Step.{Ended, ended, step}
 use Rattle.step.specs.Run.{Held, Lending, lend, held_in, map_in, call_on, run_tables, closings}
@@ -92,8 +91,8 @@ links-asked = refl
 
 -- two lanes modified; refusal 4 of lane 1
 pub answers-asked :
-    let two-modified : Answer = Changed (record { created = 0; modified = 2; deleted = 0; warnings = 0 }) in
-    map (λ e. e.answer) (asked (connects ∷ refuses ∷ disconnects ∷ [])) ≡ two-modified ∷ Refused (OwnPartner 1) ∷ two-modified ∷ []
+    let two-modified : Answer = changed (record { created = 0; modified = 2; deleted = 0; warnings = 0 }) in
+    map (λ e. e.answer) (asked (connects ∷ refuses ∷ disconnects ∷ [])) ≡ two-modified ∷ Err (OwnPartner 1) ∷ two-modified ∷ []
 unfolding opened-tables opened
 answers-asked = refl
 
@@ -146,8 +145,8 @@ removes = record { command = O.RemoveLane 2; created = []; modified = replicate 
 pub case_6 :
     run_tables preset (removes ∷ connects ∷ []) pair
     ≡ ended (lend single (record { command = O.RemoveLane 2; created = []; modified = 0 ∷ 1 ∷ []; deleted = 0 ∷ 2 ∷ 1 ∷ 103 ∷ []; warnings = [] }))
-    (Changed (record { created = 0; modified = 1; deleted = 2; warnings = 0 }))
-    ∷ ended (lend single connects) (Refused (LaneAbsent 2))
+    (changed (record { created = 0; modified = 1; deleted = 2; warnings = 0 }))
+    ∷ ended (lend single connects) (Err (LaneAbsent 2))
     ∷ []
 unfolding opened-tables opened
 case_6 = refl

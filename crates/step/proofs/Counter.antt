@@ -1,8 +1,8 @@
 -- What the counter becomes follows from the answer, on any memory that is lent. Assumes nothing.
+use Rattle.std.specs.Prelude.{Option, None, Some, Err, Ok}
 use mathlib.Core.Path.{◌≡◌, refl, sym, ap, ◌∙◌, subst}
 use Prim.Native.Nat.{ℕ, ◌≤◌, ◌<◌, ◌^◌}
 use mathlib.Core.Bool.{Bool, true, false, cond, ◌&&◌}
-use mathlib.Core.Option.{Option, none, some}
 use native.Mathlib.Omega.{arith}
 use lib.Dec.{leb}
 use lib.ListN.{length}
@@ -15,8 +15,7 @@ use Rattle.rules.specs.Ops as O
 use Rattle.laws.proofs.Allocated.{allocated}
 use Rattle.tables.specs.Formed.{sound_tables}
 use Rattle.store.specs.Store.{room_of}
-use Rattle.report.specs.Report.{counter_behind, accepting}
-use Rattle.report.specs.declared.Answer.{Answer}
+use Rattle.report.specs.Report.{counter_behind, accepting, Answer}
 use Rattle.step.specs.Step.{Lent, Ended, step, state_of, lists_of, refusing, changing, ended}
 use Rattle.step.proofs.Steps.{step_unsound, step-refused, step_exhausted, step-decided}
 
@@ -27,7 +26,7 @@ state_after l e = record { map = e.result; counter = O.counter_after l.counter e
 -- ---- what holds of every refusal, and of every edit that has its ids, holds of every call
 
 module _ (P : Ended → Type 0) (tol : Tolerance) (c : O.Command) (l : Lent) (no : (r : Refusal) → P (refusing l r))
-    (yes : (e : E.Edited) → O.edit tol c (state_of l) ≡ E.yield e → leb (O.counter_after l.counter e.ids) last_counter ≡ true
+    (yes : (e : E.Edited) → O.edit tol c (state_of l) ≡ Ok e → leb (O.counter_after l.counter e.ids) last_counter ≡ true
     → P (changing c l (state_after l e) e.changes e.second)) where
   by_tests : (e : E.Edited) → P (changing c l (state_after l e) e.changes e.second) → (fits : Bool)
       → P (cond fits (changing c l (state_after l e) e.changes e.second) (refusing l NoRoom))
@@ -35,8 +34,8 @@ module _ (P : Ended → Type 0) (tol : Tolerance) (c : O.Command) (l : Lent) (no
   by_tests e t false = no NoRoom
 
   by-edit : sound_tables l.counter l.tables ≡ true → (r : E.Res E.Edited) → O.edit tol c (state_of l) ≡ r → P (step tol c l)
-  by-edit h (E.refuse r) y = subst P (step-refused tol c l h r y) (no r)
-  by-edit h (E.yield e) y = ids (leb (O.counter_after l.counter e.ids) last_counter) refl
+  by-edit h (Err r) y = subst P (step-refused tol c l h r y) (no r)
+  by-edit h (Ok e) y = ids (leb (O.counter_after l.counter e.ids) last_counter) refl
     where
       ids : (b : Bool) → leb (O.counter_after l.counter e.ids) last_counter ≡ b → P (step tol c l)
       ids false i = subst P (step_exhausted tol c l h e y i) (no NoIds)
@@ -54,8 +53,8 @@ module _ (P : Ended → Type 0) (tol : Tolerance) (c : O.Command) (l : Lent) (no
 
 -- an accepted answer has as many entities as were created
 behind : (k : ℕ) (cs : ChangeSet) (second : Option ℕ) → O.counter_after k (length cs.created) ≡ counter_behind k (accepting cs second)
-behind k cs none = refl
-behind k cs (some second) = refl
+behind k cs None = refl
+behind k cs (Some second) = refl
 
 module _ (tol : Tolerance) (c : O.Command) (l : Lent) where
   pub step-counter : (step tol c l).lent.counter ≡ counter_behind l.counter (step tol c l).answer

@@ -1,8 +1,8 @@
 -- What an accepted call keeps of lent memory, and demand 3 over every list of calls whose commands keep it and are lawful. Assumes nothing.
+use Rattle.std.specs.Prelude.{Option, Err, Ok}
 use mathlib.Core.Path.{◌≡◌, refl, sym, ap, ◌∙◌, subst}
 use mathlib.Core.Bool.{Bool, true, false, cond}
 use mathlib.Core.List.{List, [], ◌∷◌, map}
-use mathlib.Core.Option.{Option}
 use Prim.{Unit, tt}
 use Prim.Native.Nat.{ℕ, ◌-◌, ◌/◌}
 use native.Mathlib.Omega.{arith}
@@ -11,7 +11,7 @@ use lib.ListN.{get_or}
 use Rattle.rules.specs.Names.{Tolerance, Refusal, Unsound, NoRoom, NoIds}
 use Rattle.rules.specs.Sound.{Room, Lists, sound, fits_room, last_counter}
 use Rattle.entities.specs.Records.{Map, ChangeSet}
-use Rattle.rules.specs.Edit.{Res, refuse, yield, ◌>>=◌, check, Edited}
+use Rattle.rules.specs.Edit.{Res, ◌>>=◌, check, Edited}
 use Rattle.rules.specs.Ops as O
 use Rattle.rules.specs.Demand.{Told}
 use Rattle.laws.proofs.Law.{Lawful, AllLawful, step_kept, demand_3}
@@ -77,21 +77,21 @@ not-accepted r cs second e = let z : ◌≡◌ {A = ℕ} 0 1 = cc in nothing z
     nothing z = omega arith
 
 finish-yields : (room : Room) (ls : Lists) (s : O.State) (cs : ChangeSet) (second : Option ℕ) (r : Res Edited) → (O.finish room ls s r).answer ≡ O.accepted cs second
-    → (e : Edited) × (r ≡ yield e) × ((O.finish room ls s r).state ≡ (O.accepted_as s e).state) × (fits_room room e.result ≡ true)
-finish-yields room ls s cs second (refuse r) a = absurd (not-accepted r cs second a)
-finish-yields room ls s cs second (yield e) a = settles (leb (O.counter_after s.counter e.ids) last_counter) (fits_room room e.result) refl a
+    → (e : Edited) × (r ≡ Ok e) × ((O.finish room ls s r).state ≡ (O.accepted_as s e).state) × (fits_room room e.result ≡ true)
+finish-yields room ls s cs second (Err r) a = absurd (not-accepted r cs second a)
+finish-yields room ls s cs second (Ok e) a = settles (leb (O.counter_after s.counter e.ids) last_counter) (fits_room room e.result) refl a
   where
     Made : O.Outcome → Type 0
-    Made o = (d : Edited) × (◌≡◌ {A = Res Edited} (yield e) (yield d)) × (o.state ≡ (O.accepted_as s d).state) × (fits_room room d.result ≡ true)
+    Made o = (d : Edited) × (◌≡◌ {A = Res Edited} (Ok e) (Ok d)) × (o.state ≡ (O.accepted_as s d).state) × (fits_room room d.result ≡ true)
 
-    lists : fits_room room e.result ≡ true → (l : Bool) → (O.outcome_of s (check l NoRoom >>= (λ _. yield e))).answer ≡ O.accepted cs second
-        → Made (O.outcome_of s (check l NoRoom >>= (λ _. yield e)))
+    lists : fits_room room e.result ≡ true → (l : Bool) → (O.outcome_of s (check l NoRoom >>= (λ _. Ok e))).answer ≡ O.accepted cs second
+        → Made (O.outcome_of s (check l NoRoom >>= (λ _. Ok e)))
     lists fits true b = (e, refl, refl, fits)
     lists fits false b = absurd (not-accepted NoRoom cs second b)
 
     settles : (p q : Bool) → fits_room room e.result ≡ q
-        → (O.outcome_of s (O.listable ls (check p NoIds >>= (λ _. (check q NoRoom >>= (λ _. yield e)))))).answer ≡ O.accepted cs second
-        → Made (O.outcome_of s (O.listable ls (check p NoIds >>= (λ _. (check q NoRoom >>= (λ _. yield e))))))
+        → (O.outcome_of s (O.listable ls (check p NoIds >>= (λ _. (check q NoRoom >>= (λ _. Ok e)))))).answer ≡ O.accepted cs second
+        → Made (O.outcome_of s (O.listable ls (check p NoIds >>= (λ _. (check q NoRoom >>= (λ _. Ok e))))))
     settles false q fits b = absurd (not-accepted NoIds cs second b)
     settles true false fits b = absurd (not-accepted NoRoom cs second b)
     settles true true fits b = lists fits (O.fits_lists ls e.changes) b
@@ -103,7 +103,7 @@ module _ (tol : Tolerance) (c : O.Command) (l : Lent) (s : sound_tables l.counte
   closed-accepted = closed tol c l s ∙ ap (closing c l (outcome tol c l).state) a
 
   -- the edit behind it, and that its result has room
-  pub accepted-edit : (e : Edited) × (O.edit tol c (state_of l) ≡ yield e) × ((outcome tol c l).state ≡ (O.accepted_as (state_of l) e).state)
+  pub accepted-edit : (e : Edited) × (O.edit tol c (state_of l) ≡ Ok e) × ((outcome tol c l).state ≡ (O.accepted_as (state_of l) e).state)
       × (fits_room (room_of l.tables) e.result ≡ true)
   unfolding O.step_map
   accepted-edit =
@@ -133,7 +133,7 @@ Writable w counter t e =
 -- of every edit of a command, on any sound memory
 abbrev pub Writes : Tolerance → O.Command → Type 0
 Writes tol c =
-    (counter : ℕ) (t : Tables) → sound_tables counter t ≡ true → (e : Edited) → O.edit tol c (record { map = view t; counter = counter }) ≡ yield e
+    (counter : ℕ) (t : Tables) → sound_tables counter t ≡ true → (e : Edited) → O.edit tol c (record { map = view t; counter = counter }) ≡ Ok e
     → Writable (writing c) counter t e
 
 -- A lawful command whose results can be written keeps lent memory.

@@ -14,8 +14,7 @@ use Rattle.tables.specs.View.{part, rows, view, lane_of, boundary_of, road_of, j
 use Rattle.tables.specs.Formed.{all_clear, spans, lane_formed, rule_formed, formed, sound_tables}
 use Rattle.store.specs.Store.{lane_onto, boundary_onto, road_onto, junction_onto, rule_onto, writes, packed, store_rows, store}
 use Rattle.store.specs.Laid.{placed, lane_laid, boundary_laid, stop_laid, crosswalk_laid, laid}
-use Rattle.report.specs.Report.{listed, warned}
-use Rattle.report.specs.declared.Answer.TheVariants.{Changed, Split}
+use Rattle.report.specs.Report.{listed, warned, changed, divided}
 use Rattle.step.specs.Step.{ended, step}
 use Rattle.step.specs.Run.{Held, Lending, lend, run_tables, closings}
 
@@ -100,9 +99,9 @@ whole-sound = refl
 pub split-and-merged :
     run_tables preset (lending splits (replicate 6 0) (replicate 6 0) [] ∷ lending merges [] (replicate 6 0) (replicate 6 0) ∷ []) whole
     ≡ ended (lend halved (lending splits (0 ∷ 105 ∷ 1 ∷ 103 ∷ 1 ∷ 104 ∷ []) (0 ∷ 1 ∷ 1 ∷ 101 ∷ 1 ∷ 102 ∷ []) []))
-    (Split (record { created = 3; modified = 3; deleted = 0; warnings = 0 }) 105)
+    (divided (record { created = 3; modified = 3; deleted = 0; warnings = 0 }) 105)
     ∷ ended (lend rejoined (lending merges [] (0 ∷ 1 ∷ 1 ∷ 101 ∷ 1 ∷ 102 ∷ []) (0 ∷ 105 ∷ 1 ∷ 103 ∷ 1 ∷ 104 ∷ [])))
-    (Changed (record { created = 0; modified = 3; deleted = 3; warnings = 0 }))
+    (changed (record { created = 0; modified = 3; deleted = 3; warnings = 0 }))
     ∷ []
 unfolding opened-tables opened
 split-and-merged = refl

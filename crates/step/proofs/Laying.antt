@@ -1,4 +1,5 @@
 -- merge_lanes and split_lane keep lent memory: all lines of the new map are laid out anew. Assumes nothing.
+use Rattle.std.specs.Prelude.{Ok}
 use mathlib.Core.Path.{◌≡◌, refl, subst}
 use mathlib.Core.Bool.{Bool, true, not}
 use mathlib.Core.List.{List, [], ◌∷◌, map}
@@ -13,7 +14,7 @@ use Rattle.entities.specs.Records.{Lane, Boundary, Rule, Map}
 use Rattle.rules.specs.Names.{Tolerance, Left, Right, SplitAt, NotMergeable, NoUsableLine, PositionOutside}
 use Rattle.rules.specs.Map.{centerline, flat_point}
 use Rattle.rules.specs.Sound.{next_id}
-use Rattle.rules.specs.Edit.{Res, yield, ◌>>=◌, check, require, require_lane, Edited}
+use Rattle.rules.specs.Edit.{Res, ◌>>=◌, check, require, require_lane, Edited}
 use Rattle.rules.specs.Lane.{road_lanes, junction_lanes, rule_lanes}
 use Rattle.rules.specs.Merge.{SidePlan, side_plan, replace_lane, merged, merge_lanes}
 use Rattle.rules.specs.Split.{LanePlan, Piece, pieces_ids, halves, cut_station, cuttable, lane_plans, all_cross, cut, group_of, split_lane}
@@ -31,7 +32,7 @@ use Rattle.step.proofs.Relinking.{goes_on}
 
 -- ---- a map laid out anew
 
-laid-writable : (counter : ℕ) (t : Tables) → sound_tables counter t ≡ true → (d e : Edited) → SameBeside t d.result → yield d ≡ yield e → Writable laid counter t e
+laid-writable : (counter : ℕ) (t : Tables) → sound_tables counter t ≡ true → (d e : Edited) → SameBeside t d.result → ◌≡◌ {A = Res Edited} (Ok d) (Ok e) → Writable laid counter t e
 laid-writable counter t s d e same h =
     let next = O.counter_after counter d.ids in
     let m = d.result in
@@ -106,16 +107,16 @@ module _ (tol : Tolerance) (i : ℕ) (at : SplitAt) (neighbors : Bool) where
   abbrev planning : ℕ → Map → Float → Point2 → Res Edited
   planning next m f p =
       let ls = cut_of m (group_of m i neighbors) in
-      lane_plans tol m i f p ls >>= (λ ps. all_cross m p ls >>= (λ ok. yield (cutting next m p ps)))
+      lane_plans tol m i f p ls >>= (λ ps. all_cross m p ls >>= (λ ok. Ok (cutting next m p ps)))
 
-  planned-writes : (counter : ℕ) (t : Tables) → sound_tables counter t ≡ true → (e : Edited) (f : Float) (p : Point2) → planning (next_id counter) (view t) f p ≡ yield e
+  planned-writes : (counter : ℕ) (t : Tables) → sound_tables counter t ≡ true → (e : Edited) (f : Float) (p : Point2) → planning (next_id counter) (view t) f p ≡ Ok e
       → Writable laid counter t e
   planned-writes counter t s e f p h =
       let m = view t in
       let next = next_id counter in
       let ls = cut_of m (group_of m i neighbors) in
-      let (ps, h1) = goes_on (lane_plans tol m i f p ls) (λ ps. all_cross m p ls >>= (λ ok. yield (cutting next m p ps))) e h in
-      let (ok, h2) = goes_on (all_cross m p ls) (λ ok. yield (cutting next m p ps)) e h1 in
+      let (ps, h1) = goes_on (lane_plans tol m i f p ls) (λ ps. all_cross m p ls >>= (λ ok. Ok (cutting next m p ps))) e h in
+      let (ok, h2) = goes_on (all_cross m p ls) (λ ok. Ok (cutting next m p ps)) e h1 in
       laid-writable counter t s (cutting next m p ps) e (cut-beside tol next t i (group_of m i neighbors) ps (pieces_of m (group_of m i neighbors) p next)) h2
 
   split-writes : Writes tol (O.SplitLane i at neighbors)

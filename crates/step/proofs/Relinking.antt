@@ -1,17 +1,17 @@
 -- connect, disconnect and set_neighbor keep lent memory. Assumes nothing.
+use Rattle.std.specs.Prelude.{Option, Err, Ok}
+use Rattle.entities.specs.declared.Neighbor.{Neighbor}
 use mathlib.Core.Path.{◌≡◌, refl, ap, ◌∙◌, subst}
 use mathlib.Core.Bool.{true, not, cond}
 use mathlib.Core.List.{List, [], ◌∷◌, map}
 use Prim.Native.Nat.{ℕ}
 use lib.Dec.{eqb}
 use lib.ListN.{length}
-use Rattle.entities.specs.declared.OptionNeighbor.{OptionNeighbor}
-use Rattle.entities.specs.Types.{neighbor_option}
 use Rattle.entities.specs.Records.{Lane, Issue}
 use Rattle.rules.specs.Names.{Tolerance, Side, EntityRef, OwnPartner}
 use Rattle.rules.specs.Map.{neighbor_on}
 use Rattle.rules.specs.Sound.{sound}
-use Rattle.rules.specs.Edit.{Res, refuse, yield, ◌>>=◌, check, Edited, require_lane, require_neighbor, relinking, with_lanes, link_in, link_out, reslotted, slot_after, slot_in, same_slot, connect, disconnect, set_neighbor}
+use Rattle.rules.specs.Edit.{Res, ◌>>=◌, check, Edited, require_lane, require_neighbor, relinking, with_lanes, link_in, link_out, reslotted, slot_after, slot_in, same_slot, connect, disconnect, set_neighbor}
 use Rattle.rules.specs.Ops as O
 use Rattle.laws.proofs.Lawful.{yields, no-yield, connect-lawful, disconnect-lawful, set_neighbor_lawful}
 use Rattle.tables.specs.View.{Tables, view}
@@ -41,15 +41,15 @@ mapped-held counter t s f same line sane =
         n ∷ length t.boundaries ∷ length t.roads ∷ length t.junctions ∷ length t.rules ∷ length t.stop_lines ∷ length t.crosswalks ∷ length t.coordinates ∷ []
 
 relinking-writable : (counter : ℕ) (t : Tables) → sound_tables counter t ≡ true → (f : Lane → Lane) → ((l : Lane) → (f l).id ≡ l.id) → ((l : Lane) → (f l).centerline ≡ l.centerline)
-    → (modified : List EntityRef) (ws : List Issue) (e : Edited) → yield (relinking (with_lanes (map f (view t).lanes) (view t)) modified ws) ≡ yield e → Writable store counter t e
+    → (modified : List EntityRef) (ws : List Issue) (e : Edited) → ◌≡◌ {A = Res Edited} (Ok (relinking (with_lanes (map f (view t).lanes) (view t)) modified ws)) (Ok e) → Writable store counter t e
 relinking-writable counter t s f same line modified ws e h = subst (Writable store counter t) (yields h) (λ sane room. mapped-held counter t s f same line sane)
 
 -- ---- the three edits
 
 -- what a step that yields goes on with
-pub goes_on : {A B : Type 0} (x : Res A) (k : A → Res B) (e : B) → (x >>= k) ≡ yield e → (a : A) × (k a ≡ yield e)
-goes_on (yield a) k e h = (a, h)
-goes_on (refuse r) k e h = absurd (no-yield r e h)
+pub goes_on : {A B : Type 0} (x : Res A) (k : A → Res B) (e : B) → (x >>= k) ≡ Ok e → (a : A) × (k a ≡ Ok e)
+goes_on (Ok a) k e h = (a, h)
+goes_on (Err r) k e h = absurd (no-yield r e h)
 
 module _ (tol : Tolerance) (a b : ℕ) where
   connect-writes : Writes tol (O.ConnectLanes a b)
@@ -67,10 +67,10 @@ module _ (tol : Tolerance) (a b : ℕ) where
       let (to, h2) = goes_on (require_lane (view t) b) _ e h1 in
       relinking-writable counter t s (link_out a b) (λ l. refl) (λ l. refl) _ _ e h2
 
-set_neighbor_writes : (tol : Tolerance) (a : ℕ) (side : Side) (new : OptionNeighbor) → Writes tol (O.SetNeighbor a side new)
+set_neighbor_writes : (tol : Tolerance) (a : ℕ) (side : Side) (new : Option Neighbor) → Writes tol (O.SetNeighbor a side new)
 unfolding O.edit set_neighbor
 set_neighbor_writes tol a side value counter t s e h =
-    let new = neighbor_option value in
+    let new = value in
     let (l, h1) = goes_on (require_lane (view t) a) _ e h in
     let (ok, h2) = goes_on (require_neighbor (view t) a new) _ e h1 in
     let old = neighbor_on side l in
@@ -82,5 +82,5 @@ connect-keeps tol a b = writes-keep tol (O.ConnectLanes a b) (connect-lawful tol
 pub disconnect-keeps : (tol : Tolerance) (a b : ℕ) → Keeps tol (O.DisconnectLanes a b)
 disconnect-keeps tol a b = writes-keep tol (O.DisconnectLanes a b) (disconnect-lawful tol a b) (disconnect-writes tol a b)
 
-pub set_neighbor_keeps : (tol : Tolerance) (a : ℕ) (side : Side) (new : OptionNeighbor) → Keeps tol (O.SetNeighbor a side new)
+pub set_neighbor_keeps : (tol : Tolerance) (a : ℕ) (side : Side) (new : Option Neighbor) → Keeps tol (O.SetNeighbor a side new)
 set_neighbor_keeps tol a side new = writes-keep tol (O.SetNeighbor a side new) (set_neighbor_lawful tol a side new) (set_neighbor_writes tol a side new)

@@ -1,4 +1,5 @@
 -- remove_lane keeps lent memory. Assumes nothing.
+use Rattle.std.specs.Prelude.{Ok}
 use mathlib.Core.Path.{◌≡◌, refl, subst}
 use mathlib.Core.Bool.{Bool, true, not, ◌&&◌}
 use mathlib.Core.List.{[], ◌∷◌}
@@ -9,7 +10,6 @@ use Rattle.entities.specs.Records.{Lane, Map}
 use Rattle.rules.specs.Names.{Tolerance}
 use Rattle.rules.specs.Map.{uses}
 use Rattle.rules.specs.Sound.{sound}
-use Rattle.rules.specs.Edit.{yield}
 use Rattle.rules.specs.Lane.{forgetting, road_lanes, junction_lanes, rule_lanes, remove_lane}
 use Rattle.rules.specs.Ops as O
 use Rattle.laws.proofs.Lawful.{yields, required}
@@ -50,7 +50,7 @@ removed-held counter t s a gone sane =
 remove-writes : (tol : Tolerance) (a : ℕ) → Writes tol (O.RemoveLane a)
 unfolding O.edit remove_lane
 remove-writes tol a counter t s e h =
-    let (gone, found, h1) = required (view t) a (λ gone. yield (removing a gone (view t))) e h in
+    let (gone, found, h1) = required (view t) a (λ gone. Ok (removing a gone (view t))) e h in
     subst (Writable store counter t) (yields h1) (λ sane room. removed-held counter t s a gone sane)
 
 pub remove-keeps : (tol : Tolerance) (a : ℕ) → Keeps tol (O.RemoveLane a)

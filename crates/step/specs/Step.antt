@@ -1,6 +1,5 @@
 -- One call of the editor on lent memory: document 01's edits and refusals on the map that it holds, written back.
-use Rattle.std.specs.Prelude.{ℕ, ◌/◌, cond, List, length, Float}
-use Rattle.std.proofs.Math.Option.{Option}
+use Rattle.std.specs.Prelude.{ℕ, ◌/◌, cond, List, length, Float, Option, Err}
 use Rattle.entities.specs.Records.{Map, ChangeSet}
 use Rattle.rules.specs.Names.{Tolerance, Refusal, Unsound}
 use Rattle.rules.specs.Sound.{Lists}
@@ -10,9 +9,7 @@ use Rattle.tables.specs.View.{Tables, view}
 use Rattle.tables.specs.Formed.{sound_tables}
 use Rattle.store.specs.Store.{store, room_of}
 use Rattle.store.specs.Laid.{laid}
-use Rattle.report.specs.Report.{listed, warned, accepting}
-use Rattle.report.specs.declared.Answer.{Answer}
-use Rattle.report.specs.declared.Answer.TheVariants.{Refused}
+use Rattle.report.specs.Report.{listed, warned, accepting, Answer}
 
 -- ---- what is lent, and what a call leaves
 
@@ -46,7 +43,7 @@ state_of l = record { map = view l.tables; counter = l.counter }
 
 -- Each refusal "returns its number and one entity .. and changes nothing lent".
 abbrev pub refusing : Lent → Refusal → Ended
-refusing l r = record { lent = l; answer = Refused r }
+refusing l r = record { lent = l; answer = Err r }
 
 -- How a map is written back: connect, disconnect, set_neighbor and remove_lane leave every line where it is; split_lane and merge_lanes lay all lines
 -- of the new map out anew.

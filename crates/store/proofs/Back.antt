@@ -1,10 +1,10 @@
 -- Reading back what was written: rows, and whole maps. Assumes nothing.
+use Rattle.std.specs.Prelude.{Option, None, Some}
 use mathlib.Core.Path.{◌≡◌, refl, sym, ap, ◌∙◌}
 use Prim.Native.Nat.{ℕ, zero, suc, ◌+◌, ◌*◌, ◌≤◌}
 use native.Mathlib.Omega.{arith}
 use mathlib.Core.Bool.{Bool, true, false, not, cond, ◌&&◌, ◌||◌, true≢false}
 use mathlib.Core.List.{List, [], ◌∷◌, ◌++◌, map, append_assoc, append-nil}
-use mathlib.Core.Option.{Option, none, some}
 use lib.ListN.{length, get_or, take, drop, length-append, length-drop, length-take}
 use lib.Seq.{get_or-drop, drop-drop, length-take-le, take_at, drop_at}
 use lib.Dec.{eqb, leb}
@@ -100,16 +100,16 @@ flag-back false = refl
 ref_back : (r : BoundaryRef) → record { boundary = r.boundary; reversed = not (eqb (flag r.reversed) 0) } ≡ r
 ref_back r = ap (λ z. record { boundary = r.boundary; reversed = z }) (flag-back r.reversed)
 
-number-back : (old : ℕ) (o : Option ℕ) → cond (not (eqb (present o) 0)) (some (number_or old o)) none ≡ o
-number-back old none = refl
-number-back old (some n) = refl
+number-back : (old : ℕ) (o : Option ℕ) → cond (not (eqb (present o) 0)) (Some (number_or old o)) None ≡ o
+number-back old None = refl
+number-back old (Some n) = refl
 
-slot-back : (old : ℕ) (o : Option Neighbor) → cond (eqb (slot_mark o) 0) none (cond (eqb (slot_mark o) 1) (some (same (slot_lane old o))) (some (opposing (slot_lane old o)))) ≡ o
-slot-back old none = refl
-slot-back old (some n) = go n.lane n.direction
+slot-back : (old : ℕ) (o : Option Neighbor) → cond (eqb (slot_mark o) 0) None (cond (eqb (slot_mark o) 1) (Some (same (slot_lane old o))) (Some (opposing (slot_lane old o)))) ≡ o
+slot-back old None = refl
+slot-back old (Some n) = go n.lane n.direction
   where
     go : (l : ℕ) (d : NeighborDirection)
-        → (let o : Option Neighbor = some (record { lane = l; direction = d }) in cond (eqb (slot_mark o) 0) none (cond (eqb (slot_mark o) 1) (some (same (slot_lane old o))) (some (opposing (slot_lane old o)))) ≡ o)
+        → (let o : Option Neighbor = Some (record { lane = l; direction = d }) in cond (eqb (slot_mark o) 0) None (cond (eqb (slot_mark o) 1) (Some (same (slot_lane old o))) (Some (opposing (slot_lane old o)))) ≡ o)
     go l Same = refl
     go l Opposite = refl
 
@@ -177,16 +177,16 @@ lane-formed w h l few many =
     flag_small false = omega arith
 
     present-small : {A : Type 0} (o : Option A) → present o ≤ 1
-    present-small none = omega arith
-    present-small (some x) = omega arith
+    present-small None = omega arith
+    present-small (Some x) = omega arith
 
     way-small : (d : NeighborDirection) → direction_mark d ≤ 2
     way-small Same = omega arith
     way-small Opposite = omega arith
 
     slot_small : (o : Option Neighbor) → slot_mark o ≤ 2
-    slot_small none = omega arith
-    slot_small (some n) = way-small n.direction
+    slot_small None = omega arith
+    slot_small (Some n) = way-small n.direction
 
 pub boundary-back : (c : List Float) (w : List ℕ) (b : Boundary) → line_at c 2 w ≡ b.geometry → boundary_of c (boundary_onto w b) ≡ b
 unfolding boundary_onto boundary_of
@@ -249,7 +249,7 @@ record Lacks (r : Rule) : Type 0 where
   stops : not (eqb r.kind 5) ≡ false → r.stop_lines ≡ []
   priority : eqb r.kind 3 ≡ false → r.priority ≡ []
   yielding : eqb r.kind 3 ≡ false → r.yielding ≡ []
-  crosswalk : (old : ℕ) → cond (eqb r.kind 4) (some (number_or old r.crosswalk)) none ≡ r.crosswalk
+  crosswalk : (old : ℕ) → cond (eqb r.kind 4) (Some (number_or old r.crosswalk)) None ≡ r.crosswalk
 
 lacks : (r : Rule) → rule_legal r ≡ true → Lacks r
 lacks r h =
@@ -284,11 +284,11 @@ lacks r h =
     other true x n h = absurd (true≢false n)
     other false x n h = h
 
-    walk : (old : ℕ) (b : Bool) (o : Option ℕ) → cond b (given o) (not (given o)) ≡ true → cond b (some (number_or old o)) none ≡ o
-    walk old true none h = absurd (true≢false (sym h))
-    walk old true (some n) h = refl
-    walk old false none h = refl
-    walk old false (some n) h = absurd (true≢false (sym h))
+    walk : (old : ℕ) (b : Bool) (o : Option ℕ) → cond b (given o) (not (given o)) ≡ true → cond b (Some (number_or old o)) None ≡ o
+    walk old true None h = absurd (true≢false (sym h))
+    walk old true (Some n) h = refl
+    walk old false None h = refl
+    walk old false (Some n) h = absurd (true≢false (sym h))
 
 rule-fields : (i k a : ℕ) {x y : ℕ} {o p : Option ℕ} {l m c d s t q r u v : List ℕ} → x ≡ y → o ≡ p → l ≡ m → c ≡ d → s ≡ t → q ≡ r → u ≡ v
     → ◌≡◌ {A = Rule} (record { id = i; kind = k; content = x; attributes = a; crosswalk = o; lanes = l; controlled_crosswalks = c; stop_lines = s; priority = q; yielding = u })

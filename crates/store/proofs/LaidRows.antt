@@ -1,10 +1,10 @@
 -- Lines laid out one after another, and rows whose lines are laid out so: each is read back, keeps its length and says where its line lies. Assumes nothing.
+use Rattle.std.specs.Prelude.{Option, None, Some}
 use mathlib.Core.Path.{◌≡◌, refl, sym, ap, ◌∙◌}
 use Prim.Native.Nat.{ℕ, suc, ◌+◌, ◌-◌, ◌*◌, ◌≤◌}
 use native.Mathlib.Omega.{arith}
 use mathlib.Core.Bool.{true, not, cond}
 use mathlib.Core.List.{List, [], ◌∷◌, ◌++◌, append-nil}
-use mathlib.Core.Option.{Option, none, some}
 use lib.Dec.{eqb}
 use lib.Ieee.{Float}
 use lib.ListN.{length, get_or, take, drop, length-append}
@@ -96,34 +96,34 @@ settled at (l ∷ ls) = record { start = at; size = length l } ∷ settled (at +
 -- a line's words written before the record or behind it: the same row
 center_onto_lem : (w : List ℕ) → length w ≡ 52 → (at : ℕ) (l : Lane) (o : Option Line) → center_onto (lane_onto w l) at o ≡ lane_onto (center_onto w at o) l
 unfolding lane_onto over
-center_onto_lem w h at l none = refl
-center_onto_lem [] h at l (some c) = absurd (omega arith)
-center_onto_lem (x0 ∷ []) h at l (some c) = absurd (omega arith)
-center_onto_lem (x0 ∷ x1 ∷ []) h at l (some c) = absurd (omega arith)
-center_onto_lem (x0 ∷ x1 ∷ x2 ∷ []) h at l (some c) = absurd (omega arith)
-center_onto_lem (x0 ∷ x1 ∷ x2 ∷ x3 ∷ []) h at l (some c) = absurd (omega arith)
-center_onto_lem (x0 ∷ x1 ∷ x2 ∷ x3 ∷ x4 ∷ []) h at l (some c) = absurd (omega arith)
-center_onto_lem (x0 ∷ x1 ∷ x2 ∷ x3 ∷ x4 ∷ x5 ∷ []) h at l (some c) = absurd (omega arith)
-center_onto_lem (x0 ∷ x1 ∷ x2 ∷ x3 ∷ x4 ∷ x5 ∷ x6 ∷ []) h at l (some c) = absurd (omega arith)
-center_onto_lem (x0 ∷ x1 ∷ x2 ∷ x3 ∷ x4 ∷ x5 ∷ x6 ∷ x7 ∷ []) h at l (some c) = absurd (omega arith)
-center_onto_lem (x0 ∷ x1 ∷ x2 ∷ x3 ∷ x4 ∷ x5 ∷ x6 ∷ x7 ∷ x8 ∷ w) h at l (some c) = refl
+center_onto_lem w h at l None = refl
+center_onto_lem [] h at l (Some c) = absurd (omega arith)
+center_onto_lem (x0 ∷ []) h at l (Some c) = absurd (omega arith)
+center_onto_lem (x0 ∷ x1 ∷ []) h at l (Some c) = absurd (omega arith)
+center_onto_lem (x0 ∷ x1 ∷ x2 ∷ []) h at l (Some c) = absurd (omega arith)
+center_onto_lem (x0 ∷ x1 ∷ x2 ∷ x3 ∷ []) h at l (Some c) = absurd (omega arith)
+center_onto_lem (x0 ∷ x1 ∷ x2 ∷ x3 ∷ x4 ∷ []) h at l (Some c) = absurd (omega arith)
+center_onto_lem (x0 ∷ x1 ∷ x2 ∷ x3 ∷ x4 ∷ x5 ∷ []) h at l (Some c) = absurd (omega arith)
+center_onto_lem (x0 ∷ x1 ∷ x2 ∷ x3 ∷ x4 ∷ x5 ∷ x6 ∷ []) h at l (Some c) = absurd (omega arith)
+center_onto_lem (x0 ∷ x1 ∷ x2 ∷ x3 ∷ x4 ∷ x5 ∷ x6 ∷ x7 ∷ []) h at l (Some c) = absurd (omega arith)
+center_onto_lem (x0 ∷ x1 ∷ x2 ∷ x3 ∷ x4 ∷ x5 ∷ x6 ∷ x7 ∷ x8 ∷ w) h at l (Some c) = refl
 
 center_length : (w : List ℕ) → length w ≡ 52 → (at : ℕ) (o : Option Line) → length (center_onto w at o) ≡ 52
-center_length w h at none = h
-center_length w h at (some c) = length_over w 7 (line_words at c) (omega (arith, h)) ∙ h
+center_length w h at None = h
+center_length w h at (Some c) = length_over w 7 (line_words at c) (omega (arith, h)) ∙ h
 
 -- the line, and its span
 center_back : (c : List Float) (w : List ℕ) → length w ≡ 52 → (at : ℕ) (o : Option Line) → Held c at (optional_line o)
-    → (let v = center_onto w at o in cond (not (eqb (present o) 0)) (some (points (part c (word 7 v) (word 8 v)))) none ≡ o)
-center_back c w h at none k = refl
-center_back c w h at (some l) k =
+    → (let v = center_onto w at o in cond (not (eqb (present o) 0)) (Some (points (part c (word 7 v) (word 8 v)))) None ≡ o)
+center_back c w h at None k = refl
+center_back c w h at (Some l) k =
     let e = over-two w 7 at (length l) (omega (arith, h)) in
-    ap some (ap (λ i. points (part c i (word 8 (over w 7 (line_words at l))))) e.0 ∙ (ap (λ n. points (part c at n)) e.1 ∙ held_one c at l k))
+    ap Some (ap (λ i. points (part c i (word 8 (over w 7 (line_words at l))))) e.0 ∙ (ap (λ n. points (part c at n)) e.1 ∙ held_one c at l k))
 
 center_span_lem : (w : List ℕ) → length w ≡ 52 → (at : ℕ) (o : Option Line) → (let v = center_onto w at o in cond (not (eqb (present o) 0)) (span_at 7 v ∷ []) [] ≡ settled at (optional_line o))
 unfolding settled
-center_span_lem w h at none = refl
-center_span_lem w h at (some l) =
+center_span_lem w h at None = refl
+center_span_lem w h at (Some l) =
     let e = over-two w 7 at (length l) (omega (arith, h)) in
     ap (λ i. record { start = i; size = word 8 (over w 7 (line_words at l)) } ∷ []) e.0 ∙ ap (λ n. record { start = at; size = n } ∷ []) e.1
 

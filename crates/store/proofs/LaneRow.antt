@@ -1,11 +1,11 @@
 -- A lane's row with its links and neighbours replaced: its words. Assumes nothing.
+use Rattle.std.specs.Prelude.{Option, None, Some}
 use mathlib.Core.Path.{◌≡◌, refl, sym, ap, ◌∙◌}
 use Prim.Native.Nat.{ℕ, zero, suc, ◌+◌, ◌≤◌, ◌<◌}
 use native.Mathlib.Nat.{add-zero}
 use native.Mathlib.Omega.{arith}
 use mathlib.Core.Bool.{Bool, true, false, not, cond}
 use mathlib.Core.List.{List, [], ◌∷◌, ◌++◌, append-nil}
-use mathlib.Core.Option.{Option, none, some}
 use lib.ListN.{length, get_or, take, drop, length-drop, take-append-drop}
 use lib.Seq.{get_or-drop, drop-drop, length-take-le, take_at, drop_at, drop-cons, take_all}
 use lib.Dec.{eqb}
@@ -54,7 +54,7 @@ flag-mark (suc (suc x)) h = absurd (over-one x h)
     over-one : (x : ℕ) → suc (suc x) ≤ 1 → ⊥
     over-one x h = omega arith
 
-present-mark : {A : Type 0} (x : ℕ) (a : A) → x ≤ 1 → present (cond (not (eqb x 0)) (some a) none) ≡ x
+present-mark : {A : Type 0} (x : ℕ) (a : A) → x ≤ 1 → present (cond (not (eqb x 0)) (Some a) None) ≡ x
 present-mark zero a h = refl
 present-mark (suc zero) a h = refl
 present-mark (suc (suc x)) a h = absurd (over-one x h)
@@ -62,13 +62,13 @@ present-mark (suc (suc x)) a h = absurd (over-one x h)
     over-one : (x : ℕ) → suc (suc x) ≤ 1 → ⊥
     over-one x h = omega arith
 
-number-there : (b : Bool) (y : ℕ) → number_or y (cond b (some y) none) ≡ y
+number-there : (b : Bool) (y : ℕ) → number_or y (cond b (Some y) None) ≡ y
 number-there true y = refl
 number-there false y = refl
 
 -- a slot's words: a mark and a lane
 abbrev held : ℕ → ℕ → Option Neighbor
-held x y = cond (eqb x 0) none (cond (eqb x 1) (some (same y)) (some (opposing y)))
+held x y = cond (eqb x 0) None (cond (eqb x 1) (Some (same y)) (Some (opposing y)))
 
 -- What is known of a row's fields, whatever its words.
 pub record LaneRow (w : List ℕ) : Type 0 where
@@ -80,8 +80,8 @@ pub record LaneRow (w : List ℕ) : Type 0 where
   pub own-right : LaneMarks w → set_slot 16 (slot_at 16 w) w ≡ w
   pub own-before : LaneMarks w → set_list 18 (ids_at 18 w) w ≡ w
   pub own-after : LaneMarks w → set_list 35 (ids_at 35 w) w ≡ w
-  pub clear-left : (v : Option Neighbor) → set_slot 14 v (set_slot 14 none w) ≡ set_slot 14 v w
-  pub clear-right : (v : Option Neighbor) → set_slot 16 v (set_slot 16 none w) ≡ set_slot 16 v w
+  pub clear-left : (v : Option Neighbor) → set_slot 14 v (set_slot 14 None w) ≡ set_slot 14 v w
+  pub clear-right : (v : Option Neighbor) → set_slot 16 v (set_slot 16 None w) ≡ set_slot 16 v w
   pub commute : (u v : Option Neighbor) → set_slot 16 v (set_slot 14 u w) ≡ set_slot 14 u (set_slot 16 v w)
   pub before-kept : LaneMarks w → (rs : List ℕ) → length rs ≤ 16 → ids_at 18 (set_list 35 rs w) ≡ ids_at 18 w
   pub slotted-row : LaneMarks w → (c : List Float) (ln rn : Option Neighbor)
@@ -132,20 +132,20 @@ module _ (x0 x1 x2 x3 x4 x5 x6 x7 x8 x9 x10 x11 x12 x13 a b d e n m : ℕ) (ps s
   set-slots : (ln rn : Option Neighbor) (rest : List ℕ)
       → set_slot 14 ln (set_slot 16 rn (with a b d e rest)) ≡ with (slot_mark ln) (slot_lane b ln) (slot_mark rn) (slot_lane e rn) rest
   unfolding set_slot over
-  set-slots none none rest = refl
-  set-slots none (some r) rest = refl
-  set-slots (some l) none rest = refl
-  set-slots (some l) (some r) rest = refl
+  set-slots None None rest = refl
+  set-slots None (Some r) rest = refl
+  set-slots (Some l) None rest = refl
+  set-slots (Some l) (Some r) rest = refl
 
   set-left : (v : Option Neighbor) (rest : List ℕ) → set_slot 14 v (with a b d e rest) ≡ with (slot_mark v) (slot_lane b v) d e rest
   unfolding set_slot over
-  set-left none rest = refl
-  set-left (some v) rest = refl
+  set-left None rest = refl
+  set-left (Some v) rest = refl
 
   set-right : (v : Option Neighbor) (rest : List ℕ) → set_slot 16 v (with a b d e rest) ≡ with a b (slot_mark v) (slot_lane e v) rest
   unfolding set_slot over
-  set-right none rest = refl
-  set-right (some v) rest = refl
+  set-right None rest = refl
+  set-right (Some v) rest = refl
 
   -- what stands in a slot, written again
   slot-again : (x y : ℕ) → x ≤ 2 → (slot_mark (held x y) ≡ x) × (slot_lane y (held x y) ≡ y)
@@ -214,47 +214,47 @@ module _ (x0 x1 x2 x3 x4 x5 x6 x7 x8 x9 x10 x11 x12 x13 a b d e n m : ℕ) (ps s
     plain-own-slots : set_slot 14 (slot_at 14 row) (set_slot 16 (slot_at 16 row) row) ≡ row
     plain-own-slots = ap (set_slot 14 (slot_at 14 row)) plain-right ∙ plain-left
 
-  plain-clear-left : (v : Option Neighbor) → set_slot 14 v (set_slot 14 none row) ≡ set_slot 14 v row
+  plain-clear-left : (v : Option Neighbor) → set_slot 14 v (set_slot 14 None row) ≡ set_slot 14 v row
   unfolding set_slot over
-  plain-clear-left none = refl
-  plain-clear-left (some v) = refl
+  plain-clear-left None = refl
+  plain-clear-left (Some v) = refl
 
-  plain-clear-right : (v : Option Neighbor) → set_slot 16 v (set_slot 16 none row) ≡ set_slot 16 v row
+  plain-clear-right : (v : Option Neighbor) → set_slot 16 v (set_slot 16 None row) ≡ set_slot 16 v row
   unfolding set_slot over
-  plain-clear-right none = refl
-  plain-clear-right (some v) = refl
+  plain-clear-right None = refl
+  plain-clear-right (Some v) = refl
 
   plain-commute : (u v : Option Neighbor) → set_slot 16 v (set_slot 14 u row) ≡ set_slot 14 u (set_slot 16 v row)
   unfolding set_slot over
-  plain-commute none none = refl
-  plain-commute none (some v) = refl
-  plain-commute (some u) none = refl
-  plain-commute (some u) (some v) = refl
+  plain-commute None None = refl
+  plain-commute None (Some v) = refl
+  plain-commute (Some u) None = refl
+  plain-commute (Some u) (Some v) = refl
 
   -- a slot written over what was written in it
   plain-again-left : (v ln rn : Option Neighbor) → slot_lane (slot_lane b ln) v ≡ slot_lane b v
       → set_slot 14 v (set_slot 14 ln (set_slot 16 rn row)) ≡ set_slot 14 v (set_slot 16 rn row)
   unfolding set_slot over
-  plain-again-left (some v) none none h = refl
-  plain-again-left (some v) none (some r) h = refl
-  plain-again-left (some v) (some l) none h = refl
-  plain-again-left (some v) (some l) (some r) h = refl
-  plain-again-left none none none h = refl
-  plain-again-left none none (some r) h = refl
-  plain-again-left none (some l) none h = ap (λ z. with 0 z 0 e behind) h
-  plain-again-left none (some l) (some r) h = ap (λ z. with 0 z (direction_mark r.direction) r.lane behind) h
+  plain-again-left (Some v) None None h = refl
+  plain-again-left (Some v) None (Some r) h = refl
+  plain-again-left (Some v) (Some l) None h = refl
+  plain-again-left (Some v) (Some l) (Some r) h = refl
+  plain-again-left None None None h = refl
+  plain-again-left None None (Some r) h = refl
+  plain-again-left None (Some l) None h = ap (λ z. with 0 z 0 e behind) h
+  plain-again-left None (Some l) (Some r) h = ap (λ z. with 0 z (direction_mark r.direction) r.lane behind) h
 
   plain-again-right : (v ln rn : Option Neighbor) → slot_lane (slot_lane e rn) v ≡ slot_lane e v
       → set_slot 16 v (set_slot 14 ln (set_slot 16 rn row)) ≡ set_slot 14 ln (set_slot 16 v row)
   unfolding set_slot over
-  plain-again-right (some v) none none h = refl
-  plain-again-right (some v) none (some r) h = refl
-  plain-again-right (some v) (some l) none h = refl
-  plain-again-right (some v) (some l) (some r) h = refl
-  plain-again-right none none none h = refl
-  plain-again-right none (some l) none h = refl
-  plain-again-right none none (some r) h = ap (λ z. with 0 b 0 z behind) h
-  plain-again-right none (some l) (some r) h = ap (λ z. with (direction_mark l.direction) l.lane 0 z behind) h
+  plain-again-right (Some v) None None h = refl
+  plain-again-right (Some v) None (Some r) h = refl
+  plain-again-right (Some v) (Some l) None h = refl
+  plain-again-right (Some v) (Some l) (Some r) h = refl
+  plain-again-right None None None h = refl
+  plain-again-right None (Some l) None h = refl
+  plain-again-right None None (Some r) h = ap (λ z. with 0 b 0 z behind) h
+  plain-again-right None (Some l) (Some r) h = ap (λ z. with (direction_mark l.direction) l.lane 0 z behind) h
 
   plain : LaneRow row
   plain =

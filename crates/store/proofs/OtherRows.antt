@@ -1,11 +1,11 @@
 -- What was read from a row, written there again, changes nothing. Assumes nothing.
+use Rattle.std.specs.Prelude.{None, Some}
 use mathlib.Core.Path.{◌≡◌, refl, sym, ap, ◌∙◌}
 use Prim.Native.Nat.{ℕ, zero, suc, ◌+◌, ◌≤◌, ◌<◌}
 use native.Mathlib.Nat.{add-zero}
 use native.Mathlib.Omega.{arith}
 use mathlib.Core.Bool.{Bool, true, false, not, cond, ◌&&◌, ◌||◌, true≢false}
 use mathlib.Core.List.{List, [], ◌∷◌, ◌++◌, append-nil}
-use mathlib.Core.Option.{none, some}
 use lib.ListN.{length, get_or, take, drop, length-drop, take-append-drop, drop_of_length-le}
 use lib.Seq.{drop-drop, length-take-le, drop-cons, take_all, take-take}
 use lib.Dec.{eqb, leb}
@@ -146,7 +146,7 @@ rule-same w h f =
     content true x = refl
     content false x = refl
 
-    crosswalk : (b : Bool) (x : ℕ) → number_or x (cond b (some x) none) ≡ x
+    crosswalk : (b : Bool) (x : ℕ) → number_or x (cond b (Some x) None) ≡ x
     crosswalk true x = refl
     crosswalk false x = refl
 

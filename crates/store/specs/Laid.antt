@@ -1,7 +1,6 @@
 -- How a map is written back when lines are made, joined or cut: split_lane and merge_lanes. All lines are laid out anew, one after another from
 -- point 0: boundaries, centrelines, stop lines, crosswalks' left edges, their right edges. What is not used stays, as in `store`.
-use Rattle.std.specs.Prelude.{ℕ, ◌+◌, List, [], ◌∷◌, map, length}
-use Rattle.std.proofs.Math.Option.{Option, none, some}
+use Rattle.std.specs.Prelude.{ℕ, ◌+◌, List, [], ◌∷◌, map, length, Option, None, Some}
 use Rattle.lists.specs.Rows.{over}
 use Rattle.lists.specs.Select.{each}
 use Rattle.polyline.specs.Polyline.{flat}
@@ -30,8 +29,8 @@ line_words at c = at ∷ length c ∷ []
 
 -- a centreline's words, where there is one
 abbrev pub center_onto : List ℕ → ℕ → Option Line → List ℕ
-center_onto w at none = w
-center_onto w at (some c) = over w lane_centerline_start (line_words at c)
+center_onto w at None = w
+center_onto w at (Some c) = over w lane_centerline_start (line_words at c)
 
 unfoldable pub lane_laid : List ℕ → ℕ × Lane → List ℕ
 lane_laid w r = center_onto (lane_onto w r.1) r.0 r.1.centerline

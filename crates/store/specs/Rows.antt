@@ -1,6 +1,5 @@
 -- Rows of a table changed one by one, in words. Nothing that a host calls rests on this page.
-use Rattle.std.specs.Prelude.{ℕ, zero, suc, ◌+◌, ◌*◌, Bool, not, ◌||◌, cond, List, [], ◌∷◌, ◌++◌, eqb, length, take, drop}
-use Rattle.std.proofs.Math.Option.{Option, none, some}
+use Rattle.std.specs.Prelude.{ℕ, zero, suc, ◌+◌, ◌*◌, Bool, not, ◌||◌, cond, List, [], ◌∷◌, ◌++◌, eqb, length, take, drop, Option, None, Some}
 use Rattle.lists.specs.Rows.{over}
 use Rattle.lists.specs.Select.{keep, each}
 use Rattle.entities.specs.declared.Neighbor.{Neighbor}
@@ -40,8 +39,8 @@ keyed id g r = cond (eqb (word row_id r) id) (g r) r
 
 -- a neighbour's mark and lane; of an absent one the mark alone
 abbrev pub slot_words : Option Neighbor → List ℕ
-slot_words none = 0 ∷ []
-slot_words (some n) = direction_mark n.direction ∷ n.lane ∷ []
+slot_words None = 0 ∷ []
+slot_words (Some n) = direction_mark n.direction ∷ n.lane ∷ []
 
 unfoldable pub set_slot : ℕ → Option Neighbor → List ℕ → List ℕ
 set_slot k v w = over w k (slot_words v)

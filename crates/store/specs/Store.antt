@@ -1,7 +1,6 @@
 -- How a map is written back into lent memory. What is not used stays: a list's slots past its count, a table's words past its last row, the words of
 -- a thing that is absent. A row that moves up when another goes takes all its words along.
-use Rattle.std.specs.Prelude.{ℕ, ◌-◌, ◌/◌, Bool, true, false, not, cond, List, [], ◌∷◌, ◌++◌, map, eqb, length, take, drop}
-use Rattle.std.proofs.Math.Option.{Option, none, some}
+use Rattle.std.specs.Prelude.{ℕ, ◌-◌, ◌/◌, Bool, true, false, not, cond, List, [], ◌∷◌, ◌++◌, map, eqb, length, take, drop, Option, None, Some}
 use Rattle.lists.specs.Rows.{reads, over}
 use Rattle.lists.specs.Select.{keep, each, has}
 use Rattle.entities.specs.declared.Neighbor.{Neighbor}
@@ -25,13 +24,13 @@ flag false = 0
 flag true = 1
 
 abbrev pub present : {A : Type 0} → Option A → ℕ
-present none = 0
-present (some a) = 1
+present None = 0
+present (Some a) = 1
 
 -- the number, or the word that is there
 abbrev pub number_or : ℕ → Option ℕ → ℕ
-number_or old none = old
-number_or old (some n) = n
+number_or old None = old
+number_or old (Some n) = n
 
 -- 0 none, 1 same direction, 2 opposite
 abbrev pub direction_mark : NeighborDirection → ℕ
@@ -39,12 +38,12 @@ direction_mark Same = 1
 direction_mark Opposite = 2
 
 abbrev pub slot_mark : Option Neighbor → ℕ
-slot_mark none = 0
-slot_mark (some n) = direction_mark n.direction
+slot_mark None = 0
+slot_mark (Some n) = direction_mark n.direction
 
 abbrev pub slot_lane : ℕ → Option Neighbor → ℕ
-slot_lane old none = old
-slot_lane old (some n) = n.lane
+slot_lane old None = old
+slot_lane old (Some n) = n.lane
 
 -- a count, and the ids over the slots
 abbrev pub ids_onto : List ℕ → List ℕ → List ℕ

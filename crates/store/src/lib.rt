@@ -27,12 +27,10 @@ pub fn keep_rows(t: &mut [u64], s: usize, a: u64, b: u64)
     ensures { t.new ≡ kept_rows s (stays a b) t.old }
 {
     let n = t[0] as usize;
-    let mut i = 0;
     let mut kept = 0;
-    while i < n {
+    for i in 0..n {
         let id = t[1 + i * s];
         kept = keep_row(t, s, both(id != a, id != b), i, kept);
-        i += 1;
     }
     t[0] = kept as u64;
 }
@@ -43,13 +41,11 @@ pub fn drop_rows(t: &mut [u64], s: usize, gone: &[u64])
     ensures { t.new ≡ kept_rows s (λ i. not (has i gone.now)) t.old }
 {
     let n = t[0] as usize;
-    let mut i = 0;
     let mut kept = 0;
-    while i < n {
+    for i in 0..n {
         let id = t[1 + i * s];
         let stay = !lists::contains(gone, id);
         kept = keep_row(t, s, stay, i, kept);
-        i += 1;
     }
     t[0] = kept as u64;
 }

@@ -7,11 +7,11 @@ use lib.ListN.{length, get_or, drop, drop_of_length-le}
 use lib.Seq.{drop-cons}
 use Rattle.stream.specs.Digest.{mix, digest_by}
 
-module _ {A : Type 0} (f : A → ℕ) (l : List A) (i state : ℕ) where
-  pub taken_in : (d : A) (next : ℕ) → i < length l → next ≡ mix state (f (get_or l i d)) → digest_by f next (drop (i + 1) l) ≡ digest_by f state (drop i l)
+module _ {A : Type 0} (f : A → ℕ) (l : List A) (i state whole : ℕ) (p : digest_by f state (drop i l) ≡ whole) where
+  pub taken_in : (x : A) (word next : ℕ) → i < length l → x ≡ get_or l i x → word ≡ f x → next ≡ mix state word → digest_by f next (drop (i + 1) l) ≡ whole
   unfolding digest_by
-  taken_in d next h e = rw (add-one, drop-cons l i d h, e)
+  taken_in x word next h here w e = rw (add-one, e, w, here) (rw (drop-cons l i x h) at p)
 
-  pub all_in : length l ≤ i → digest_by f state (drop i l) ≡ state
+  pub all_in : length l ≤ i → state ≡ whole
   unfolding digest_by
-  all_in h = rw (drop_of_length-le l h)
+  all_in h = rw (drop_of_length-le l h) at p

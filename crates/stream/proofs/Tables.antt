@@ -25,29 +25,41 @@ module _ {A : Type 0} (f : ℕ → A) (s : List ℕ) where
   begins-behind n at = rw (sub-zero n)
 
   -- Of n places those before i are read, and the stream is at `at`.
-  module _ (n i at next : ℕ) (h : i < n) (e : next ≡ behind s at) where
-    left : n - i ≡ suc (n - (i + 1))
-    left = omega arith
+  module _ (n i at : ℕ) where
+    -- the number there, into place i
+    module _ (r : Taken) (h : i < n) (e : r ≡ record { value = number_at s at; next = behind s at }) where
+      left : n - i ≡ suc (n - (i + 1))
+      left = omega arith
 
-    pub turn : (t : List A) (v : A) → i < length t → v ≡ f (number_at s at) → take (i + 1) (set t i v) ++ read_by f (n - (i + 1)) s next ≡ take i t ++ read_by f (n - i) s at
-    unfolding read_by
-    turn t v l p = rw (add-one i, take-suc-set t i v l, append_snoc, left, p, e, add-one i)
+      one-more : (t : List A) (v : A) → i < length t → v ≡ f r.value → take (i + 1) (set t i v) ++ read_by f (n - (i + 1)) s r.next ≡ take i t ++ read_by f (n - i) s at
+      unfolding read_by
+      one-more t v l p = rw (add-one i, take-suc-set t i v l, append_snoc, left, p, e, add-one i)
 
-    pub turn-behind : behind_all (n - (i + 1)) s next ≡ behind_all (n - i) s at
-    unfolding behind_all
-    turn-behind = rw (left, e)
+      one-behind : behind_all (n - (i + 1)) s r.next ≡ behind_all (n - i) s at
+      unfolding behind_all
+      one-behind = rw (left, e)
 
-  module _ (n i at : ℕ) (h : n ≤ i) where
-    none_left : n - i ≡ 0
-    none_left = omega arith
+      pub turn : (t whole : List A) (v : A) → length t ≡ n → v ≡ f r.value → take i t ++ read_by f (n - i) s at ≡ whole
+          → take (i + 1) (set t i v) ++ read_by f (n - (i + 1)) s r.next ≡ whole
+      turn t whole v k p q = let l : i < length t = omega arith in one-more t v l p ∙ q
 
-    pub ends : (t : List A) → length t ≡ n → t ≡ take i t ++ read_by f (n - i) s at
-    unfolding read_by
-    ends t k = let l : length t ≤ i = omega arith in rw (none_left, take_all i t l) (sym (append-nil t))
+      pub turn-behind : (end : ℕ) → behind_all (n - i) s at ≡ end → behind_all (n - (i + 1)) s r.next ≡ end
+      turn-behind end q = one-behind ∙ q
 
-    pub ends-behind : at ≡ behind_all (n - i) s at
-    unfolding behind_all
-    ends-behind = rw none_left
+    module _ (h : n ≤ i) where
+      none_left : n - i ≡ 0
+      none_left = omega arith
+
+      pub ends : (t whole : List A) → length t ≡ n → take i t ++ read_by f (n - i) s at ≡ whole → t ≡ whole
+      unfolding read_by
+      ends t whole k q =
+          let l : length t ≤ i = omega arith in
+          let e : t ≡ take i t ++ read_by f (n - i) s at = rw (none_left, take_all i t l) (sym (append-nil t)) in
+          e ∙ q
+
+      pub ends-behind : (end : ℕ) → behind_all (n - i) s at ≡ end → at ≡ end
+      unfolding behind_all
+      ends-behind end q = let e : at ≡ behind_all (n - i) s at = rw none_left in e ∙ q
 
 -- ---- a table into the front of an array
 

@@ -1,7 +1,5 @@
 -- The numbers of a stored stream (oracle/FORMAT.md): seven bits a byte, the least first, the top bit set on all but the last byte.
-use Rattle.std.specs.Prelude.{ℕ, zero, suc, ◌+◌, ◌*◌, ◌%◌, ◌^◌, cond, List, [], ◌∷◌, ltb, get_or, drop, Float}
-use Rattle.std.specs.Float.{binary64}
-use Rattle.std.specs.Float.Ieee.{of_bits}
+use Rattle.std.specs.Prelude.{ℕ, zero, suc, ◌+◌, ◌*◌, ◌%◌, ◌^◌, cond, List, [], ◌∷◌, ltb, get_or, drop}
 use Rattle.stream.specs.declared.Taken.{Taken}
 use Rattle.stream.specs.declared.Part.{Part}
 
@@ -43,13 +41,6 @@ read_by f (suc k) s at = f (number_at s at) ∷ read_by f k s (behind s at)
 unfoldable pub behind_all : ℕ → List ℕ → ℕ → ℕ
 behind_all zero s at = at
 behind_all (suc k) s at = behind_all k s (behind s at)
-
-abbrev pub words_at : ℕ → List ℕ → ℕ → List ℕ
-words_at k s at = read_by (λ n. n) k s at
-
--- doubles by their bits
-abbrev pub floats_at : ℕ → List ℕ → ℕ → List Float
-floats_at k s at = read_by (of_bits binary64) k s at
 
 abbrev pub least : ℕ → ℕ → ℕ
 least a b = cond (ltb a b) a b

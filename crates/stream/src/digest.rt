@@ -2,6 +2,8 @@
 ghost use Rattle.std.specs.Prelude.{◌≡◌};
 ghost use Rattle.stream.specs.Digest as D;
 
+use crate::Item;
+
 // What a digest begins with.
 pub const START: u64 = 1;
 
@@ -15,27 +17,13 @@ fn mix(state: u64, word: u64) -> u64
     c ^ (c << 17)
 }
 
-pub fn words(start: u64, list: &[u64]) -> u64
-    ensures { result ≡ D.of_words start list.now }
+// Entries into a digest, one after the other.
+pub fn items<T: Item>(start: u64, list: &[T]) -> u64
+    ensures { result ≡ D.digest_by T.to_word start list.now }
 {
     let mut state = start;
-    let mut i = 0;
-    while i < list.len() {
-        state = mix(state, list[i]);
-        i += 1;
-    }
-    state
-}
-
-// Doubles by their bits, every NaN as one.
-pub fn floats(start: u64, list: &[f64]) -> u64
-    ensures { result ≡ D.of_floats start list.now }
-{
-    let mut state = start;
-    let mut i = 0;
-    while i < list.len() {
-        state = mix(state, bits::pattern(list[i]));
-        i += 1;
+    for item in list {
+        state = mix(state, item.to_word());
     }
     state
 }
@@ -54,12 +42,12 @@ pub fn tables(
 ) -> u64
     ensures { result ≡ D.of_tables start lanes.now boundaries.now roads.now junctions.now rules.now stop_lines.now crosswalks.now coordinates.now }
 {
-    let a = words(start, lanes);
-    let b = words(a, boundaries);
-    let c = words(b, roads);
-    let d = words(c, junctions);
-    let e = words(d, rules);
-    let f = words(e, stop_lines);
-    let g = words(f, crosswalks);
-    floats(g, coordinates)
+    let a = items(start, lanes);
+    let b = items(a, boundaries);
+    let c = items(b, roads);
+    let d = items(c, junctions);
+    let e = items(d, rules);
+    let f = items(e, stop_lines);
+    let g = items(f, crosswalks);
+    items(g, coordinates)
 }

@@ -16,22 +16,17 @@ const STEP: usize = 0x1_0000;
 pub fn window(file: &mut File, at: u32, bytes: &mut [u8]) -> usize
     ensures { IsPrefixLen result bytes.new }
 {
-    match file.seek(SeekFrom::Start(at as u64)) {
-        Ok(_) => read_full(file, bytes),
-        Err(_) => read_full(file, bytes),
-    }
+    let _ = file.seek(SeekFrom::Start(at as u64));
+    read_full(file, bytes)
 }
 
-// Reads until `bytes` is full or the file ends, and says how many bytes that were.
-fn read_full(file: &mut File, bytes: &mut [u8]) -> usize
+// Reads until `bytes` is full or the file ends, and says how many bytes that were. A read that fails counts as the file's end.
+pub fn read_full(file: &mut File, bytes: &mut [u8]) -> usize
     ensures { IsPrefixLen result bytes.new }
 {
     let mut done = 0;
     while done < bytes.len() {
-        let n = match file.read(&mut bytes[done..]) {
-            Ok(n) => n,
-            Err(_) => 0,
-        };
+        let n = file.read(&mut bytes[done..]).unwrap_or(0);
         if n == 0 {
             break;
         }

@@ -2,8 +2,9 @@
 // the bytes: past the end there is nothing to read.
 #![tactic(auto)]
 
-ghost use Rattle.std.specs.Prelude.{◌≡◌, ◌+◌, ◌≤◌, ◌<◌, ◌^◌, length, take, get_or};
-ghost use Rattle.io.specs.Counts.{IsPrefixLen};
+ghost use Rattle.std.specs.Prelude.{ℕ, ◌≡◌, ◌+◌, ◌≤◌, ◌<◌, ◌^◌, length, take, get_or};
+ghost use Rattle.std.specs.Float.{binary64};
+ghost use Rattle.std.specs.Float.Ieee.{of_bits, to_bits};
 ghost use Rattle.lists.specs.Rows.{over};
 ghost use Rattle.stream.specs.Numbers as N;
 
@@ -77,31 +78,57 @@ pub fn number(s: &[u8], at: usize) -> Taken
 
 // ---- tables
 
-// As many numbers as there are places; the place behind them.
-pub fn fill(s: &[u8], from: usize, table: &mut [u64]) -> usize
-    ensures { (table.new ≡ N.words_at (length table.old) s.now from) × (result ≡ N.behind_all (length table.old) s.now from) }
-{
-    let mut at = from;
-    let mut i = 0;
-    while i < table.len() {
-        let n = number(s, at);
-        table[i] = n.value;
-        at = n.next;
-        i += 1;
-    }
-    at
+// What a table holds: each entry is read from a number of the stream, and goes into a digest as a word.
+pub trait Item: Copy {
+    ghost of_word: { ℕ → Self };
+
+    ghost to_word: { Self → ℕ };
+
+    fn of_word(word: u64) -> Self
+        ensures { result ≡ of_word word };
+
+    fn to_word(self) -> u64
+        ensures { result ≡ to_word self };
 }
 
-fn fill_floats(s: &[u8], from: usize, table: &mut [f64]) -> usize
-    ensures { (table.new ≡ N.floats_at (length table.old) s.now from) × (result ≡ N.behind_all (length table.old) s.now from) }
+impl Item for u64 {
+    ghost of_word = { λ n. n };
+
+    ghost to_word = { λ w. w };
+
+    fn of_word(word: u64) -> u64 {
+        word
+    }
+
+    fn to_word(self) -> u64 {
+        self
+    }
+}
+
+// Doubles by their bits, every NaN as one.
+impl Item for f64 {
+    ghost of_word = { of_bits binary64 };
+
+    ghost to_word = { to_bits binary64 };
+
+    fn of_word(word: u64) -> f64 {
+        bits::double(word)
+    }
+
+    fn to_word(self) -> u64 {
+        bits::pattern(self)
+    }
+}
+
+// As many numbers as there are places; the place behind them.
+pub fn fill<T: Item>(s: &[u8], from: usize, table: &mut [T]) -> usize
+    ensures { (table.new ≡ N.read_by T.of_word (length table.old) s.now from) × (result ≡ N.behind_all (length table.old) s.now from) }
 {
     let mut at = from;
-    let mut i = 0;
-    while i < table.len() {
+    for place in table {
         let n = number(s, at);
-        table[i] = bits::double(n.value);
+        *place = T::of_word(n.value);
         at = n.next;
-        i += 1;
     }
     at
 }
@@ -116,23 +143,13 @@ pub fn least(a: usize, b: usize) -> usize
     b
 }
 
-// A table into the front of an array: how many words it has, and those words. Of one that is too long, what there is room for.
-pub fn read_words(s: &[u8], from: usize, table: &mut [u64]) -> Part
-    ensures { (result ≡ N.part (length table.old) s.now from) × ((table.new ≡ over table.old 0 (N.words_at result.size s.now (N.behind s.now from))) × IsPrefixLen result.size table.new) }
+// A table into the front of an array: how many entries it has, and those entries. Of one that is too long, what there is room for.
+pub fn read_table<T: Item>(s: &[u8], from: usize, table: &mut [T]) -> Part
+    ensures { (result ≡ N.part (length table.old) s.now from) × ((table.new ≡ over table.old 0 (N.read_by T.of_word result.size s.now (N.behind s.now from))) × ((result.size ≤ length table.new) × (result.size ≡ length (take result.size table.new)))) }
 {
     let n = number(s, from);
     let size = least(n.value as usize, table.len());
     let next = fill(s, n.next, &mut table[..size]);
-    Part { size, next }
-}
-
-// The same of doubles, each a number by its bits.
-pub fn read_floats(s: &[u8], from: usize, table: &mut [f64]) -> Part
-    ensures { (result ≡ N.part (length table.old) s.now from) × ((table.new ≡ over table.old 0 (N.floats_at result.size s.now (N.behind s.now from))) × ((result.size ≤ length table.new) × (result.size ≡ length (take result.size table.new)))) }
-{
-    let n = number(s, from);
-    let size = least(n.value as usize, table.len());
-    let next = fill_floats(s, n.next, &mut table[..size]);
     Part { size, next }
 }
 

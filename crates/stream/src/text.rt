@@ -50,10 +50,8 @@ pub fn row(numbers: &[u64], out: &mut [u8]) -> usize
     ensures { (out.new ≡ over out.old 0 (T.row numbers.now)) × ((result ≡ length (T.row numbers.now)) × IsPrefixLen result out.new) }
 {
     let mut at = 0;
-    let mut i = 0;
-    while i < numbers.len() {
-        at = spaced(out, at, numbers[i]);
-        i += 1;
+    for n in numbers {
+        at = spaced(out, at, *n);
     }
     at
 }

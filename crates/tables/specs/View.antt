@@ -1,7 +1,6 @@
 -- How the lent words and coordinates hold a map. A table's word 0 is its count; rows of a fixed length follow. Of a row only what is used is read:
 -- not the slots past a list's count, nor the words of a thing that its mark says is absent, nor what a rule's kind does not have.
-use Rattle.std.specs.Prelude.{ℕ, suc, ◌*◌, Bool, not, cond, List, [], eqb, get_or, take, drop, Float}
-use Rattle.std.proofs.Math.Option.{Option, none, some}
+use Rattle.std.specs.Prelude.{ℕ, suc, ◌*◌, Bool, not, cond, List, [], eqb, get_or, take, drop, Float, Option, None, Some}
 use Rattle.lists.specs.Rows.{reads}
 use Rattle.polyline.specs.Polyline.{points}
 use Rattle.entities.specs.declared.BoundaryRef.{BoundaryRef}
@@ -43,11 +42,11 @@ ref_at k w = record { boundary = word k w; reversed = mark (suc k) w }
 
 -- a mark and a number
 abbrev pub option_at : ℕ → List ℕ → Option ℕ
-option_at k w = cond (mark k w) (some (word (suc k) w)) none
+option_at k w = cond (mark k w) (Some (word (suc k) w)) None
 
 -- 0 none, 1 same direction, 2 opposite; and the lane
 abbrev pub slot_at : ℕ → List ℕ → Option Neighbor
-slot_at k w = cond (eqb (word k w) 0) none (cond (eqb (word k w) 1) (some (same (word (suc k) w))) (some (opposing (word (suc k) w))))
+slot_at k w = cond (eqb (word k w) 0) None (cond (eqb (word k w) 1) (Some (same (word (suc k) w))) (Some (opposing (word (suc k) w))))
 
 -- "A stored line's points are handed back as their part of the coordinates." A start and a length, in points.
 unfoldable pub part : List Float → ℕ → ℕ → List Float
@@ -58,7 +57,7 @@ line_at c k w = points (part c (word k w) (word (suc k) w))
 
 -- a mark, a start and a length
 abbrev pub option_line_at : List Float → ℕ → List ℕ → Option Line
-option_line_at c k w = cond (mark k w) (some (line_at c (suc k) w)) none
+option_line_at c k w = cond (mark k w) (Some (line_at c (suc k) w)) None
 
 -- ---- rows, column by column
 
@@ -100,7 +99,7 @@ rule_of w =
       kind = word rule_kind w;
       content = cond (has_content (word rule_kind w)) (word rule_content w) 0;
       attributes = word rule_attributes w;
-      crosswalk = cond (eqb (word rule_kind w) crosswalk_rule) (some (word rule_crosswalk w)) none;
+      crosswalk = cond (eqb (word rule_kind w) crosswalk_rule) (Some (word rule_crosswalk w)) None;
       lanes = ids_at rule_lanes_at w;
       controlled_crosswalks = ids_at rule_controlled_at w;
       stop_lines = ids_where (not (eqb (word rule_kind w) other_rule)) rule_stop_lines_at w;

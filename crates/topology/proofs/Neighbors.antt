@@ -1,23 +1,20 @@
 -- Slots of neighbours written, freed and answered, in rows and in the table. Assumes nothing.
+use Rattle.std.specs.Prelude.{Option, None, Some}
 use mathlib.Core.Path.{◌≡◌, refl, sym, ap, ◌∙◌}
 use Prim.Native.Nat.{ℕ, suc, ◌+◌, ◌*◌, ◌≤◌, ◌<◌}
 use native.Mathlib.Omega.{arith}
 use mathlib.Core.Bool.{Bool, true, false, cond, ◌&&◌, ◌||◌, true≢false}
 use mathlib.Core.List.{List, [], ◌∷◌}
-use mathlib.Core.Option.{Option, none, some}
 use lib.ListN.{length, get_or, set, drop}
 use lib.Seq.{drop-cons, get_or-drop}
 use lib.Dec.{eqb}
 use borrow.Author.Tests.{eqb-true, eq-eqb, ne_eqb}
 use Rattle.lists.specs.Rows.{over, keys}
-use Rattle.lists.specs.declared.Found.TheVariants.{At, Nothing}
 use Rattle.lists.proofs.Booleans.{and-fst}
 use Rattle.lists.proofs.Rows.{over-nil, length_over, get_d_over-before, get_d_over-behind, store-before, store-behind, length-keys, key-at, row-at}
 use Rattle.entities.specs.declared.Neighbor.{Neighbor}
 use Rattle.entities.specs.declared.NeighborDirection.{NeighborDirection}
 use Rattle.entities.specs.declared.NeighborDirection.TheVariants.{Same, Opposite}
-use Rattle.entities.specs.declared.OptionNeighbor.{OptionNeighbor}
-use Rattle.entities.specs.declared.OptionNeighbor.TheVariants.{None, Some}
 use Rattle.entities.specs.Types.{reciprocal_side, same, opposing}
 use Rattle.rules.specs.Names.{Side, Left, Right}
 use Rattle.rules.specs.Edit.{same_side, answering, slot_after, reslotted}
@@ -32,7 +29,7 @@ use Rattle.store.specs.Rows.{on_rows, keyed, set_slot, slot_words}
 use Rattle.store.proofs.Rows.{rows_stay}
 use Rattle.store.proofs.Marks.{LaneMarks, lane-marks, marks-formed}
 use Rattle.store.proofs.LaneRow.{lane_row}
-use Rattle.topology.specs.Topology.{lanes_changed, id_at, slot_place, slot_held, by_value, beside_row, freed_by}
+use Rattle.topology.specs.Topology.{lanes_changed, id_at, slot_place, slot_held, beside_row, freed_by}
 use Rattle.topology.proofs.Linked.{word-written, keyed-keeps}
 use Rattle.topology.proofs.Table.{Keeps, over-row, row_words, all-formed, lanes-agree, lanes-agree-at, lanes-twice, one_lane, lanes-changed, lanes-kept, lane-changed, unique}
 
@@ -43,12 +40,12 @@ slot_small Left = omega arith
 slot_small Right = omega arith
 
 slot-few : (v : Option Neighbor) → length (slot_words v) ≤ 2
-slot-few none = omega arith
-slot-few (some n) = omega arith
+slot-few None = omega arith
+slot-few (Some n) = omega arith
 
 slot-mark : (v : Option Neighbor) → slot_mark v ≤ 2
-slot-mark none = omega arith
-slot-mark (some n) = go n.direction
+slot-mark None = omega arith
+slot-mark (Some n) = go n.direction
   where
     go : (d : NeighborDirection) → direction_mark d ≤ 2
     go Same = omega arith
@@ -69,8 +66,8 @@ module _ (w : List ℕ) (l : length w ≡ 52) (side : Side) (v : Option Neighbor
   slot-here = go v (omega (arith, room))
     where
       go : (v : Option Neighbor) → k ≤ length w → word k (set_slot k v w) ≡ slot_mark v
-      go none h = unfold set_slot in word-written w k 0 [] h
-      go (some n) h = unfold set_slot in word-written w k (direction_mark n.direction) (n.lane ∷ []) h
+      go None h = unfold set_slot in word-written w k 0 [] h
+      go (Some n) h = unfold set_slot in word-written w k (direction_mark n.direction) (n.lane ∷ []) h
 
   slot-behind : (x : ℕ) → k + 2 ≤ x → word x (set_slot k v w) ≡ word x w
   unfolding set_slot
@@ -106,11 +103,11 @@ slot-keeps Right v w l f =
     let b : word 16 (set_slot 16 v w) ≤ 2 = rw (slot-here w l Right v) (slot-mark v) in
     (slot-length w l Right v, (marks-formed (set_slot 16 v w) (slot-marks w l Right v m (omega arith) a b), slot-before w l Right v 0 (omega arith)))
 
-pub freed-keeps : (side : Side) (held : OptionNeighbor) → Keeps (freed_by side held)
+pub freed-keeps : (side : Side) (held : Option Neighbor) → Keeps (freed_by side held)
 freed-keeps side None w l f = (l, (f, refl))
 freed-keeps side (Some n) w l f =
     let r = reciprocal_side side n.direction in
-    keyed-keeps n.lane (set_slot (slot_place r) none) (slot-keeps r none) w l f
+    keyed-keeps n.lane (set_slot (slot_place r) None) (slot-keeps r None) w l f
 
 keeps-twice : (f g : List ℕ → List ℕ) → Keeps f → Keeps g → Keeps (λ w. g (f w))
 keeps-twice f g p q w l h =
@@ -132,20 +129,20 @@ Again w f v = (s : Side) → slot_lane (slot_lane (word (suc (slot_place s)) w) 
 
 -- where a slot holds a lane, it is the one that stands there
 abbrev Own : List ℕ → (Side → Option Neighbor) → Type 0
-Own w f = Again w f none
+Own w f = Again w f None
 
 own-own : (w : List ℕ) → Own w (own w)
 own-own w s = go (eqb (word (slot_place s) w) 0) (eqb (word (slot_place s) w) 1)
   where
-    go : (p q : Bool) → slot_lane (word (suc (slot_place s)) w) (cond p none (cond q (some (same (word (suc (slot_place s)) w))) (some (opposing (word (suc (slot_place s)) w))))) ≡ word (suc (slot_place s)) w
+    go : (p q : Bool) → slot_lane (word (suc (slot_place s)) w) (cond p None (cond q (Some (same (word (suc (slot_place s)) w))) (Some (opposing (word (suc (slot_place s)) w))))) ≡ word (suc (slot_place s)) w
     go true q = refl
     go false true = refl
     go false false = refl
 
-own-freed : (w : List ℕ) (f : Side → Option Neighbor) (p : Side → Bool) → Own w f → Own w (λ s. cond (p s) none (f s))
+own-freed : (w : List ℕ) (f : Side → Option Neighbor) (p : Side → Bool) → Own w f → Own w (λ s. cond (p s) None (f s))
 own-freed w f p h s = go (p s)
   where
-    go : (b : Bool) → slot_lane (word (suc (slot_place s)) w) (cond b none (f s)) ≡ word (suc (slot_place s)) w
+    go : (b : Bool) → slot_lane (word (suc (slot_place s)) w) (cond b None (f s)) ≡ word (suc (slot_place s)) w
     go true = refl
     go false = h s
 
@@ -172,17 +169,17 @@ module _ (w : List ℕ) (l : length w ≡ 52) (f : Side → Option Neighbor) whe
       go true = set-one r v h
       go false = refl
 
-  put-keyed : (id : ℕ) (r : Side) (n : Neighbor) → keyed id (set_slot (slot_place r) (some n)) (slotted w f) ≡ slotted w (λ s. cond (eqb (word 0 w) id && same_side s r) (some n) (f s))
-  put-keyed id r n = set-keyed id r (some n) (λ s. refl)
+  put-keyed : (id : ℕ) (r : Side) (n : Neighbor) → keyed id (set_slot (slot_place r) (Some n)) (slotted w f) ≡ slotted w (λ s. cond (eqb (word 0 w) id && same_side s r) (Some n) (f s))
+  put-keyed id r n = set-keyed id r (Some n) (λ s. refl)
 
-  free-keyed : Own w f → (id : ℕ) (r : Side) → keyed id (set_slot (slot_place r) none) (slotted w f) ≡ slotted w (λ s. cond (eqb (word 0 w) id && same_side s r) none (f s))
-  free-keyed h id r = set-keyed id r none h
+  free-keyed : Own w f → (id : ℕ) (r : Side) → keyed id (set_slot (slot_place r) None) (slotted w f) ≡ slotted w (λ s. cond (eqb (word 0 w) id && same_side s r) None (f s))
+  free-keyed h id r = set-keyed id r None h
 
   -- the slot that answers what was held
   free-held : Own w f → (side : Side) (held : Option Neighbor)
-      → freed_by side (by_value held) (slotted w f) ≡ slotted w (λ s. cond (answering side held (word 0 w) s) none (f s))
-  free-held h side none = refl
-  free-held h side (some n) = free-keyed h n.lane (reciprocal_side side n.direction)
+      → freed_by side held (slotted w f) ≡ slotted w (λ s. cond (answering side held (word 0 w) s) None (f s))
+  free-held h side None = refl
+  free-held h side (Some n) = free-keyed h n.lane (reciprocal_side side n.direction)
 
 -- ---- one row, as the rules have it
 
@@ -206,21 +203,21 @@ module _ (w : List ℕ) (l : length w ≡ 52) (h : lane_formed w ≡ true) where
 
   module _ (a : ℕ) (side : Side) (old : Option Neighbor) where
     abbrev freed : Side → Option Neighbor
-    freed s = cond (answering side old (word 0 w) s) none (own w s)
+    freed s = cond (answering side old (word 0 w) s) None (own w s)
 
     own-after : Own w freed
     own-after = own-freed w (own w) (answering side old (word 0 w)) (own-own w)
 
-    row-freed : freed_by side (by_value old) w ≡ slotted w freed
-    row-freed = ap (freed_by side (by_value old)) as_slotted ∙ free-held w l (own w) (own-own w) side old
+    row-freed : freed_by side old w ≡ slotted w freed
+    row-freed = ap (freed_by side old) as_slotted ∙ free-held w l (own w) (own-own w) side old
 
     -- a slot freed
-    pub row-cleared : keyed a (set_slot (slot_place side) none) (freed_by side (by_value old) w) ≡ lane_onto w (reslotted (slot_after a side none old none) (lane_of [] w))
+    pub row-cleared : keyed a (set_slot (slot_place side) None) (freed_by side old w) ≡ lane_onto w (reslotted (slot_after a side None old None) (lane_of [] w))
     row-cleared =
-        ap (keyed a (set_slot (slot_place side) none)) row-freed
+        ap (keyed a (set_slot (slot_place side) None)) row-freed
         ∙ (free-keyed w l freed own-after a side
-        ∙ (slotted-same w (λ s. cond (eqb (word 0 w) a && same_side s side) none (freed s)) (λ s. slot_after a side none old none (word 0 w) s (own w s)) (λ s. merged (eqb (word 0 w) a && same_side s side) false (answering side old (word 0 w) s) false none none none (own w s) (λ p q. absurd (true≢false (sym q))))
-        ∙ sym (reslotted-row (slot_after a side none old none))))
+        ∙ (slotted-same w (λ s. cond (eqb (word 0 w) a && same_side s side) None (freed s)) (λ s. slot_after a side None old None (word 0 w) s (own w s)) (λ s. merged (eqb (word 0 w) a && same_side s side) false (answering side old (word 0 w) s) false None None None (own w s) (λ p q. absurd (true≢false (sym q))))
+        ∙ sym (reslotted-row (slot_after a side None old None))))
 
     -- two slots set
     module _ (n : Neighbor) (other : Option Neighbor) (apart : n.lane ≡ a → ⊥) where
@@ -231,28 +228,28 @@ module _ (w : List ℕ) (l : length w ≡ 52) (h : lane_formed w ≡ true) where
       back = record { lane = a; direction = n.direction }
 
       abbrev freed2 : Side → Option Neighbor
-      freed2 s = cond (answering ans other (word 0 w) s) none (freed s)
+      freed2 s = cond (answering ans other (word 0 w) s) None (freed s)
 
       abbrev put : Side → Option Neighbor
-      put s = cond (eqb (word 0 w) a && same_side s side) (some n) (freed2 s)
+      put s = cond (eqb (word 0 w) a && same_side s side) (Some n) (freed2 s)
 
-      pub row-set : keyed n.lane (set_slot (slot_place ans) (some back)) (keyed a (set_slot (slot_place side) (some n)) (freed_by ans (by_value other) (freed_by side (by_value old) w)))
-          ≡ lane_onto w (reslotted (slot_after a side (some n) old other) (lane_of [] w))
+      pub row-set : keyed n.lane (set_slot (slot_place ans) (Some back)) (keyed a (set_slot (slot_place side) (Some n)) (freed_by ans other (freed_by side old w)))
+          ≡ lane_onto w (reslotted (slot_after a side (Some n) old other) (lane_of [] w))
       row-set =
-          ap (λ z. keyed n.lane (set_slot (slot_place ans) (some back)) (keyed a (set_slot (slot_place side) (some n)) z))
-          (ap (freed_by ans (by_value other)) row-freed ∙ free-held w l freed own-after ans other)
-          ∙ (ap (keyed n.lane (set_slot (slot_place ans) (some back))) (put-keyed w l freed2 a side n)
+          ap (λ z. keyed n.lane (set_slot (slot_place ans) (Some back)) (keyed a (set_slot (slot_place side) (Some n)) z))
+          (ap (freed_by ans other) row-freed ∙ free-held w l freed own-after ans other)
+          ∙ (ap (keyed n.lane (set_slot (slot_place ans) (Some back))) (put-keyed w l freed2 a side n)
           ∙ (put-keyed w l put n.lane ans back
-          ∙ (slotted-same w (λ s. cond (eqb (word 0 w) n.lane && same_side s ans) (some back) (put s)) (λ s. slot_after a side (some n) old other (word 0 w) s (own w s)) same-slot
-          ∙ sym (reslotted-row (slot_after a side (some n) old other)))))
+          ∙ (slotted-same w (λ s. cond (eqb (word 0 w) n.lane && same_side s ans) (Some back) (put s)) (λ s. slot_after a side (Some n) old other (word 0 w) s (own w s)) same-slot
+          ∙ sym (reslotted-row (slot_after a side (Some n) old other)))))
         where
           one_of : (s : Side) → (eqb (word 0 w) a && same_side s side) ≡ true → (eqb (word 0 w) n.lane && same_side s ans) ≡ true → ⊥
           one_of s p q =
               apart (sym (eqb-true (word 0 w) n.lane (and-fst (eqb (word 0 w) n.lane) (same_side s ans) q)) ∙ eqb-true (word 0 w) a (and-fst (eqb (word 0 w) a) (same_side s side) p))
 
-          same-slot : (s : Side) → cond (eqb (word 0 w) n.lane && same_side s ans) (some back) (put s) ≡ slot_after a side (some n) old other (word 0 w) s (own w s)
+          same-slot : (s : Side) → cond (eqb (word 0 w) n.lane && same_side s ans) (Some back) (put s) ≡ slot_after a side (Some n) old other (word 0 w) s (own w s)
           same-slot s =
-              merged (eqb (word 0 w) a && same_side s side) (eqb (word 0 w) n.lane && same_side s ans) (answering side old (word 0 w) s) (answering ans other (word 0 w) s) (some n) (some back) none (own w s) (one_of s)
+              merged (eqb (word 0 w) a && same_side s side) (eqb (word 0 w) n.lane && same_side s ans) (answering side old (word 0 w) s) (answering ans other (word 0 w) s) (Some n) (Some back) None (own w s) (one_of s)
 
 -- ---- a slot of the table, read and stored
 
@@ -275,25 +272,25 @@ module _ (t : List ℕ) (i p : ℕ) (side : Side) (e : p ≡ slot_place side) wh
   lane-read : word (suc (slot_place side)) (lane_at t i) ≡ y
   lane-read = ap (λ k. word (suc k) (lane_at t i)) (sym e) ∙ sym (next_in 52 t i p (omega (arith, slot_small side)))
 
-  held-read : slot_held t i side ≡ cond (eqb m 0) none (cond (eqb m 1) (some (same y)) (some (opposing y)))
+  held-read : slot_held t i side ≡ cond (eqb m 0) None (cond (eqb m 1) (Some (same y)) (Some (opposing y)))
   held-read =
       held-slot t i side
-      ∙ (ap (λ x. cond (eqb x 0) none (cond (eqb x 1) (some (same (word (suc (slot_place side)) (lane_at t i)))) (some (opposing (word (suc (slot_place side)) (lane_at t i)))))) mark-read
-      ∙ ap (λ x. cond (eqb m 0) none (cond (eqb m 1) (some (same x)) (some (opposing x)))) lane-read)
+      ∙ (ap (λ x. cond (eqb x 0) None (cond (eqb x 1) (Some (same (word (suc (slot_place side)) (lane_at t i)))) (Some (opposing (word (suc (slot_place side)) (lane_at t i)))))) mark-read
+      ∙ ap (λ x. cond (eqb m 0) None (cond (eqb m 1) (Some (same x)) (Some (opposing x)))) lane-read)
 
-  held_by : (a b : Bool) → eqb m 0 ≡ a → eqb m 1 ≡ b → slot_held t i side ≡ cond a none (cond b (some (same y)) (some (opposing y)))
+  held_by : (a b : Bool) → eqb m 0 ≡ a → eqb m 1 ≡ b → slot_held t i side ≡ cond a None (cond b (Some (same y)) (Some (opposing y)))
   held_by a b f g =
       held-read
-      ∙ (ap (λ x. cond x none (cond (eqb m 1) (some (same y)) (some (opposing y)))) f ∙ ap (λ x. cond a none (cond x (some (same y)) (some (opposing y)))) g)
+      ∙ (ap (λ x. cond x None (cond (eqb m 1) (Some (same y)) (Some (opposing y)))) f ∙ ap (λ x. cond a None (cond x (Some (same y)) (Some (opposing y)))) g)
 
-  pub held_none : m ≡ 0 → None ≡ by_value (slot_held t i side)
-  held_none f = sym (ap by_value (held_by true (eqb m 1) (eq-eqb m 0 f) refl))
+  pub held_none : m ≡ 0 → None ≡ slot_held t i side
+  held_none f = sym ((held_by true (eqb m 1) (eq-eqb m 0 f) refl))
 
-  pub held_same : (n : Neighbor) → (m ≡ 0 → ⊥) → m ≡ 1 → n ≡ same y → Some n ≡ by_value (slot_held t i side)
-  held_same n f g q = ap (λ x. Some x) q ∙ sym (ap by_value (held_by false true (ne_eqb m 0 f) (eq-eqb m 1 g)))
+  pub held_same : (n : Neighbor) → (m ≡ 0 → ⊥) → m ≡ 1 → n ≡ same y → Some n ≡ slot_held t i side
+  held_same n f g q = ap (λ x. Some x) q ∙ sym ((held_by false true (ne_eqb m 0 f) (eq-eqb m 1 g)))
 
-  pub held-opposite : (n : Neighbor) → (m ≡ 0 → ⊥) → (m ≡ 1 → ⊥) → n ≡ opposing y → Some n ≡ by_value (slot_held t i side)
-  held-opposite n f g q = ap (λ x. Some x) q ∙ sym (ap by_value (held_by false false (ne_eqb m 0 f) (ne_eqb m 1 g)))
+  pub held-opposite : (n : Neighbor) → (m ≡ 0 → ⊥) → (m ≡ 1 → ⊥) → n ≡ opposing y → Some n ≡ slot_held t i side
+  held-opposite n f g q = ap (λ x. Some x) q ∙ sym ((held_by false false (ne_eqb m 0 f) (ne_eqb m 1 g)))
 
 -- one word stored, and two
 module _ {A : Type 0} (w : List A) (a : ℕ) where
@@ -326,17 +323,17 @@ module _ (t : List ℕ) (h : searchable t ≡ true) where
       named w = unfold set_slot in refl
 
   pub slot-freed : (i : ℕ) → i < word 0 t → (side : Side) (p : ℕ) → p ≡ slot_place side
-      → set t (1 + i * 52 + p) 0 ≡ on_rows 52 (keyed (id_at t i) (set_slot (slot_place side) none)) t
+      → set t (1 + i * 52 + p) 0 ≡ on_rows 52 (keyed (id_at t i) (set_slot (slot_place side) None)) t
   slot-freed i l side p e =
       one_store t (1 + i * 52 + p) 0 (omega (arith, slot-room i l side p e))
-      ∙ (ap (λ k. over t (1 + i * 52 + k) (0 ∷ [])) e ∙ slot-stored i l side none)
+      ∙ (ap (λ k. over t (1 + i * 52 + k) (0 ∷ [])) e ∙ slot-stored i l side None)
 
   pub slot-put : (i : ℕ) → i < word 0 t → (side : Side) (p : ℕ) → p ≡ slot_place side → (n : Neighbor) (x : ℕ) → x ≡ direction_mark n.direction
-      → set (set t (1 + i * 52 + p) x) (1 + i * 52 + p + 1) n.lane ≡ on_rows 52 (keyed (id_at t i) (set_slot (slot_place side) (some n))) t
+      → set (set t (1 + i * 52 + p) x) (1 + i * 52 + p + 1) n.lane ≡ on_rows 52 (keyed (id_at t i) (set_slot (slot_place side) (Some n))) t
   slot-put i l side p e n x q =
       two-stores t (1 + i * 52 + p) x n.lane (slot-room i l side p e)
       ∙ (ap (λ k. over t (1 + i * 52 + k) (x ∷ n.lane ∷ [])) e
-      ∙ (ap (λ z. over t (1 + i * 52 + slot_place side) (z ∷ n.lane ∷ [])) q ∙ slot-stored i l side (some n)))
+      ∙ (ap (λ z. over t (1 + i * 52 + slot_place side) (z ∷ n.lane ∷ [])) q ∙ slot-stored i l side (Some n)))
 
   -- ---- free_answer
 
@@ -347,7 +344,7 @@ module _ (t : List ℕ) (h : searchable t ≡ true) where
       ∙ sym (drop-cons t 0 0 (lanes-some t h))
 
   -- no row has an id that is not found
-  not_there : (id j : ℕ) → place_of 52 t id ≡ Nothing → j < word 0 t → id_at t j ≡ id → ⊥
+  not_there : (id j : ℕ) → place_of 52 t id ≡ None → j < word 0 t → id_at t j ≡ id → ⊥
   unfolding place_of
   not_there id j e l q =
       let ks = keys 52 (word 0 t) (drop 1 t) in
@@ -355,10 +352,10 @@ module _ (t : List ℕ) (h : searchable t ≡ true) where
       let k : get_or ks j 0 ≡ id = key-at 52 (word 0 t) j (drop 1 t) (omega arith) l ∙ (get_or-drop 1 t (j * 52) 0 ∙ (id-at t j ∙ q)) in
       lost j (sym e ∙ row-at id j ks (lanes-ascend t h) m k)
     where
-      lost : (j : ℕ) → Nothing ≡ At j → ⊥
+      lost : (j : ℕ) → None ≡ Some j → ⊥
       lost j z = let f : ◌≡◌ {A = ℕ} 0 1 = cc in omega arith
 
-  module _ (side : Side) (held : OptionNeighbor) where
+  module _ (side : Side) (held : Option Neighbor) where
     pub freed-none : held ≡ None → t ≡ on_rows 52 (freed_by side held) t
     freed-none e = sym (ap (λ x. on_rows 52 (freed_by side x) t) e ∙ rows_same)
 
@@ -366,19 +363,19 @@ module _ (t : List ℕ) (h : searchable t ≡ true) where
       abbrev r : Side
       r = reciprocal_side side n.direction
 
-      pub freed-lost : place_of 52 t n.lane ≡ Nothing → t ≡ on_rows 52 (freed_by side held) t
+      pub freed-lost : place_of 52 t n.lane ≡ None → t ≡ on_rows 52 (freed_by side held) t
       freed-lost q =
           sym (ap (λ x. on_rows 52 (freed_by side x) t) e
-          ∙ (lanes-agree-at t h (keyed n.lane (set_slot (slot_place r) none)) (λ w. w) (λ j l. ap (λ b. cond b (set_slot (slot_place r) none (lane_at t j)) (lane_at t j)) (ne_eqb (id_at t j) n.lane (not_there n.lane j q l))) ∙ rows_same))
+          ∙ (lanes-agree-at t h (keyed n.lane (set_slot (slot_place r) None)) (λ w. w) (λ j l. ap (λ b. cond b (set_slot (slot_place r) None (lane_at t j)) (lane_at t j)) (ne_eqb (id_at t j) n.lane (not_there n.lane j q l))) ∙ rows_same))
 
-      module _ (j : ℕ) (q : place_of 52 t n.lane ≡ At j) where
+      module _ (j : ℕ) (q : place_of 52 t n.lane ≡ Some j) where
         pub found-row : j < word 0 t
         found-row = place-within 52 t n.lane j q
 
         pub freed-at : (p : ℕ) → p ≡ slot_place r → set t (1 + j * 52 + p) 0 ≡ on_rows 52 (freed_by side held) t
         freed-at p f =
             slot-freed j found-row r p f
-            ∙ (ap (λ z. on_rows 52 (keyed z (set_slot (slot_place r) none)) t) (place-id 52 t n.lane j q) ∙ sym (ap (λ x. on_rows 52 (freed_by side x) t) e))
+            ∙ (ap (λ z. on_rows 52 (keyed z (set_slot (slot_place r) None)) t) (place-id 52 t n.lane j q) ∙ sym (ap (λ x. on_rows 52 (freed_by side x) t) e))
 
 -- ---- one change of rows after another
 
@@ -403,7 +400,7 @@ module _ (t : List ℕ) (h : searchable t ≡ true) (g : List ℕ → List ℕ) 
 
 -- ---- clear_slot
 
-module _ (t : List ℕ) (h : searchable t ≡ true) (i : ℕ) (li : i < word 0 t) (side : Side) (old : OptionNeighbor) (eo : old ≡ by_value (slot_held t i side))
+module _ (t : List ℕ) (h : searchable t ≡ true) (i : ℕ) (li : i < word 0 t) (side : Side) (old : Option Neighbor) (eo : old ≡ slot_held t i side)
     (t1 : List ℕ) (e1 : t1 ≡ on_rows 52 (freed_by side old) t) where
   pub clear-search : searchable t1 ≡ true
   clear-search = changed-search t h (freed_by side old) (freed-keeps side old) t1 e1
@@ -412,23 +409,23 @@ module _ (t : List ℕ) (h : searchable t ≡ true) (i : ℕ) (li : i < word 0 t
   clear_within = changed-within t h (freed_by side old) (freed-keeps side old) t1 e1 i li
 
   pub cleared : (p : ℕ) → p ≡ slot_place side
-      → set t1 (1 + i * 52 + p) 0 ≡ lanes_changed (reslotted (slot_after (id_at t i) side none (slot_held t i side) none)) t
+      → set t1 (1 + i * 52 + p) 0 ≡ lanes_changed (reslotted (slot_after (id_at t i) side None (slot_held t i side) None)) t
   cleared p e =
       let a = id_at t i in
-      let free = set_slot (slot_place side) none in
+      let free = set_slot (slot_place side) None in
       let k = freed-keeps side old in
-      let f = slot_after a side none (slot_held t i side) none in
+      let f = slot_after a side None (slot_held t i side) None in
       slot-freed t1 clear-search i clear_within side p e
       ∙ (ap (λ z. on_rows 52 (keyed z free) t1) (changed-id t h (freed_by side old) k t1 e1 i li)
       ∙ (changed-next t h (freed_by side old) k t1 e1 (keyed a free) (on_rows 52 (keyed a free) t1) refl
       ∙ (ap (λ x. on_rows 52 (λ w. keyed a free (freed_by side x w)) t) eo
-      ∙ (lanes-agree t h (λ w. keyed a free (freed_by side (by_value (slot_held t i side)) w)) (λ w. lane_onto w (reslotted f (lane_of [] w))) (λ w l q. row-cleared w l q a side (slot_held t i side))
+      ∙ (lanes-agree t h (λ w. keyed a free (freed_by side (slot_held t i side) w)) (λ w. lane_onto w (reslotted f (lane_of [] w))) (λ w l q. row-cleared w l q a side (slot_held t i side))
       ∙ sym (lanes-changed t h (reslotted f) (λ l. refl))))))
 
 -- ---- set_neighbor
 
 module _ (t : List ℕ) (h : searchable t ≡ true) (i j : ℕ) (li : i < word 0 t) (lj : j < word 0 t) (apart : j ≡ i → ⊥) (side ans : Side) (d : NeighborDirection)
-    (ea : ans ≡ reciprocal_side side d) (old other : OptionNeighbor) (eo : old ≡ by_value (slot_held t i side)) (er : other ≡ by_value (slot_held t j ans)) where
+    (ea : ans ≡ reciprocal_side side d) (old other : Option Neighbor) (eo : old ≡ slot_held t i side) (er : other ≡ slot_held t j ans) where
   abbrev to : Neighbor
   to = beside_row t j d
 
@@ -442,10 +439,10 @@ module _ (t : List ℕ) (h : searchable t ≡ true) (i j : ℕ) (li : i < word 0
   g2 w = freed_by ans other (g1 w)
 
   abbrev g3 : List ℕ → List ℕ
-  g3 w = keyed (id_at t i) (set_slot (slot_place side) (some to)) (g2 w)
+  g3 w = keyed (id_at t i) (set_slot (slot_place side) (Some to)) (g2 w)
 
   abbrev g4 : List ℕ → List ℕ
-  g4 w = keyed (id_at t j) (set_slot (slot_place ans) (some from)) (g3 w)
+  g4 w = keyed (id_at t j) (set_slot (slot_place ans) (Some from)) (g3 w)
 
   k1 : Keeps g1
   k1 = freed-keeps side old
@@ -454,7 +451,7 @@ module _ (t : List ℕ) (h : searchable t ≡ true) (i j : ℕ) (li : i < word 0
   k2 = keeps-twice g1 (freed_by ans other) k1 (freed-keeps ans other)
 
   k3 : Keeps g3
-  k3 = keeps-twice g2 (keyed (id_at t i) (set_slot (slot_place side) (some to))) k2 (keyed-keeps (id_at t i) (set_slot (slot_place side) (some to)) (slot-keeps side (some to)))
+  k3 = keeps-twice g2 (keyed (id_at t i) (set_slot (slot_place side) (Some to))) k2 (keyed-keeps (id_at t i) (set_slot (slot_place side) (Some to)) (slot-keeps side (Some to)))
 
   module _ (t1 : List ℕ) (e1 : t1 ≡ on_rows 52 (freed_by side old) t) where
     pub set_search1 : searchable t1 ≡ true
@@ -467,40 +464,40 @@ module _ (t : List ℕ) (h : searchable t ≡ true) (i j : ℕ) (li : i < word 0
       pub set_may2 : (searchable t2 ≡ true) × (i < word 0 t2)
       set_may2 = (changed-search t h g2 k2 t2 at2, changed-within t h g2 k2 t2 at2 i li)
 
-      module _ (t3 : List ℕ) (e3 : t3 ≡ on_rows 52 (keyed (id_at t2 i) (set_slot (slot_place side) (some (record { lane = get_or t (1 + j * 52) 0; direction = d })))) t2) where
+      module _ (t3 : List ℕ) (e3 : t3 ≡ on_rows 52 (keyed (id_at t2 i) (set_slot (slot_place side) (Some (record { lane = get_or t (1 + j * 52) 0; direction = d })))) t2) where
         at3 : t3 ≡ on_rows 52 g3 t
         at3 =
-            changed-next t h g2 k2 t2 at2 (keyed (id_at t i) (set_slot (slot_place side) (some to))) t3
+            changed-next t h g2 k2 t2 at2 (keyed (id_at t i) (set_slot (slot_place side) (Some to))) t3
             (e3
-            ∙ (ap (λ z. on_rows 52 (keyed z (set_slot (slot_place side) (some (record { lane = get_or t (1 + j * 52) 0; direction = d })))) t2) (changed-id t h g2 k2 t2 at2 i li)
-            ∙ ap (λ z. on_rows 52 (keyed (id_at t i) (set_slot (slot_place side) (some (record { lane = z; direction = d })))) t2) (id-at t j)))
+            ∙ (ap (λ z. on_rows 52 (keyed z (set_slot (slot_place side) (Some (record { lane = get_or t (1 + j * 52) 0; direction = d })))) t2) (changed-id t h g2 k2 t2 at2 i li)
+            ∙ ap (λ z. on_rows 52 (keyed (id_at t i) (set_slot (slot_place side) (Some (record { lane = z; direction = d })))) t2) (id-at t j)))
 
         pub set_may3 : (searchable t3 ≡ true) × (j < word 0 t3)
         set_may3 = (changed-search t h g3 k3 t3 at3, changed-within t h g3 k3 t3 at3 j lj)
 
-        module _ (t4 : List ℕ) (e4 : t4 ≡ on_rows 52 (keyed (id_at t3 j) (set_slot (slot_place ans) (some (record { lane = get_or t (1 + i * 52) 0; direction = d })))) t3) where
+        module _ (t4 : List ℕ) (e4 : t4 ≡ on_rows 52 (keyed (id_at t3 j) (set_slot (slot_place ans) (Some (record { lane = get_or t (1 + i * 52) 0; direction = d })))) t3) where
           at4 : t4 ≡ on_rows 52 g4 t
           at4 =
-              changed-next t h g3 k3 t3 at3 (keyed (id_at t j) (set_slot (slot_place ans) (some from))) t4
+              changed-next t h g3 k3 t3 at3 (keyed (id_at t j) (set_slot (slot_place ans) (Some from))) t4
               (e4
-              ∙ (ap (λ z. on_rows 52 (keyed z (set_slot (slot_place ans) (some (record { lane = get_or t (1 + i * 52) 0; direction = d })))) t3) (changed-id t h g3 k3 t3 at3 j lj)
-              ∙ ap (λ z. on_rows 52 (keyed (id_at t j) (set_slot (slot_place ans) (some (record { lane = z; direction = d })))) t3) (id-at t i)))
+              ∙ (ap (λ z. on_rows 52 (keyed z (set_slot (slot_place ans) (Some (record { lane = get_or t (1 + i * 52) 0; direction = d })))) t3) (changed-id t h g3 k3 t3 at3 j lj)
+              ∙ ap (λ z. on_rows 52 (keyed (id_at t j) (set_slot (slot_place ans) (Some (record { lane = z; direction = d })))) t3) (id-at t i)))
 
           -- the changes in terms of the records
           told : on_rows 52 g4 t
-              ≡ on_rows 52 (λ w. keyed (id_at t j) (set_slot (slot_place (reciprocal_side side d)) (some from)) (keyed (id_at t i) (set_slot (slot_place side) (some to)) (freed_by (reciprocal_side side d) (by_value (slot_held t j (reciprocal_side side d))) (freed_by side (by_value (slot_held t i side)) w)))) t
+              ≡ on_rows 52 (λ w. keyed (id_at t j) (set_slot (slot_place (reciprocal_side side d)) (Some from)) (keyed (id_at t i) (set_slot (slot_place side) (Some to)) (freed_by (reciprocal_side side d) (slot_held t j (reciprocal_side side d)) (freed_by side (slot_held t i side) w)))) t
           told =
-              ap (λ x. on_rows 52 (λ w. keyed (id_at t j) (set_slot (slot_place ans) (some from)) (keyed (id_at t i) (set_slot (slot_place side) (some to)) (freed_by ans other (freed_by side x w)))) t) eo
-              ∙ (ap (λ x. on_rows 52 (λ w. keyed (id_at t j) (set_slot (slot_place ans) (some from)) (keyed (id_at t i) (set_slot (slot_place side) (some to)) (freed_by ans x (freed_by side (by_value (slot_held t i side)) w)))) t) er
-              ∙ ap (λ x. on_rows 52 (λ w. keyed (id_at t j) (set_slot (slot_place x) (some from)) (keyed (id_at t i) (set_slot (slot_place side) (some to)) (freed_by x (by_value (slot_held t j x)) (freed_by side (by_value (slot_held t i side)) w)))) t) ea)
+              ap (λ x. on_rows 52 (λ w. keyed (id_at t j) (set_slot (slot_place ans) (Some from)) (keyed (id_at t i) (set_slot (slot_place side) (Some to)) (freed_by ans other (freed_by side x w)))) t) eo
+              ∙ (ap (λ x. on_rows 52 (λ w. keyed (id_at t j) (set_slot (slot_place ans) (Some from)) (keyed (id_at t i) (set_slot (slot_place side) (Some to)) (freed_by ans x (freed_by side (slot_held t i side) w)))) t) er
+              ∙ ap (λ x. on_rows 52 (λ w. keyed (id_at t j) (set_slot (slot_place x) (Some from)) (keyed (id_at t i) (set_slot (slot_place side) (Some to)) (freed_by x (slot_held t j x) (freed_by side (slot_held t i side) w)))) t) ea)
 
-          pub set_both : t4 ≡ lanes_changed (reslotted (slot_after (id_at t i) side (some to) (slot_held t i side) (slot_held t j (reciprocal_side side d)))) t
+          pub set_both : t4 ≡ lanes_changed (reslotted (slot_after (id_at t i) side (Some to) (slot_held t i side) (slot_held t j (reciprocal_side side d)))) t
           set_both =
-              let f = slot_after (id_at t i) side (some to) (slot_held t i side) (slot_held t j (reciprocal_side side d)) in
+              let f = slot_after (id_at t i) side (Some to) (slot_held t i side) (slot_held t j (reciprocal_side side d)) in
               at4
               ∙ (told
               ∙ (lanes-agree t h
-              (λ w. keyed (id_at t j) (set_slot (slot_place (reciprocal_side side d)) (some from)) (keyed (id_at t i) (set_slot (slot_place side) (some to)) (freed_by (reciprocal_side side d) (by_value (slot_held t j (reciprocal_side side d))) (freed_by side (by_value (slot_held t i side)) w))))
+              (λ w. keyed (id_at t j) (set_slot (slot_place (reciprocal_side side d)) (Some from)) (keyed (id_at t i) (set_slot (slot_place side) (Some to)) (freed_by (reciprocal_side side d) (slot_held t j (reciprocal_side side d)) (freed_by side (slot_held t i side) w))))
               (λ w. lane_onto w (reslotted f (lane_of [] w)))
               (λ w l q. row-set w l q (id_at t i) side (slot_held t i side) to (slot_held t j (reciprocal_side side d)) (λ z. apart (unique t h i j li lj z)))
               ∙ sym (lanes-changed t h (reslotted f) (λ l. refl))))

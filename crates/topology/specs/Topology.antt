@@ -1,11 +1,8 @@
 -- topology.rs on the rows of the lane table: what links and neighbours of the lanes become is given on records, by the rules.
-use Rattle.std.specs.Prelude.{ℕ, ◌<◌, ◌≡◌, true, false, List, [], ◌∷◌, map, length}
-use Rattle.std.proofs.Math.Option.{Option, none, some}
+use Rattle.std.specs.Prelude.{ℕ, ◌<◌, ◌≡◌, true, false, List, [], ◌∷◌, map, length, Option, None, Some}
 use Rattle.lists.specs.Select.{has, ascending}
 use Rattle.entities.specs.Records.{Lane}
 use Rattle.entities.specs.declared.Neighbor.{Neighbor}
-use Rattle.entities.specs.declared.OptionNeighbor.{OptionNeighbor}
-use Rattle.entities.specs.declared.OptionNeighbor.TheVariants.{None, Some}
 use Rattle.entities.specs.declared.NeighborDirection.{NeighborDirection}
 use Rattle.entities.specs.Types.{reciprocal_side}
 use Rattle.rules.specs.Names.{Side, Left, Right}
@@ -41,11 +38,6 @@ abbrev pub slot_place : Side → ℕ
 slot_place Left = 14
 slot_place Right = 16
 
--- what a neighbour's slot holds, as the enum
-abbrev pub by_value : Option Neighbor → OptionNeighbor
-by_value none = None
-by_value (some n) = Some n
-
 -- what the lane in row i has on a side
 abbrev pub slot_held : List ℕ → ℕ → Side → Option Neighbor
 slot_held t i side = neighbor_on side (lane_of [] (lane_at t i))
@@ -55,6 +47,6 @@ abbrev pub beside_row : List ℕ → ℕ → NeighborDirection → Neighbor
 beside_row t j d = record { lane = id_at t j; direction = d }
 
 -- a row, where it is that of the neighbour held on a side, with its answering slot freed
-abbrev pub freed_by : Side → OptionNeighbor → List ℕ → List ℕ
+abbrev pub freed_by : Side → Option Neighbor → List ℕ → List ℕ
 freed_by side None w = w
-freed_by side (Some n) w = keyed n.lane (set_slot (slot_place (reciprocal_side side n.direction)) none) w
+freed_by side (Some n) w = keyed n.lane (set_slot (slot_place (reciprocal_side side n.direction)) None) w

@@ -1,8 +1,7 @@
 // topology.rs: neighbours in the rows of the lane table. `linking` has the links.
 #![tactic(auto)]
 
-ghost use Rattle.std.specs.Prelude.{◌≡◌, true, ◌+◌, ◌*◌, ◌<◌};
-ghost use Rattle.std.proofs.Math.Option.{none, some};
+ghost use Rattle.std.specs.Prelude.{◌≡◌, true, ◌+◌, ◌*◌, ◌<◌, None, Some};
 ghost use Rattle.rules.specs.Edit.{slot_after, reslotted};
 ghost use Rattle.store.specs.Store.{direction_mark};
 ghost use Rattle.store.specs.Rows.{on_rows, keyed, set_slot};
@@ -10,8 +9,7 @@ ghost use Rattle.tables.specs.View.{word};
 ghost use Rattle.row_tests.specs.Returned.{searchable};
 ghost use Rattle.topology.specs.Topology as T;
 
-use entities::{Neighbor, NeighborDirection, OptionNeighbor, Side, reciprocal_side};
-use lists::Found;
+use entities::{Neighbor, NeighborDirection, Side, reciprocal_side};
 use tables::{LANE, LEFT_SLOT, NONE, OPPOSITE, RIGHT_SLOT, SAME};
 
 // The place of a side's slot in a row.
@@ -35,33 +33,33 @@ pub fn direction_mark(direction: NeighborDirection) -> u64
 }
 
 // The neighbour of the lane in row i on a side.
-pub fn neighbor(lanes: &[u64], i: usize, side: Side) -> OptionNeighbor
+pub fn neighbor(lanes: &[u64], i: usize, side: Side) -> Option<Neighbor>
     requires { (searchable lanes.now ≡ true) × (i < word 0 lanes.now) }
-    ensures { result ≡ T.by_value (T.slot_held lanes.now i side) }
+    ensures { result ≡ T.slot_held lanes.now i side }
 {
     let at = 1 + i * LANE + slot_place(side);
     let mark = lanes[at];
     let lane = lanes[at + 1];
     if mark == NONE {
-        return OptionNeighbor::None;
+        return None;
     }
     if mark == SAME {
-        return OptionNeighbor::Some(Neighbor::same(lane));
+        return Some(Neighbor::same(lane));
     }
-    OptionNeighbor::Some(Neighbor::opposite(lane))
+    Some(Neighbor::opposite(lane))
 }
 
 // The slot that answers what a slot on a side held is freed.
-pub fn free_answer(lanes: &mut [u64], side: Side, held: OptionNeighbor)
+pub fn free_answer(lanes: &mut [u64], side: Side, held: Option<Neighbor>)
     requires { searchable lanes.old ≡ true }
     ensures { lanes.new ≡ on_rows 52 (T.freed_by side held) lanes.old }
 {
-    let OptionNeighbor::Some(n) = held else {
+    let Some(n) = held else {
         return;
     };
     let direction = n.direction;
     let found = lookup::lane(lanes, n.lane);
-    let Found::At(j) = found else {
+    let Some(j) = found else {
         return;
     };
     let answer = slot_place(reciprocal_side(side, direction));
@@ -71,7 +69,7 @@ pub fn free_answer(lanes: &mut [u64], side: Side, held: OptionNeighbor)
 // A neighbour put into the slot of the lane in row i on a side.
 pub fn put_slot(lanes: &mut [u64], i: usize, side: Side, n: Neighbor)
     requires { (searchable lanes.old ≡ true) × (i < word 0 lanes.old) }
-    ensures { lanes.new ≡ on_rows 52 (keyed (T.id_at lanes.old i) (set_slot (T.slot_place side) (some n))) lanes.old }
+    ensures { lanes.new ≡ on_rows 52 (keyed (T.id_at lanes.old i) (set_slot (T.slot_place side) (Some n))) lanes.old }
 {
     let direction = n.direction;
     let at = 1 + i * LANE + slot_place(side);
@@ -82,7 +80,7 @@ pub fn put_slot(lanes: &mut [u64], i: usize, side: Side, n: Neighbor)
 // The slot of the lane in row i on a side freed, and the one that answers it.
 pub fn clear_slot(lanes: &mut [u64], i: usize, side: Side)
     requires { (searchable lanes.old ≡ true) × (i < word 0 lanes.old) }
-    ensures { lanes.new ≡ T.lanes_changed (reslotted (slot_after (T.id_at lanes.old i) side none (T.slot_held lanes.old i side) none)) lanes.old }
+    ensures { lanes.new ≡ T.lanes_changed (reslotted (slot_after (T.id_at lanes.old i) side None (T.slot_held lanes.old i side) None)) lanes.old }
 {
     let old = neighbor(lanes, i, side);
     free_answer(lanes, side, old);

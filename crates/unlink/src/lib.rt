@@ -5,7 +5,7 @@ ghost use Rattle.std.specs.Prelude.{◌≡◌};
 ghost use Rattle.relink.specs.Parts as P;
 
 use entities::Refusal;
-use report::Answer;
+use report::{Answer, Change};
 use tables::LANE;
 
 // Takes the link from row i to row j out of both lanes.
@@ -29,7 +29,10 @@ pub fn unlink(
     if notices::fits(n, note, none, modified, warnings) {
         let told = notices::report(&ids[..n], note, none, modified, warnings);
         linking::remove_link(lanes, i, j);
-        return Answer::Changed(told);
+        return Ok(Change {
+            counts: told,
+            second: None,
+        });
     }
-    Answer::Refused(Refusal::NoRoom)
+    Err(Refusal::NoRoom)
 }

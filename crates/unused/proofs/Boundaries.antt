@@ -1,4 +1,5 @@
 -- The boundaries that go with a lane. Assumes nothing.
+use Rattle.std.specs.Prelude.{Option, None, Some}
 use mathlib.Core.Path.{◌≡◌, refl, sym, ap, ◌∙◌}
 use Prim.Native.Nat.{ℕ, ◌+◌, ◌*◌, ◌≤◌, ◌<◌}
 use native.Mathlib.Omega.{arith}
@@ -9,8 +10,6 @@ use lib.ListN.{length, get_or, drop}
 use borrow.Author.Tests.{eqb-true, eqb-false, lt-ltb, ltb-false}
 use Rattle.lists.specs.Rows.{keys, row_with, later}
 use Rattle.lists.specs.Select.{keep, any, has, above, ascending}
-use Rattle.lists.specs.declared.Found.{Found}
-use Rattle.lists.specs.declared.Found.TheVariants.{At, Nothing}
 use Rattle.lists.proofs.Booleans.{and-snd}
 use Rattle.lists.proofs.Select.{has-keep, ascending-keep}
 use Rattle.laws.proofs.Links.{eqb_swap}
@@ -25,26 +24,26 @@ use Rattle.unused.specs.declared.Gone.{Gone}
 
 -- ---- a boundary of the table
 
-abbrev there : Found → Bool
-there (At j) = true
-there Nothing = false
+abbrev there : Option ℕ → Bool
+there (Some j) = true
+there None = false
 
 found-has : (x : ℕ) (ks : List ℕ) → has x ks ≡ there (row_with x ks)
 unfolding has any row_with
 found-has x [] = refl
 found-has x (k ∷ ks) = go (eqb k x) refl (row_with x ks) (found-has x ks)
   where
-    go : (b : Bool) → eqb k x ≡ b → (r : Found) → has x ks ≡ there r → (eqb x k || has x ks) ≡ there (cond b (At 0) (later r))
+    go : (b : Bool) → eqb k x ≡ b → (r : Option ℕ) → has x ks ≡ there r → (eqb x k || has x ks) ≡ there (cond b (Some 0) (later r))
     go true e r h = rw (eqb_swap x k ∙ e)
-    go false e (At j) h = rw (eqb_swap x k ∙ e, h)
-    go false e Nothing h = rw (eqb_swap x k ∙ e, h)
+    go false e (Some j) h = rw (eqb_swap x k ∙ e, h)
+    go false e None h = rw (eqb_swap x k ∙ e, h)
 
-module _ (lanes boundaries : List ℕ) (lane b : ℕ) (r : Found) (found : r ≡ place_of 5 boundaries b) where
-  pub lonely-there : (j : ℕ) (u : Bool) → r ≡ At j → u ≡ used_besides lanes b lane → not u ≡ lonely lanes boundaries lane b
+module _ (lanes boundaries : List ℕ) (lane b : ℕ) (r : Option ℕ) (found : r ≡ place_of 5 boundaries b) where
+  pub lonely-there : (j : ℕ) (u : Bool) → r ≡ Some j → u ≡ used_besides lanes b lane → not u ≡ lonely lanes boundaries lane b
   unfolding place_of
   lonely-there j u e f = ap not f ∙ ap (λ z. z && not (used_besides lanes b lane)) (sym (found-has b (keys 5 (word 0 boundaries) (drop 1 boundaries)) ∙ ap there (sym found ∙ e)))
 
-  pub lonely-missing : r ≡ Nothing → false ≡ lonely lanes boundaries lane b
+  pub lonely-missing : r ≡ None → false ≡ lonely lanes boundaries lane b
   unfolding place_of
   lonely-missing e = ap (λ z. z && not (used_besides lanes b lane)) (sym (found-has b (keys 5 (word 0 boundaries) (drop 1 boundaries)) ∙ ap there (sym found ∙ e)))
 

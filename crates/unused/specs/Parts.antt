@@ -1,5 +1,5 @@
 -- remove_lane in words: the boundaries that go, and what the lent slices hold at its end. Nothing that a host calls rests on this page.
-use Rattle.std.specs.Prelude.{◌≡◌, ℕ, ◌/◌, ◌<◌, Bool, true, not, ◌&&◌, ◌||◌, cond, List, [], ◌∷◌, ◌++◌, map, eqb, leb, ltb, length, take, drop}
+use Rattle.std.specs.Prelude.{◌≡◌, ℕ, ◌/◌, ◌<◌, Bool, true, not, ◌&&◌, ◌||◌, cond, List, [], ◌∷◌, ◌++◌, map, eqb, leb, ltb, length, take, drop, Err}
 use Rattle.lists.specs.Rows.{keys}
 use Rattle.lists.specs.Select.{keep, has}
 use Rattle.rules.specs.Names.{EntityRef, LaneKind, BoundaryKind, RoadKind, JunctionKind, RuleKind, NoRoom}
@@ -8,9 +8,7 @@ use Rattle.tables.specs.View.{word}
 use Rattle.row_tests.specs.Returned.{lane_at}
 use Rattle.lookup.specs.Lookup.{sorted_table, used_besides}
 use Rattle.store.specs.Rows.{stays, kept_rows, on_rows}
-use Rattle.report.specs.Report.{listed, warned, orphan_rule}
-use Rattle.report.specs.declared.Answer.{Answer}
-use Rattle.report.specs.declared.Answer.TheVariants.{Changed, Refused}
+use Rattle.report.specs.Report.{listed, warned, orphan_rule, Answer, changed}
 use Rattle.unused.specs.declared.Gone.{Gone}
 use Rattle.mentions.specs.declared.Rows.TheVariants.{Lanes, Roads, Junctions, Rules, Orphans}
 use Rattle.mentions.specs.Naming.{table_formed, naming, forgets}
@@ -116,5 +114,5 @@ without_lane a gone t modified deleted warnings =
     let d = leaving a gone in
     let w = map orphan_rule (naming Orphans a t.rules) in
     cond (lists_fit (length m) (length d) (length w) modified deleted warnings)
-    (removed (left_tables a gone t) (listed modified m) (listed deleted d) (warned warnings w) (Changed (record { created = 0; modified = length m; deleted = length d; warnings = length w })))
-    (removed t modified deleted warnings (Refused NoRoom))
+    (removed (left_tables a gone t) (listed modified m) (listed deleted d) (warned warnings w) (changed (record { created = 0; modified = length m; deleted = length d; warnings = length w })))
+    (removed t modified deleted warnings (Err NoRoom))

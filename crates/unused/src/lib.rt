@@ -8,7 +8,7 @@ ghost use Rattle.lookup.specs.Lookup.{sorted_table};
 ghost use Rattle.store.specs.Rows.{kept_rows};
 ghost use Rattle.unused.specs.Parts as P;
 
-use lists::{Found, both};
+use lists::both;
 use tables::{BOUNDARY, LANE, LANE_LEFT, LANE_RIGHT};
 
 // Boundaries in id order: the first `count` of two.
@@ -26,8 +26,8 @@ fn lonely(lanes: &[u64], boundaries: &[u64], lane: u64, id: u64) -> bool
 {
     let found = lookup::boundary(boundaries, id);
     match found {
-        Found::At(_) => !uses::used_besides(lanes, id, lane),
-        Found::Nothing => false,
+        Some(_) => !uses::used_besides(lanes, id, lane),
+        None => false,
     }
 }
 

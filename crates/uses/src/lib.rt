@@ -43,12 +43,10 @@ pub fn used(lanes: &[u64], boundary: u64) -> bool
     ensures { result ≡ K.used lanes.now boundary }
 {
     let n = lanes[0] as usize;
-    let mut i = 0;
-    while i < n {
+    for i in 0..n {
         if row_uses(lanes, i, boundary) {
             return true;
         }
-        i += 1;
     }
     false
 }
@@ -59,12 +57,10 @@ pub fn used_outside(lanes: &[u64], boundary: u64, one: u64, other: u64) -> bool
     ensures { result ≡ K.used_outside lanes.now boundary one other }
 {
     let n = lanes[0] as usize;
-    let mut i = 0;
-    while i < n {
+    for i in 0..n {
         if row_uses_outside(lanes, i, boundary, one, other) {
             return true;
         }
-        i += 1;
     }
     false
 }
@@ -83,13 +79,11 @@ pub fn users(lanes: &[u64], boundary: u64) -> usize
     ensures { result ≡ K.users lanes.now boundary }
 {
     let n = lanes[0] as usize;
-    let mut i = 0;
     let mut count = 0;
-    while i < n {
+    for i in 0..n {
         if row_uses(lanes, i, boundary) {
             count += 1;
         }
-        i += 1;
     }
     count
 }

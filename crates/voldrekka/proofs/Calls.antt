@@ -1,9 +1,9 @@
 -- A call and its answer's numbers. Assumes nothing.
+use Rattle.report.specs.Report.{Answer}
 use mathlib.Core.Path.{◌≡◌, ap, ◌∙◌}
 use Rattle.entities.specs.Types.{preset}
 use Rattle.rules.specs.Names.{Tolerance}
 use Rattle.rules.specs.Ops as O
-use Rattle.report.specs.declared.Answer.{Answer}
 use Rattle.words.specs.Words.{told}
 use Rattle.words.specs.declared.Told.{Told}
 use Rattle.step.specs.Step.{Lent, Ended, ended, step}

@@ -1,11 +1,11 @@
 -- A job as a host calls it. Assumes nothing.
+use Rattle.jobs.specs.Answers.{JobAnswer}
 use mathlib.Core.Path.{◌≡◌, ap, ◌∙◌}
 use Rattle.entities.specs.Types.{preset}
 use Rattle.entities.specs.declared.Tolerance.{Tolerance}
 use Rattle.tables.specs.View.{Tables}
 use Rattle.step.specs.Step.{Lent}
 use Rattle.jobs.specs.declared.Job.{Job}
-use Rattle.jobs.specs.declared.JobAnswer.{JobAnswer}
 use Rattle.job_words.specs.JobWords.{told_job}
 use Rattle.job_words.specs.declared.ToldJob.{ToldJob}
 use Rattle.job_step.specs.Job.{JobEnded, job_lent, job_step, job_ended}

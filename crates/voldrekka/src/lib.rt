@@ -21,7 +21,6 @@ use entities::{Counter, Tolerance};
 use faults::Fault;
 use geometry::Point2;
 use job_words::ToldJob;
-use polyline::OptionNearest;
 use words::Told;
 
 // The square root of every double.
@@ -49,7 +48,7 @@ pub extern "C" fn voldrekka_nearest_point(line: &[f64], x: f64, y: f64, out: &mu
         return 0;
     }
     let found = nearest::nearest_point(line, Point2 { x, y });
-    let OptionNearest::Some(best) = found else {
+    let Some(best) = found else {
         return 0;
     };
     let p = best.point;

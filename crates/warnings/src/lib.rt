@@ -54,9 +54,9 @@ fn put_single(
     ensures { warnings.new ≡ R.warned_at at warnings.old (R.single severity code kind id fix ∷ []) }
 {
     let row = at * WARNING;
-    warnings[row + SEVERITY] = severity.number();
-    warnings[row + CODE] = code.number();
-    warnings[row + KIND] = kind.number();
+    warnings[row + SEVERITY] = u64::from(severity);
+    warnings[row + CODE] = u64::from(code);
+    warnings[row + KIND] = u64::from(kind);
     warnings[row + ID] = id;
     warnings[row + RELATED] = 0;
     warnings[row + FIX] = fix_mark(fix);
@@ -68,12 +68,12 @@ fn put_pair(warnings: &mut [u64], at: usize, code: IssueCode, lane: u64, other: 
     ensures { warnings.new ≡ R.warned_at at warnings.old (R.issues (N.Pair code lane other)) }
 {
     let row = at * WARNING;
-    warnings[row + SEVERITY] = Severity::Warning.number();
-    warnings[row + CODE] = code.number();
-    warnings[row + KIND] = EntityKind::Lane.number();
+    warnings[row + SEVERITY] = u64::from(Severity::Warning);
+    warnings[row + CODE] = u64::from(code);
+    warnings[row + KIND] = u64::from(EntityKind::Lane);
     warnings[row + ID] = lane;
     warnings[row + RELATED] = 1;
-    warnings[row + RELATED_KIND] = EntityKind::Lane.number();
+    warnings[row + RELATED_KIND] = u64::from(EntityKind::Lane);
     warnings[row + RELATED_ID] = other;
     warnings[row + FIX] = 0;
 }
@@ -84,9 +84,9 @@ fn put_pieces(warnings: &mut [u64], at: usize, boundary: u64, first: u64, second
     ensures { warnings.new ≡ R.warned_at at warnings.old (R.issues (N.Pieces boundary first second)) }
 {
     let row = at * WARNING;
-    let kind = EntityKind::Boundary.number();
-    warnings[row + SEVERITY] = Severity::Warning.number();
-    warnings[row + CODE] = IssueCode::BoundaryUnshared.number();
+    let kind = u64::from(EntityKind::Boundary);
+    warnings[row + SEVERITY] = u64::from(Severity::Warning);
+    warnings[row + CODE] = u64::from(IssueCode::BoundaryUnshared);
     warnings[row + KIND] = kind;
     warnings[row + ID] = boundary;
     warnings[row + RELATED] = 2;

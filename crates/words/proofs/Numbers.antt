@@ -1,4 +1,6 @@
 -- Words of kinds, of rows and of answers. Assumes nothing.
+use Rattle.std.specs.Prelude.{Option}
+use Rattle.entities.specs.declared.EntityRef.{EntityRef}
 use mathlib.Core.Path.{◌≡◌, refl}
 use Prim.Native.Nat.{ℕ, zero, suc, ◌≤◌}
 use native.Mathlib.Omega.{arith}
@@ -6,10 +8,8 @@ use mathlib.Core.List.{List, [], ◌∷◌}
 use lib.ListN.{length, get_or}
 use Rattle.entities.specs.declared.EntityKind.{EntityKind}
 use Rattle.entities.specs.declared.EntityKind.TheVariants as K
-use Rattle.entities.specs.declared.OptionEntity.{OptionEntity}
 use Rattle.entities.specs.Types.{kind_number}
-use Rattle.report.specs.Report.{answer_number, answer_entity, answer_counts, counter_behind}
-use Rattle.report.specs.declared.Answer.{Answer}
+use Rattle.report.specs.Report.{answer_number, answer_entity, answer_counts, counter_behind, Answer}
 use Rattle.report.specs.declared.Counts.{Counts}
 use Rattle.words.specs.declared.Told.{Told}
 use Rattle.words.specs.Words.{kind_word, id_word, second_word, told}
@@ -31,7 +31,7 @@ past_end (x ∷ w) zero h = omega arith
 past_end (x ∷ w) (suc k) h = past_end w k (omega arith)
 
 -- an answer's numbers, one by one
-pub all_told : (counter : ℕ) (a : Answer) (e : OptionEntity) (n : Counts) {number kind id second next : ℕ} → e ≡ answer_entity a → n ≡ answer_counts a → number ≡ answer_number a
+pub all_told : (counter : ℕ) (a : Answer) (e : Option EntityRef) (n : Counts) {number kind id second next : ℕ} → e ≡ answer_entity a → n ≡ answer_counts a → number ≡ answer_number a
     → kind ≡ kind_word e → id ≡ id_word e → second ≡ second_word a → next ≡ counter_behind counter a
     → ◌≡◌ {A = Told}
     (record {

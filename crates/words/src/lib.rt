@@ -6,7 +6,7 @@ ghost use Rattle.tables.specs.View as View;
 ghost use Rattle.report.specs.Report.{counter_behind};
 ghost use Rattle.words.specs.Words as W;
 
-use entities::{Command, Neighbor, OptionEntity, OptionNeighbor, Side, SplitAt};
+use entities::{Command, EntityRef, Neighbor, Side, SplitAt};
 use report::Answer;
 
 // Words of a command's row: its number, and up to four more.
@@ -16,7 +16,7 @@ const NUMBER: usize = 0;
 
 const LANE: usize = 1;
 
-// The numbers of the commands; any other is the removal of a lane.
+// The numbers of the commands, as C sends them (the C interface); any other is the removal of a lane. Inside, a command is the enum.
 pub const SPLIT: u64 = 0;
 
 pub const MERGE: u64 = 1;
@@ -75,16 +75,16 @@ fn side_of(n: u64) -> Side
     Side::Right
 }
 
-fn neighbor_of(mark: u64, lane: u64) -> OptionNeighbor
+fn neighbor_of(mark: u64, lane: u64) -> Option<Neighbor>
     ensures { result ≡ W.neighbor_of mark lane }
 {
     if mark == 0 {
-        return OptionNeighbor::None;
+        return None;
     }
     if mark == 1 {
-        return OptionNeighbor::Some(Neighbor::same(lane));
+        return Some(Neighbor::same(lane));
     }
-    OptionNeighbor::Some(Neighbor::opposite(lane))
+    Some(Neighbor::opposite(lane))
 }
 
 // The command with this number, of its four other words.
@@ -135,34 +135,34 @@ pub fn command_of(row: &[u64]) -> Command
 
 // ---- an answer
 
-pub fn kind_word(entity: OptionEntity) -> u64
+pub fn kind_word(entity: Option<EntityRef>) -> u64
     ensures { result ≡ W.kind_word entity }
 {
     match entity {
-        OptionEntity::None => 0,
-        OptionEntity::Some(e) => {
+        None => 0,
+        Some(e) => {
             let kind = e.kind;
-            kind.number() + 1
+            u64::from(kind) + 1
         }
     }
 }
 
-pub fn id_word(entity: OptionEntity) -> u64
+pub fn id_word(entity: Option<EntityRef>) -> u64
     ensures { result ≡ W.id_word entity }
 {
     match entity {
-        OptionEntity::None => 0,
-        OptionEntity::Some(e) => e.id,
+        None => 0,
+        Some(e) => e.id,
     }
 }
 
+// The second half of a split lane, or 0.
 fn second_word(answer: Answer) -> u64
     ensures { result ≡ W.second_word answer }
 {
     match answer {
-        Answer::Changed(_) => 0,
-        Answer::Split(_, second) => second,
-        Answer::Refused(_) => 0,
+        Ok(change) => change.second.unwrap_or(0),
+        Err(_) => 0,
     }
 }
 
@@ -171,10 +171,10 @@ pub fn tell(counter: u64, answer: Answer) -> Told
     requires { counter_behind counter answer < 2 ^ 64 }
     ensures { result ≡ W.told counter answer }
 {
-    let entity = answer.entity();
-    let n = answer.counts();
+    let entity = report::answer_entity(answer);
+    let n = report::answer_counts(answer);
     Told {
-        number: answer.number(),
+        number: report::answer_number(answer),
         kind: kind_word(entity),
         id: id_word(entity),
         created: n.created as u64,
@@ -182,6 +182,6 @@ pub fn tell(counter: u64, answer: Answer) -> Told
         deleted: n.deleted as u64,
         warnings: n.warnings as u64,
         second: second_word(answer),
-        counter: answer.counter(counter),
+        counter: report::counter_behind(counter, answer),
     }
 }

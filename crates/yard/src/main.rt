@@ -6,7 +6,7 @@
 
 ghost use Rattle.std.specs.Prelude.{◌≡◌, ◌+◌, ◌<◌, ◌≤◌, length};
 
-use entities::{Counter, OptionEntity, Tolerance};
+use entities::{Counter, EntityRef, Tolerance};
 use jobs::JobAnswer;
 use report::{Answer, Counts, ENTITY, WARNING};
 use std::io;
@@ -486,10 +486,8 @@ fn put_lane(lanes: &mut [u64], i: usize, l: LaneRow)
 
 fn lay_lanes(lanes: &mut [u64], map: usize) {
     let n = lane_count(map);
-    let mut i = 0;
-    while i < n {
+    for i in 0..n {
         put_lane(lanes, i, lane_of(map, i));
-        i += 1;
     }
     put(lanes, 0, n as u64);
 }
@@ -528,10 +526,8 @@ fn put_boundary(boundaries: &mut [u64], i: usize, id: u64)
 fn lay_boundaries(boundaries: &mut [u64], map: usize) {
     let n = boundary_count(map);
     let first = first_boundary(map);
-    let mut i = 0;
-    while i < n {
+    for i in 0..n {
         put_boundary(boundaries, i, first + i as u64);
-        i += 1;
     }
     put(boundaries, 0, n as u64);
 }
@@ -618,10 +614,8 @@ fn put_line(coordinates: &mut [f64], i: usize, l: Ends)
 
 // Points that no line has are not read.
 fn lay_lines(coordinates: &mut [f64], map: usize) {
-    let mut i = 0;
-    while i < 10 {
+    for i in 0..10 {
         put_line(coordinates, i, line_of(map, i));
-        i += 1;
     }
 }
 
@@ -674,10 +668,8 @@ fn word(list: &[u64], i: usize) -> u64 {
 
 // The words of a list from one place to another.
 fn each_word(rt: &impl Print, list: &[u64], from: usize, to: usize) -> io::Result<()> {
-    let mut i = from;
-    while i < to {
+    for i in from..to {
         next(rt, word(list, i))?;
-        i += 1;
     }
     Ok(())
 }
@@ -717,71 +709,44 @@ fn heading(rt: &impl Print, n: u64) -> io::Result<()> {
     Ok(())
 }
 
-// The words of commands, ten letters each: first the commands by their numbers, then what follows in a row.
-const TERM: usize = 10;
-
-const PLACES: usize = 6;
-
-const GROUPS: usize = 8;
-
-const SIDES: usize = 10;
-
-const MARKS: usize = 12;
-
-// The letters before the first space.
-fn trimmed(rt: &impl Print, text: &[u8]) -> io::Result<()> {
-    let mut n = 0;
-    while n < text.len() {
-        if text[n] == b' ' {
-            write(rt, &text[..n])?;
-            return Ok(());
-        }
-        n += 1;
+fn verb(rt: &impl Print, command: u64) -> io::Result<()> {
+    match command {
+        SPLIT => write(rt, b"split"),
+        MERGE => write(rt, b"merge"),
+        CONNECT => write(rt, b"connect"),
+        DISCONNECT => write(rt, b"disconnect"),
+        SET_NEIGHBOR => write(rt, b"neighbor"),
+        _ => write(rt, b"remove"),
     }
-    write(rt, text)
-}
-
-fn piece(rt: &impl Print, text: &[u8], k: usize) -> io::Result<()>
-    requires { (k < 15) × (length text.now ≡ 150) }
-{
-    let at = k * TERM;
-    let to = at + TERM;
-    trimmed(rt, &text[at..to])
-}
-
-fn term(rt: &impl Print, k: usize) -> io::Result<()>
-    requires { k < 15 }
-{
-    piece(
-        rt,
-        b"split     merge     connect   disconnectneighbor  remove    fraction  station   alone     beside    left      right     none      same      opposite  ",
-        k,
-    )
-}
-
-// A further word of a line: the n-th of so many from a place on.
-fn next_term(rt: &impl Print, first: usize, n: u64, last: usize) -> io::Result<()>
-    requires { first + last < 15 }
-{
-    write(rt, b" ")?;
-    term(rt, first + least(n as usize, last))
 }
 
 fn asked_split(rt: &impl Print, row: [u64; COMMAND]) -> io::Result<()> {
-    next_term(rt, PLACES, row[2], 1)?;
-    write(rt, b" ")?;
+    match row[2] {
+        0 => write(rt, b" fraction ")?,
+        _ => write(rt, b" station ")?,
+    }
     tenths(rt, bits::double(row[3]))?;
-    next_term(rt, GROUPS, row[4], 1)
+    match row[4] {
+        0 => write(rt, b" alone"),
+        _ => write(rt, b" beside"),
+    }
 }
 
 fn asked_neighbor(rt: &impl Print, row: [u64; COMMAND]) -> io::Result<()> {
-    next_term(rt, SIDES, row[2], 1)?;
-    next_term(rt, MARKS, row[3], 2)?;
+    match row[2] {
+        0 => write(rt, b" left")?,
+        _ => write(rt, b" right")?,
+    }
+    match row[3] {
+        0 => write(rt, b" none")?,
+        1 => write(rt, b" same")?,
+        _ => write(rt, b" opposite")?,
+    }
     next(rt, row[4])
 }
 
 fn command(rt: &impl Print, row: [u64; COMMAND]) -> io::Result<()> {
-    term(rt, least(row[0] as usize, 5))?;
+    verb(rt, row[0])?;
     next(rt, row[1])?;
     match row[0] {
         SPLIT => asked_split(rt, row)?,
@@ -806,13 +771,13 @@ const PAIRS: usize = 5;
 
 const FIX: usize = 9;
 
-fn entity(rt: &impl Print, e: OptionEntity) -> io::Result<()> {
+fn entity(rt: &impl Print, e: Option<EntityRef>) -> io::Result<()> {
     match e {
-        OptionEntity::None => {}
-        OptionEntity::Some(e) => {
+        None => {}
+        Some(e) => {
             let kind = e.kind;
             write(rt, b" |")?;
-            next(rt, kind.number())?;
+            next(rt, u64::from(kind))?;
             next(rt, e.id)?;
         }
     }
@@ -845,10 +810,8 @@ fn warning(rt: &impl Print, list: &[u64], at: usize) -> io::Result<()>
 
 fn each_warning(rt: &impl Print, list: &[u64], n: usize) -> io::Result<()> {
     let rows = least(n, list.len() / WARNING);
-    let mut i = 0;
-    while i < rows {
+    for i in 0..rows {
         warning(rt, list, i * WARNING)?;
-        i += 1;
     }
     Ok(())
 }
@@ -867,11 +830,10 @@ fn answer(
     deleted: &[u64; ROOM],
     warnings: &[u64; 320],
 ) -> io::Result<()> {
-    let n = a.counts();
-    number(rt, a.number())?;
+    number(rt, report::answer_number(a))?;
     match a {
-        Answer::Refused(r) => entity(rt, r.entity())?,
-        _ => change(rt, n, created, modified, deleted, warnings)?,
+        Err(refusal) => entity(rt, refusal.entity())?,
+        Ok(made) => change(rt, made.counts, created, modified, deleted, warnings)?,
     }
     write(rt, b"\n")
 }
@@ -939,11 +901,9 @@ fn asked_job(rt: &impl Print, rows: &[u64]) -> io::Result<()>
 {
     write(rt, b"job")?;
     let n = rows.len() / COMMAND;
-    let mut i = 0;
-    while i < n {
+    for i in 0..n {
         write(rt, b"; ")?;
         command(rt, row_at(rows, i * COMMAND))?;
-        i += 1;
     }
     write(rt, b": ")
 }
@@ -956,13 +916,13 @@ fn job_answer(
     deleted: &[u64; ROOM],
     warnings: &[u64; 320],
 ) -> io::Result<()> {
-    number(rt, a.number())?;
+    number(rt, jobs::job_number(a))?;
     match a {
-        JobAnswer::Made(n) => change(rt, n, created, modified, deleted, warnings)?,
-        _ => {
-            next(rt, a.place())?;
-            next(rt, a.own_number())?;
-            entity(rt, a.entity())?;
+        Ok(n) => change(rt, n, created, modified, deleted, warnings)?,
+        Err(_) => {
+            next(rt, jobs::job_place(a))?;
+            next(rt, jobs::job_own_number(a))?;
+            entity(rt, jobs::job_entity(a))?;
         }
     }
     write(rt, b"\n")
@@ -1000,10 +960,8 @@ fn lane_left(rt: &impl Print, lanes: &[u64], i: usize) -> io::Result<()>
 
 fn each_lane(rt: &impl Print, lanes: &[u64]) -> io::Result<()> {
     let n = least(word(lanes, 0) as usize, ROWS);
-    let mut i = 0;
-    while i < n {
+    for i in 0..n {
         lane_left(rt, lanes, i)?;
-        i += 1;
     }
     Ok(())
 }
@@ -1041,10 +999,8 @@ fn along(rt: &impl Print, coordinates: &[f64], at: usize) -> io::Result<()> {
 fn each_point(rt: &impl Print, coordinates: &[f64], start: usize, size: usize) -> io::Result<()>
     requires { (start ≤ 65536) × (size ≤ 65536) }
 {
-    let mut i = 0;
-    while i < size {
+    for i in 0..size {
         along(rt, coordinates, (start + i) * POINT)?;
-        i += 1;
     }
     Ok(())
 }
@@ -1070,10 +1026,8 @@ fn boundary_left(
 
 fn each_boundary(rt: &impl Print, boundaries: &[u64], coordinates: &[f64]) -> io::Result<()> {
     let n = least(word(boundaries, 0) as usize, ROWS);
-    let mut i = 0;
-    while i < n {
+    for i in 0..n {
         boundary_left(rt, boundaries, coordinates, i)?;
-        i += 1;
     }
     Ok(())
 }
@@ -1187,7 +1141,7 @@ fn make(
         &mut warnings,
     );
     answer(rt, a, &created, &modified, &deleted, &warnings)?;
-    Ok(behind_call(a.counter(counter), a.counts()))
+    Ok(behind_call(report::counter_behind(counter, a), report::answer_counts(a)))
 }
 
 // The job with lists of 64 pairs and of 32 warnings; the counter behind it.
@@ -1336,8 +1290,7 @@ fn each_job(
     coordinates: &mut [f64],
 ) -> io::Result<()> {
     let mut counter = first_counter(JOBS);
-    let mut k = 0;
-    while k < n {
+    for k in 0..n {
         counter = make_job(
             rt,
             k,
@@ -1351,7 +1304,6 @@ fn each_job(
             crosswalks,
             coordinates,
         )?;
-        k += 1;
     }
     end_jobs(rt, n, lanes)
 }
@@ -1378,8 +1330,7 @@ fn each_call(
 ) -> io::Result<()> {
     let mut counter = first_counter(map);
     let mut seed = 7;
-    let mut i = 0;
-    while i < n {
+    for i in 0..n {
         heading(rt, case_of(map, i))?;
         let c = listed(map, i, counter, seed, lanes);
         let m = make(
@@ -1397,7 +1348,6 @@ fn each_call(
         left(rt, map, m, lanes, boundaries, rules, coordinates)?;
         counter = m.counter;
         seed = after(after(after(seed)));
-        i += 1;
     }
     end(rt, map, lanes)
 }

@@ -4,4 +4,4 @@ use Rattle.anchors.proofs.Anchor.{half-some}
 use Rattle.anchors.proofs.half_way.Goals as goal
 
 pub returns : goal.returns
-returns c = half-some c.args.p c.args.q c.in-Some.a c.in-Some-q.b c.lerp.result c.in-Some.is c.in-Some-q.is c.lerp.ensures
+returns c = half-some c.args.p c.args.q c.in_ok-a.a c.in_ok-b.b c.lerp.result c.in_ok-a.was c.in_ok-b.was c.lerp.ensures

@@ -20,12 +20,6 @@ overflow_add-marks c = omega arith
 pub bounds-marks-start : goal.bounds-marks-start
 bounds-marks-start c = omega arith
 
-pub overflow_add-i : goal.overflow_add-i
-overflow_add-i c = omega arith
-
-pub loop-i-smaller : goal.loop-i-smaller
-loop-i-smaller c = omega arith
-
 pub loop-i-preserved : goal.loop-i-preserved
 loop-i-preserved c = (omega arith, (simp length-set c.loop-i.invariant.1.0, ap (λ (v : List Bool). set v (c.args.start + c.loop-i.i) true) c.loop-i.invariant.1.1 ∙ mark-more c.args.marks.now c.args.start c.args.size c.loop-i.i c.requires c.loop-i-test.true))
 

@@ -1,5 +1,4 @@
--- `apart::mark_line` meets its contract. The invariant: the line's first i points are marked, and nothing else has changed.
--- The measure is how many are left. Assumes nothing.
+-- `apart::mark_line` meets its contract. The invariant: the line's first i points are marked, and nothing else has changed. Assumes nothing.
 use mathlib.Core.Path.{◌≡◌, refl, sym, ap, ◌∙◌}
 use mathlib.Core.Bool.{Bool, true}
 use mathlib.Core.List.{List}
@@ -14,6 +13,3 @@ use Rattle.apart.proofs.mark_line.Given as goal
 
 abbrev pub invariant-loop-i : goal.invariant-loop-i
 invariant-loop-i l = (l.i ≤ l.size) × ((length l.marks ≡ length l.initial.marks) × (l.marks ≡ over l.initial.marks l.start (trues l.i)))
-
-abbrev pub decreases-loop-i : goal.decreases-loop-i
-decreases-loop-i l = l.size - l.i

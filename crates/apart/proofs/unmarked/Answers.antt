@@ -23,12 +23,6 @@ pub returns-then-marks-start : goal.returns-then-marks-start
 unfolding unmarked
 returns-then-marks-start c = sym (c.loop-i.invariant.1 ∙ points-step c.args.marks.now c.args.start c.args.size c.loop-i.i c.requires c.loop-i-test.true ∙ rw c.if-marks-start.true)
 
-pub overflow_add-i : goal.overflow_add-i
-overflow_add-i c = omega arith
-
-pub loop-i-smaller : goal.loop-i-smaller
-loop-i-smaller c = omega arith
-
 pub loop-i-preserved : goal.loop-i-preserved
 unfolding unmarked
 loop-i-preserved c = (omega arith, c.loop-i.invariant.1 ∙ points-step c.args.marks.now c.args.start c.args.size c.loop-i.i c.requires c.loop-i-test.true ∙ rw c.if-marks-start.false)

@@ -1,5 +1,4 @@
--- `apart::unmarked` meets its contract. The invariant: no point of the line is marked where none from the i-th on is.
--- The measure is how many are left. Assumes nothing.
+-- `apart::unmarked` meets its contract. The invariant: no point of the line is marked where none from the i-th on is. Assumes nothing.
 use mathlib.Core.Path.{◌≡◌, refl, sym, ◌∙◌}
 use mathlib.Core.Bool.{not}
 use Prim.Native.Nat.{◌-◌, ◌≤◌}
@@ -12,6 +11,3 @@ use Rattle.apart.proofs.unmarked.Given as goal
 
 abbrev pub invariant-loop-i : goal.invariant-loop-i
 invariant-loop-i l = (l.i ≤ l.size) × (unmarked l.marks (record { start = l.start; size = l.size }) ≡ all not (drop l.i (take l.size (drop l.start l.marks))))
-
-abbrev pub decreases-loop-i : goal.decreases-loop-i
-decreases-loop-i l = l.size - l.i

@@ -1,4 +1,3 @@
-use borrow.Author.Rules.{rules}
 use Rattle.edit_split.proofs.decided.Goals as goal
 
 -- src/lib.rt:45:1

@@ -1,9 +1,9 @@
 -- `faults::ids_fault` meets its contract. What the calls found, in the order of the tables. Assumes nothing.
-use borrow.Author.Rules.{rules}
 use native.Mathlib.Omega.{arith}
 use Rattle.tables.specs.View.{tables_of}
 use Rattle.soundness.proofs.Counts.{counts}
 use Rattle.faults.specs.Faults.{ids_fault}
+use Rattle.faults.proofs.Laws.{seven}
 use Rattle.faults.proofs.ids_fault.Goals as goal
 
 pub id_fault-requires : goal.id_fault-requires
@@ -29,4 +29,4 @@ id_fault-requires-7 c = (omega arith, (counts (tables_of c.args.lanes.now c.args
 
 pub returns : goal.returns
 unfolding ids_fault
-returns c = rw (c.earlier-6.ensures, c.earlier-5.ensures, c.earlier-4.ensures, c.earlier-3.ensures, c.earlier-2.ensures, c.earlier.ensures, c.id_fault.ensures, c.id_fault-2.ensures, c.id_fault-3.ensures, c.id_fault-4.ensures, c.id_fault-5.ensures, c.id_fault-6.ensures, c.id_fault-7.ensures)
+returns c = seven c.id_fault.ensures c.id_fault-2.ensures c.id_fault-3.ensures c.id_fault-4.ensures c.id_fault-5.ensures c.id_fault-6.ensures c.id_fault-7.ensures c.or.ensures c.or-2.ensures c.or-3.ensures c.or-4.ensures c.or-5.ensures c.or-6.ensures

@@ -1,9 +1,9 @@
 -- `faults::later_rows_fault` meets its contract. What the calls found, in the order of the tables. Assumes nothing.
-use borrow.Author.Rules.{rules}
 use mathlib.Core.Path.{refl}
 use Rattle.tables.specs.View.{tables_of}
 use Rattle.row_faults.specs.Passes.{row_words}
 use Rattle.soundness.proofs.Counts.{counts}
+use Rattle.faults.proofs.Laws.{four}
 use Rattle.faults.proofs.later_rows_fault.Goals as goal
 
 pub row_fault-requires : goal.row_fault-requires
@@ -23,4 +23,4 @@ unfolding row_words
 row_fault-requires-4 c = (refl, (counts (tables_of c.args.lanes.now c.args.boundaries.now c.args.roads.now c.args.junctions.now c.args.rules.now c.args.stop_lines.now c.args.crosswalks.now c.args.coordinates.now) c.requires).crosswalks)
 
 pub returns : goal.returns
-returns c = rw (c.earlier-3.ensures, c.earlier-2.ensures, c.earlier.ensures, c.row_fault.ensures, c.row_fault-2.ensures, c.row_fault-3.ensures, c.row_fault-4.ensures)
+returns c = four c.row_fault.ensures c.row_fault-2.ensures c.row_fault-3.ensures c.row_fault-4.ensures c.or.ensures c.or-2.ensures c.or-3.ensures

@@ -1,5 +1,4 @@
 -- `faults::row_fault` meets its contract. What the search found. Assumes nothing.
-use borrow.Author.Rules.{rules}
 use native.Mathlib.Omega.{arith}
 use lib.ListN.{get_or}
 use Rattle.tables.specs.View.{rows}

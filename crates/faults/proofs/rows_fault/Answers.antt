@@ -1,10 +1,10 @@
 -- `faults::rows_fault` meets its contract. What the calls found, in the order of the tables. Assumes nothing.
-use borrow.Author.Rules.{rules}
 use mathlib.Core.Path.{refl}
 use Rattle.tables.specs.View.{tables_of}
 use Rattle.row_faults.specs.Passes.{row_words}
 use Rattle.soundness.proofs.Counts.{counts}
 use Rattle.faults.specs.Faults.{rows_fault}
+use Rattle.faults.proofs.Laws.{four}
 use Rattle.faults.proofs.rows_fault.Goals as goal
 
 pub row_fault-requires : goal.row_fault-requires
@@ -21,4 +21,4 @@ row_fault-requires-3 c = (refl, (counts (tables_of c.args.lanes.now c.args.bound
 
 pub returns : goal.returns
 unfolding rows_fault
-returns c = rw (c.earlier-3.ensures, c.earlier-2.ensures, c.earlier.ensures, c.row_fault.ensures, c.row_fault-2.ensures, c.row_fault-3.ensures, c.later_rows_fault-later.ensures)
+returns c = four c.row_fault.ensures c.row_fault-2.ensures c.row_fault-3.ensures c.later_rows_fault-later.ensures c.or.ensures c.or-2.ensures c.or-3.ensures

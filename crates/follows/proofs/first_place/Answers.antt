@@ -1,4 +1,4 @@
--- `follows::first_place` meets its contract. The invariant: the first i ids are others, so the place is i on from that in the rest. The measure is how many ids are left. Assumes nothing.
+-- `follows::first_place` meets its contract. The invariant: the first i ids are others, so the place is i on from that in the rest. Assumes nothing.
 use mathlib.Core.Path.{◌≡◌, sym, ◌∙◌}
 use Prim.Native.Nat.{◌+◌, ◌-◌, ◌≤◌}
 use native.Mathlib.Omega.{arith}
@@ -22,12 +22,6 @@ returns-then-ids-i c =
     let a = c.args in
     (sym (l.invariant.1 ∙ search-here a.id a.ids.now l.i c.loop-i-test.true c.if-ids-i.true), l.invariant.0)
 
-pub overflow_add-i : goal.overflow_add-i
-overflow_add-i c = omega arith
-
-pub loop-i-smaller : goal.loop-i-smaller
-loop-i-smaller c = omega arith
-
 pub loop-i-preserved : goal.loop-i-preserved
 loop-i-preserved c =
     let l = c.loop-i in
@@ -38,4 +32,5 @@ pub returns : goal.returns
 returns c =
     let l = c.loop-i in
     let a = c.args in
-    (sym (l.invariant.1 ∙ search-end a.id a.ids.now l.i c.loop-i-test.false), l.invariant.0)
+    let last : length a.ids.now ≡ l.i = omega (arith, l.invariant.0, c.loop-i-test.false) in
+    (last ∙ sym (l.invariant.1 ∙ search-end a.id a.ids.now l.i c.loop-i-test.false), omega arith)

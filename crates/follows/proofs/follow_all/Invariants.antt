@@ -1,4 +1,5 @@
--- `follows::follow_all` meets its contract. The invariant: the first r cut lanes are done, and the others make of the list what all make of it. The measure is how many are left. Assumes nothing.
+-- `follows::follow_all` meets its contract. The invariant: the first r cut lanes are done, and the others make of the list what all make of it. Assumes
+-- nothing.
 use Prim.Native.Nat.{◌-◌}
 use native.Mathlib.Omega.{arith}
 use lib.ListN.{length}
@@ -7,6 +8,3 @@ use Rattle.follows.proofs.follow_all.Given as goal
 
 abbrev pub invariant-loop-r : goal.invariant-loop-r
 invariant-loop-r l = Followed l.anchored l.past l.next l.cut l.initial.row l.row l.r
-
-abbrev pub decreases-loop-r : goal.decreases-loop-r
-decreases-loop-r l = length l.cut - l.r

@@ -1,4 +1,4 @@
--- `follows::follow_rules` meets its contract. The invariant: the first i rules have followed, and the others are as they were. The measure is how many are left. Assumes nothing.
+-- `follows::follow_rules` meets its contract. The invariant: the first i rules have followed, and the others are as they were. Assumes nothing.
 use mathlib.Core.Path.{refl, ap, ◌∙◌}
 use Prim.Native.Nat.{◌+◌, ◌*◌, ◌-◌}
 use native.Mathlib.Omega.{arith}
@@ -57,12 +57,6 @@ slice_bounds-follow_rule-end-in-loop-i c = omega (arith, marks-room c.args.ancho
 
 pub follow_rule-requires : goal.follow_rule-requires
 follow_rule-requires c = rule-may c.args.anchored.now c.args.past.now c.args.next c.args.cut.now c.args.t.now c.requires c.loop-i.i c.loop-i-test.true (row_of 330 c.loop-i.t c.loop-i.i) (turned-row 330 (map_numbered 330 (λ j w. rule_follows (get_or c.args.anchored.now j false) (marks_of c.args.past.now j) c.args.next c.args.cut.now w)) c.args.t.now c.loop-i.t c.loop-i.i c.loop-i.invariant) (take (c.loop-i.i * 64 + 64 - c.loop-i.i * 64) (drop (c.loop-i.i * 64) c.args.past.now)) (marks-lent c.args.past.now c.loop-i.i)
-
-pub overflow_add-i : goal.overflow_add-i
-overflow_add-i c = omega (arith, rules-few c.args.anchored.now c.args.past.now c.args.next c.args.cut.now c.args.t.now c.requires c.loop-i.i c.loop-i-test.true)
-
-pub loop-i-smaller : goal.loop-i-smaller
-loop-i-smaller c = omega (arith, c.loop-i-test.true)
 
 pub loop-i-preserved : goal.loop-i-preserved
 unfolding map_numbered

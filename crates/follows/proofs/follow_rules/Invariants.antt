@@ -1,4 +1,4 @@
--- `follows::follow_rules` meets its contract. The invariant: the first i rules have followed, and the others are as they were. The measure is how many are left. Assumes nothing.
+-- `follows::follow_rules` meets its contract. The invariant: the first i rules have followed, and the others are as they were. Assumes nothing.
 use mathlib.Core.Path.{refl, ap, ◌∙◌}
 use Prim.Native.Nat.{◌+◌, ◌*◌, ◌-◌}
 use native.Mathlib.Omega.{arith}
@@ -12,6 +12,3 @@ use Rattle.follows.proofs.follow_rules.Given as goal
 
 abbrev pub invariant-loop-i : goal.invariant-loop-i
 invariant-loop-i l = Turned 330 (map_numbered 330 (λ j w. rule_follows (get_or l.anchored j false) (marks_of l.past j) l.next l.cut w)) l.initial.t l.t l.i
-
-abbrev pub decreases-loop-i : goal.decreases-loop-i
-decreases-loop-i l = l.n - l.i

@@ -1,4 +1,4 @@
--- `follows::mark_rules` meets its contract. The invariant: the first i marks are those of the first i rules. The measure is how many are left. Assumes nothing.
+-- `follows::mark_rules` meets its contract. The invariant: the first i marks are those of the first i rules. Assumes nothing.
 use Prim.Native.Nat.{◌-◌}
 use native.Mathlib.Omega.{arith}
 use Rattle.follows.proofs.Differs.{Marked, mark-begins, mark-some, mark-few, mark-long, mark-room, past_room, mark-may, mark-turn, mark-ends}
@@ -54,12 +54,6 @@ rule_differs-requires c = mark-may c.args.anchored.now c.args.past.now c.args.cu
 
 pub bounds-marks-i : goal.bounds-marks-i
 bounds-marks-i c = omega (arith, c.loop-i-test.true, c.requires.room, mark-long c.args.anchored.now c.args.past.now c.args.cut.now c.args.t.now c.args.marks.now c.requires c.loop-i.i c.loop-i.marks c.loop-i.invariant)
-
-pub overflow_add-i : goal.overflow_add-i
-overflow_add-i c = omega (arith, mark-few c.args.anchored.now c.args.past.now c.args.cut.now c.args.t.now c.args.marks.now c.requires c.loop-i.i c.loop-i.marks c.loop-i.invariant c.loop-i-test.true)
-
-pub loop-i-smaller : goal.loop-i-smaller
-loop-i-smaller c = omega (arith, c.loop-i-test.true)
 
 pub loop-i-preserved : goal.loop-i-preserved
 loop-i-preserved c = mark-turn c.args.anchored.now c.args.past.now c.args.cut.now c.args.t.now c.args.marks.now c.requires c.loop-i.i c.loop-i.marks c.loop-i.invariant c.loop-i-test.true c.rule_differs.result c.rule_differs.ensures

@@ -1,4 +1,5 @@
--- `follows::own_differ` meets its contract. The invariant: of the first r cut lanes none changes the list, so one of the others does where one of all does. The measure is how many are left. Assumes nothing.
+-- `follows::own_differ` meets its contract. The invariant: of the first r cut lanes none changes the list, so one of the others does where one of all does.
+-- Assumes nothing.
 use mathlib.Core.Path.{◌≡◌, refl, sym, ap, ◌∙◌}
 use mathlib.Core.Logic.{⊎_elim}
 use mathlib.Core.Bool.{true, false, not, ◌&&◌, cond}
@@ -60,12 +61,6 @@ returns-then-past-p c =
     let l = c.loop-r in
     let t = differs-by a.anchored a.past.now a.row.now c.requires (get_or a.cut.now l.r 0) c.first_place-p.result c.first_place-p.ensures c.if-p-n.true true (ap not c.if-not-anchored.false) c.if-past-p.true in
     sym (l.invariant.1 ∙ any_here (λ i. has i (ids_at 5 a.row.now) && cond a.anchored (get_or a.past.now (first_place i (ids_at 5 a.row.now)) false) true) a.cut.now l.r 0 c.loop-r-test.true t)
-
-pub overflow_add-r : goal.overflow_add-r
-overflow_add-r c = omega arith
-
-pub loop-r-smaller : goal.loop-r-smaller
-loop-r-smaller c = omega arith
 
 pub loop-r-preserved : goal.loop-r-preserved
 loop-r-preserved c =

@@ -1,4 +1,5 @@
--- `follows::own_differ` meets its contract. The invariant: of the first r cut lanes none changes the list, so one of the others does where one of all does. The measure is how many are left. Assumes nothing.
+-- `follows::own_differ` meets its contract. The invariant: of the first r cut lanes none changes the list, so one of the others does where one of all does.
+-- Assumes nothing.
 use mathlib.Core.Path.{◌≡◌, refl, sym, ◌∙◌}
 use mathlib.Core.Logic.{⊎_elim}
 use mathlib.Core.Bool.{true, false, ◌&&◌, cond}
@@ -13,6 +14,3 @@ use Rattle.follows.proofs.own_differ.Given as goal
 
 abbrev pub invariant-loop-r : goal.invariant-loop-r
 invariant-loop-r l = (l.r ≤ length l.cut) × (any (λ i. has i (ids_at 5 l.row) && cond l.anchored (get_or l.past (first_place i (ids_at 5 l.row)) false) true) l.cut ≡ any (λ i. has i (ids_at 5 l.row) && cond l.anchored (get_or l.past (first_place i (ids_at 5 l.row)) false) true) (drop l.r l.cut))
-
-abbrev pub decreases-loop-r : goal.decreases-loop-r
-decreases-loop-r l = length l.cut - l.r

@@ -1,4 +1,4 @@
--- `naming::forget` meets its contract. The invariant: the first i rows have forgotten the lane, and the others are as they were. The measure is how many
+-- `naming::forget` meets its contract. The invariant: the first i rows have forgotten the lane, and the others are as they were.
 use Prim.Native.Nat.{◌+◌, ◌*◌, ◌-◌, ◌≤◌}
 use native.Mathlib.Omega.{arith}
 use borrow.Author.Rules.{rules}
@@ -62,12 +62,6 @@ forget_row-requires c =
     let l = c.loop-i in
     let s = c.row_words-s in
     changed-formed a.rows (forgets a.rows a.id) (forgets-length a.rows a.id) a.t.now c.requires l.t l.i l.invariant s.result s.ensures c.loop-i-test.true
-
-pub overflow_add-i : goal.overflow_add-i
-overflow_add-i c = omega (arith, c.loop-i-test.true, formed-few c.args.rows c.args.t.now c.requires)
-
-pub loop-i-smaller : goal.loop-i-smaller
-loop-i-smaller c = omega (arith, c.loop-i-test.true)
 
 pub loop-i-preserved : goal.loop-i-preserved
 loop-i-preserved c =

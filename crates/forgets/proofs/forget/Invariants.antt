@@ -1,5 +1,4 @@
--- `naming::forget` meets its contract. The invariant: the first i rows have forgotten the lane, and the others are as they were. The measure is how many
--- rows are left. Assumes nothing.
+-- `naming::forget` meets its contract. The invariant: the first i rows have forgotten the lane, and the others are as they were. Assumes nothing.
 use Prim.Native.Nat.{◌+◌, ◌*◌, ◌-◌, ◌≤◌}
 use native.Mathlib.Omega.{arith}
 use borrow.Author.Rules.{rules}
@@ -12,6 +11,3 @@ use Rattle.forgets.proofs.forget.Given as goal
 
 abbrev pub invariant-loop-i : goal.invariant-loop-i
 invariant-loop-i l = Changed l.rows (forgets l.rows l.id) l.initial.t l.t l.i
-
-abbrev pub decreases-loop-i : goal.decreases-loop-i
-decreases-loop-i l = l.n - l.i

@@ -1,4 +1,4 @@
--- `group::marked_ids` meets its contract. The invariant: the ids of the marked rows before j are written. The measure is how many rows are left.
+-- `group::marked_ids` meets its contract. The invariant: the ids of the marked rows before j are written.
 use mathlib.Core.Path.{◌≡◌, refl, sym, ap, ◌∙◌}
 use mathlib.Core.Logic.{⊎_elim}
 use Prim.Native.Nat.{◌-◌, ◌≤◌}
@@ -43,12 +43,6 @@ bounds-out-count c = omega arith
 
 pub overflow_add-count : goal.overflow_add-count
 overflow_add-count c = omega arith
-
-pub overflow_add-j : goal.overflow_add-j
-overflow_add-j c = omega arith
-
-pub loop-j-smaller : goal.loop-j-smaller
-loop-j-smaller c = omega arith
 
 pub loop-j-preserved : goal.loop-j-preserved
 loop-j-preserved c =

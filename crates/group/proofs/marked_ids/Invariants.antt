@@ -1,5 +1,4 @@
--- `group::marked_ids` meets its contract. The invariant: the ids of the marked rows before j are written. The measure is how many rows are left.
--- Assumes nothing.
+-- `group::marked_ids` meets its contract. The invariant: the ids of the marked rows before j are written. Assumes nothing.
 use mathlib.Core.Path.{◌≡◌, refl, sym, ap, ◌∙◌}
 use mathlib.Core.Logic.{⊎_elim}
 use Prim.Native.Nat.{◌-◌, ◌≤◌}
@@ -16,6 +15,3 @@ use Rattle.group.proofs.marked_ids.Given as goal
 
 abbrev pub invariant-loop-j : goal.invariant-loop-j
 invariant-loop-j l = (l.j ≤ word 0 l.lanes) × ((l.count ≤ l.j) × ((length l.out ≡ length l.initial.out) × ((l.count ≡ length (chosen l.seen (take l.j (ids_of l.lanes)))) × (l.out ≡ over l.initial.out 0 (chosen l.seen (take l.j (ids_of l.lanes)))))))
-
-abbrev pub decreases-loop-j : goal.decreases-loop-j
-decreases-loop-j l = word 0 l.lanes - l.j

@@ -26,12 +26,6 @@ rank-requires c = rw keys-one c.requires.1
 pub overflow_add-count : goal.overflow_add-count
 overflow_add-count c = omega arith
 
-pub overflow_add-i : goal.overflow_add-i
-overflow_add-i c = omega arith
-
-pub loop-i-smaller : goal.loop-i-smaller
-loop-i-smaller c = omega arith
-
 pub loop-i-preserved : goal.loop-i-preserved
 loop-i-preserved c =
     let a = c.args in
@@ -42,7 +36,7 @@ loop-i-preserved c =
     let h : t.i < length w = omega arith in
     let p = one_has (get_or w t.i 0) cut f.result f.ensures in
     ⊎_elim
-    (λ s. (omega arith, (omega arith, s.count-is ∙ count-one (λ k. has k cut) w t.i t.count 0 h t.invariant.1.1 (p ∙ ap there s.in-At.is))))
+    (λ s. (omega arith, (omega arith, s.count-is ∙ count-one (λ k. has k cut) w t.i t.count 0 h t.invariant.1.1 (p ∙ ap there s.in-Some.is))))
     (λ s. (omega arith, (omega arith, s.count-is ∙ count_none (λ k. has k cut) w t.i t.count 0 h t.invariant.1.1 (p ∙ ap there s.in_default.is))))
     c.match-rank.branch-raw
 

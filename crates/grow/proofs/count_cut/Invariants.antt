@@ -1,5 +1,4 @@
--- `grow::count_cut` meets its contract. The invariant: the count is that of the cut ids before i.
--- The measure is how many are left to look at. Assumes nothing.
+-- `grow::count_cut` meets its contract. The invariant: the count is that of the cut ids before i. Assumes nothing.
 use mathlib.Core.Path.{◌≡◌, refl, ap, ◌∙◌}
 use mathlib.Core.Logic.{⊎_elim}
 use Prim.Native.Nat.{◌-◌, ◌≤◌, ◌<◌}
@@ -13,6 +12,3 @@ use Rattle.grow.proofs.count_cut.Given as goal
 
 abbrev pub invariant-loop-i : goal.invariant-loop-i
 invariant-loop-i l = (l.i ≤ l.n) × ((l.count ≤ l.i) × (l.count ≡ length (keep (λ k. has k l.cut) (take l.i l.ids))))
-
-abbrev pub decreases-loop-i : goal.decreases-loop-i
-decreases-loop-i l = l.n - l.i

@@ -17,13 +17,13 @@ pub overflow_add-second : goal.overflow_add-second
 overflow_add-second c =
     let a = c.args in
     let f = c.rank in
-    omega (arith, found_within (get_or a.slots.now a.i 0) a.cut.now c.in-At.r (one_found (get_or a.slots.now a.i 0) a.cut.now f.result f.ensures ∙ c.in-At.is))
+    omega (arith, found_within (get_or a.slots.now a.i 0) a.cut.now c.in-Some.r (one_found (get_or a.slots.now a.i 0) a.cut.now f.result f.ensures ∙ c.in-Some.is))
 
 pub returns-then-i-to : goal.returns-then-i-to
-returns-then-i-to c = let a = c.args in let f = c.rank in moved-met a.slots.now a.cut.now a.next a.i a.to c.requires.0 c.requires.1.0 f.result f.ensures c.in-At.r c.in-At.is c.if-i-to.true
+returns-then-i-to c = let a = c.args in let f = c.rank in moved-met a.slots.now a.cut.now a.next a.i a.to c.requires.0 c.requires.1.0 f.result f.ensures c.in-Some.r c.in-Some.is c.if-i-to.true
 
 pub bounds-slots-front : goal.bounds-slots-front
 bounds-slots-front c = simp length-set (omega arith)
 
 pub returns : goal.returns
-returns c = let a = c.args in let f = c.rank in moved-two a.slots.now a.cut.now a.next a.i a.to c.requires.0 c.requires.1.0 f.result f.ensures c.in-At.r c.in-At.is c.if-i-to.false
+returns c = let a = c.args in let f = c.rank in moved-two a.slots.now a.cut.now a.next a.i a.to c.requires.0 c.requires.1.0 f.result f.ensures c.in-Some.r c.in-Some.is c.if-i-to.false

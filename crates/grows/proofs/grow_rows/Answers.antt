@@ -1,4 +1,4 @@
--- `grows::grow_rows` meets its contract. The invariant: the first i rows are grown, and the others as they were. The measure is how many rows are left. Assumes nothing.
+-- `grows::grow_rows` meets its contract. The invariant: the first i rows are grown, and the others as they were. Assumes nothing.
 use mathlib.Core.Path.{refl}
 use Prim.Native.Nat.{◌-◌}
 use native.Mathlib.Omega.{arith}
@@ -38,12 +38,6 @@ slice_bounds-grow_list-end c = omega (arith, grows-room c.args.next c.args.cut.n
 
 pub grow_list-requires : goal.grow_list-requires
 grow_list-requires c = grows-lent c.args.next c.args.cut.now c.args.s c.args.k c.args.t.now c.requires c.loop-i.i c.loop-i-test.true (row_of c.args.s c.loop-i.t c.loop-i.i) (turned-row c.args.s (λ j n w. map_rows c.args.s (grows_at c.args.next c.args.cut.now c.args.k) n w) c.args.t.now c.loop-i.t c.loop-i.i c.loop-i.invariant)
-
-pub overflow_add-i : goal.overflow_add-i
-overflow_add-i c = omega (arith, grows-few c.args.next c.args.cut.now c.args.s c.args.k c.args.t.now c.requires c.loop-i.i c.loop-i-test.true)
-
-pub loop-i-smaller : goal.loop-i-smaller
-loop-i-smaller c = omega (arith, c.loop-i-test.true)
 
 pub loop-i-preserved : goal.loop-i-preserved
 unfolding map_rows

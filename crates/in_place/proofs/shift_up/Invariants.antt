@@ -1,4 +1,4 @@
--- `in_place::shift_up` meets its contract. The invariant: the floats from i on are moved, and nothing else has changed. The measure is i. Assumes nothing.
+-- `in_place::shift_up` meets its contract. The invariant: the floats from i on are moved, and nothing else has changed. Assumes nothing.
 use mathlib.Core.Path.{◌≡◌, refl}
 use native.Mathlib.Omega.{arith}
 use Prim.Native.Nat.{◌+◌, ◌-◌, ◌≤◌}
@@ -10,6 +10,3 @@ use Rattle.in_place.proofs.shift_up.Given as goal
 
 abbrev pub invariant-loop-i : goal.invariant-loop-i
 invariant-loop-i l = (l.i ≤ l.n) × ((length l.c ≡ length l.initial.c) × (l.c ≡ over l.initial.c (l.at + l.i) (take (l.n - l.i) (drop (l.start + l.i) l.initial.c))))
-
-abbrev pub decreases-loop-i : goal.decreases-loop-i
-decreases-loop-i l = l.i

@@ -107,72 +107,72 @@ pub first_tests-first-requires : goal.first_tests-first-requires
 first_tests-first-requires c = tt
 
 -- src/lib.rt:132:9
-pub shape_of-lanes-in-Refused : goal.shape_of-lanes-in-Refused
-shape_of-lanes-in-Refused c = refl
+pub shape_of-lanes-in-Err : goal.shape_of-lanes-in-Err
+shape_of-lanes-in-Err c = refl
 
 -- src/lib.rt:132:9
-pub shape_of-boundaries-in-Refused : goal.shape_of-boundaries-in-Refused
-shape_of-boundaries-in-Refused c = refl
+pub shape_of-boundaries-in-Err : goal.shape_of-boundaries-in-Err
+shape_of-boundaries-in-Err c = refl
 
 -- src/lib.rt:132:9
-pub shape_of-roads-in-Refused : goal.shape_of-roads-in-Refused
-shape_of-roads-in-Refused c = refl
+pub shape_of-roads-in-Err : goal.shape_of-roads-in-Err
+shape_of-roads-in-Err c = refl
 
 -- src/lib.rt:132:9
-pub shape_of-junctions-in-Refused : goal.shape_of-junctions-in-Refused
-shape_of-junctions-in-Refused c = refl
+pub shape_of-junctions-in-Err : goal.shape_of-junctions-in-Err
+shape_of-junctions-in-Err c = refl
 
 -- src/lib.rt:132:9
-pub shape_of-rules-in-Refused : goal.shape_of-rules-in-Refused
-shape_of-rules-in-Refused c = refl
+pub shape_of-rules-in-Err : goal.shape_of-rules-in-Err
+shape_of-rules-in-Err c = refl
 
 -- src/lib.rt:132:9
-pub shape_of-stop_lines-in-Refused : goal.shape_of-stop_lines-in-Refused
-shape_of-stop_lines-in-Refused c = refl
+pub shape_of-stop_lines-in-Err : goal.shape_of-stop_lines-in-Err
+shape_of-stop_lines-in-Err c = refl
 
 -- src/lib.rt:132:9
-pub shape_of-crosswalks-in-Refused : goal.shape_of-crosswalks-in-Refused
-shape_of-crosswalks-in-Refused c = refl
+pub shape_of-crosswalks-in-Err : goal.shape_of-crosswalks-in-Err
+shape_of-crosswalks-in-Err c = refl
 
 -- src/lib.rt:132:9
-pub shape_of-coordinates-in-Refused : goal.shape_of-coordinates-in-Refused
-shape_of-coordinates-in-Refused c = refl
+pub shape_of-coordinates-in-Err : goal.shape_of-coordinates-in-Err
+shape_of-coordinates-in-Err c = refl
 
 -- src/lib.rt:132:9
-pub shape_of-old_lanes-in-Refused : goal.shape_of-old_lanes-in-Refused
-shape_of-old_lanes-in-Refused c = refl
+pub shape_of-old_lanes-in-Err : goal.shape_of-old_lanes-in-Err
+shape_of-old_lanes-in-Err c = refl
 
 -- src/lib.rt:132:9
-pub shape_of-old_boundaries-in-Refused : goal.shape_of-old_boundaries-in-Refused
-shape_of-old_boundaries-in-Refused c = refl
+pub shape_of-old_boundaries-in-Err : goal.shape_of-old_boundaries-in-Err
+shape_of-old_boundaries-in-Err c = refl
 
 -- src/lib.rt:132:9
-pub shape_of-old_roads-in-Refused : goal.shape_of-old_roads-in-Refused
-shape_of-old_roads-in-Refused c = refl
+pub shape_of-old_roads-in-Err : goal.shape_of-old_roads-in-Err
+shape_of-old_roads-in-Err c = refl
 
 -- src/lib.rt:132:9
-pub shape_of-old_junctions-in-Refused : goal.shape_of-old_junctions-in-Refused
-shape_of-old_junctions-in-Refused c = refl
+pub shape_of-old_junctions-in-Err : goal.shape_of-old_junctions-in-Err
+shape_of-old_junctions-in-Err c = refl
 
 -- src/lib.rt:132:9
-pub shape_of-old_rules-in-Refused : goal.shape_of-old_rules-in-Refused
-shape_of-old_rules-in-Refused c = refl
+pub shape_of-old_rules-in-Err : goal.shape_of-old_rules-in-Err
+shape_of-old_rules-in-Err c = refl
 
 -- src/lib.rt:132:9
-pub shape_of-old_stop_lines-in-Refused : goal.shape_of-old_stop_lines-in-Refused
-shape_of-old_stop_lines-in-Refused c = refl
+pub shape_of-old_stop_lines-in-Err : goal.shape_of-old_stop_lines-in-Err
+shape_of-old_stop_lines-in-Err c = refl
 
 -- src/lib.rt:132:9
-pub shape_of-old_crosswalks-in-Refused : goal.shape_of-old_crosswalks-in-Refused
-shape_of-old_crosswalks-in-Refused c = refl
+pub shape_of-old_crosswalks-in-Err : goal.shape_of-old_crosswalks-in-Err
+shape_of-old_crosswalks-in-Err c = refl
 
 -- src/lib.rt:132:9
-pub shape_of-old_coordinates-in-Refused : goal.shape_of-old_coordinates-in-Refused
-shape_of-old_coordinates-in-Refused c = refl
+pub shape_of-old_coordinates-in-Err : goal.shape_of-old_coordinates-in-Err
+shape_of-old_coordinates-in-Err c = refl
 
 -- src/lib.rt:132:9
-pub returns-in-Refused : goal.returns-in-Refused
-returns-in-Refused c = sym (tests-refused (job_lent (lentOn c.before.before.before.before.before.before.before.before.before.before.before.before.before.before.before.before.before.before.before.before.before.before.before (mapOf c.before.before.before.before.before.before.before.before.before.before.before.before.before.before.before.before.before.before.before.before.before.before.before)) (old_of c.before.before.before.before.before.before.before.before.before.before.before.before.before.before.before.before.before.before.before.before.before.before.before)) c.args.job c.args.tolerance c.first_tests-first.result c.in-Refused.answer c.first_tests-first.ensures c.in-Refused.is)
+pub returns-in-Err : goal.returns-in-Err
+returns-in-Err c = sym (tests-refused (job_lent (lentOn c.before.before.before.before.before.before.before.before.before.before.before.before.before.before.before.before.before.before.before.before.before.before.before (mapOf c.before.before.before.before.before.before.before.before.before.before.before.before.before.before.before.before.before.before.before.before.before.before.before)) (old_of c.before.before.before.before.before.before.before.before.before.before.before.before.before.before.before.before.before.before.before.before.before.before.before)) c.args.job c.args.tolerance c.first_tests-first.result c.in-Err.refusal c.first_tests-first.ensures c.in-Err.is)
 
 -- src/lib.rt:134:5
 pub keep_copy-requires : goal.keep_copy-requires

@@ -20,7 +20,7 @@ old_of s =
     s.args.old_stop_lines.now s.args.old_crosswalks.now []
 
 pub net_lists-n-requires : goal.net_lists-n-requires
-net_lists-n-requires c = let h = done-sorted (mapOf (goal.at.net_lists-n-requires c).Start) (old_of (goal.at.net_lists-n-requires c).Start) c.args.ran _ _ c.in-Done.is c.requires.0 in (h.0, (h.1, c.requires.1))
+net_lists-n-requires c = let h = done-sorted (mapOf (goal.at.net_lists-n-requires c).Start) (old_of (goal.at.net_lists-n-requires c).Start) c.args.ran c.in-Ok.done.counter c.in-Ok.done.warnings c.in-Ok.is c.requires.0 in (h.0, (h.1, c.requires.1))
 
 pub shape_of-all_created-then-not-lists_fit : goal.shape_of-all_created-then-not-lists_fit
 shape_of-all_created-then-not-lists_fit c = c.net_lists-n.auto.all_created
@@ -32,10 +32,10 @@ pub shape_of-all_deleted-then-not-lists_fit : goal.shape_of-all_deleted-then-not
 shape_of-all_deleted-then-not-lists_fit c = c.net_lists-n.auto.all_deleted
 
 pub returns-then-not-lists_fit : goal.returns-then-not-lists_fit
-returns-then-not-lists_fit c = ends-short c.args.counter (mapOf (goal.at.returns-then-not-lists_fit c).Start) (old_of (goal.at.returns-then-not-lists_fit c).Start) c.args.marks.now c.args.all_created.now c.args.all_modified.now c.args.all_deleted.now c.args.created.now c.args.modified.now c.args.deleted.now c.args.warnings.now c.args.ran _ _ c.in-Done.is c.net_lists-n.result c.net_lists-n.new.all_created c.net_lists-n.new.all_modified c.net_lists-n.new.all_deleted c.net_lists-n.ensures (sym c.lists_fit.ensures ∙ not-true c.lists_fit.result (ap not c.if-not-lists_fit.true))
+returns-then-not-lists_fit c = ends-short c.args.counter (mapOf (goal.at.returns-then-not-lists_fit c).Start) (old_of (goal.at.returns-then-not-lists_fit c).Start) c.args.marks.now c.args.all_created.now c.args.all_modified.now c.args.all_deleted.now c.args.created.now c.args.modified.now c.args.deleted.now c.args.warnings.now c.args.ran c.in-Ok.done.counter c.in-Ok.done.warnings c.in-Ok.is c.net_lists-n.result c.net_lists-n.new.all_created c.net_lists-n.new.all_modified c.net_lists-n.new.all_deleted c.net_lists-n.ensures (sym c.lists_fit.ensures ∙ not-true c.lists_fit.result (ap not c.if-not-lists_fit.true))
 
-pub returns-in-Stopped : goal.returns-in-Stopped
-returns-in-Stopped c = ends-refused c.args.counter (mapOf (goal.at.returns-in-Stopped c).Start) (old_of (goal.at.returns-in-Stopped c).Start) c.args.marks.now c.args.all_created.now c.args.all_modified.now c.args.all_deleted.now c.args.created.now c.args.modified.now c.args.deleted.now c.args.warnings.now c.args.ran _ _ c.args.all_created.now c.args.all_modified.now c.args.all_deleted.now c.in-Stopped.is
+pub returns-in-Err : goal.returns-in-Err
+returns-in-Err c = ends-refused c.args.counter (mapOf (goal.at.returns-in-Err c).Start) (old_of (goal.at.returns-in-Err c).Start) c.args.marks.now c.args.all_created.now c.args.all_modified.now c.args.all_deleted.now c.args.created.now c.args.modified.now c.args.deleted.now c.args.warnings.now c.args.ran c.in-Err.stopped.place c.in-Err.stopped.refusal c.args.all_created.now c.args.all_modified.now c.args.all_deleted.now c.in-Err.is
 
 pub shape_of-all_created : goal.shape_of-all_created
 shape_of-all_created c = c.net_lists-n.auto.all_created
@@ -47,4 +47,4 @@ pub shape_of-all_deleted : goal.shape_of-all_deleted
 shape_of-all_deleted c = c.net_lists-n.auto.all_deleted
 
 pub returns-else-not-lists_fit : goal.returns-else-not-lists_fit
-returns-else-not-lists_fit c = ends-made c.args.counter (mapOf (goal.at.returns-else-not-lists_fit c).Start) (old_of (goal.at.returns-else-not-lists_fit c).Start) c.args.marks.now c.args.all_created.now c.args.all_modified.now c.args.all_deleted.now c.args.created.now c.args.modified.now c.args.deleted.now c.args.warnings.now c.args.ran _ _ c.in-Done.is c.net_lists-n.result c.net_lists-n.new.all_created c.net_lists-n.new.all_modified c.net_lists-n.new.all_deleted c.net_lists-n.ensures (sym c.lists_fit.ensures ∙ not-false c.lists_fit.result (ap not c.if-not-lists_fit.false))
+returns-else-not-lists_fit c = ends-made c.args.counter (mapOf (goal.at.returns-else-not-lists_fit c).Start) (old_of (goal.at.returns-else-not-lists_fit c).Start) c.args.marks.now c.args.all_created.now c.args.all_modified.now c.args.all_deleted.now c.args.created.now c.args.modified.now c.args.deleted.now c.args.warnings.now c.args.ran c.in-Ok.done.counter c.in-Ok.done.warnings c.in-Ok.is c.net_lists-n.result c.net_lists-n.new.all_created c.net_lists-n.new.all_modified c.net_lists-n.new.all_deleted c.net_lists-n.ensures (sym c.lists_fit.ensures ∙ not-false c.lists_fit.result (ap not c.if-not-lists_fit.false))

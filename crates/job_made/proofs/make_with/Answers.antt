@@ -20,9 +20,9 @@ use Rattle.job_told.specs.Told.{kept_rows}
 use Rattle.job_told.proofs.Sorted.{sound-sorted}
 use Rattle.job_told.proofs.Ends.{put-back-same, same-fits}
 use Rattle.job_made.proofs.Keeping.{began}
-use Rattle.job_made.proofs.Ends.{Ready, decided-ready, decided-refused, not_made, ran-lengths, ran-sorted, ready-ends, ready-long, ready-told}
+use Rattle.job_made.proofs.Ends.{Ready, decided-ready, decided-refused, ran-lengths, ran-sorted, ready-ends, ready-long, ready-told}
 use Rattle.job_made.proofs.make_with.Goals as goal
-use Rattle.job_made.proofs.make_with.Goals.{In-Made}
+use Rattle.job_made.proofs.make_with.Goals.{In-Ok}
 use Rattle.job_made.proofs.make_with.Lts as lts
 use Rattle.job_made.proofs.make_with.Reads as reads
 use Rattle.job_made.proofs.make_with.Tie as tie
@@ -106,24 +106,24 @@ abbrev editsOf : AtAfterDecidedEnd → AtAfterMakeEditsRan
 editsOf d = d.before.before.before.before.before.before.before.before.before.before.before.before.before.before.before.before.before.before.before.before.before.before.before.before.before.before.before.before.before.before
 
 -- a job that is made
-abbrev decidedOf : In-Made → AtAfterDecidedEnd
+abbrev decidedOf : In-Ok → AtAfterDecidedEnd
 decidedOf a = a.before.before.before.before.before.before.before.before
 
-abbrev counts_of : In-Made → Counts
-counts_of a = a.in-Made.n
+abbrev counts_of : In-Ok → Counts
+counts_of a = a.in-Ok.n
 
-abbrev ReadyAt : In-Made → AtAfterDecidedEnd → AtAfterMakeEditsRan → AtStart → Type 0
+abbrev ReadyAt : In-Ok → AtAfterDecidedEnd → AtAfterMakeEditsRan → AtStart → Type 0
 ReadyAt a d m s =
     Ready (lentOn s (old_of s)) (runOn s (old_of s)) d.decided-end.result.counter (left_by m) (counts_of a) d.decided-end.new.all_created d.decided-end.new.all_modified d.decided-end.new.all_deleted (keptBy m)
 
-ready : (a : In-Made) → ReadyAt a (decidedOf a) (editsOf (decidedOf a)) (start_of (editsOf (decidedOf a)))
+ready : (a : In-Ok) → ReadyAt a (decidedOf a) (editsOf (decidedOf a)) (start_of (editsOf (decidedOf a)))
 ready a =
     let d = decidedOf a in
     let m = editsOf d in
     let s = start_of m in
     decided-ready (lentOn s (old_of s)) (left_by m) s.args.marks.now s.args.kept.now (marks_by m) (keptBy m) m.make_edits-ran.result
     m.make_edits-ran.new.created m.make_edits-ran.new.modified m.make_edits-ran.new.deleted d.decided-end.result d.decided-end.new.all_created d.decided-end.new.all_modified d.decided-end.new.all_deleted
-    (old-sorted s) s.requires.1.1.1.0 s.requires.1.1.1.1.0 (counts_of a) a.in-Made.is (runOn s (old_of s)) (ran m) d.decided-end.ensures
+    (old-sorted s) s.requires.1.1.1.0 s.requires.1.1.1.1.0 (counts_of a) a.in-Ok.is (runOn s (old_of s)) (ran m) d.decided-end.ensures
 
 pub make_edits-ran-requires : goal.make_edits-ran-requires
 make_edits-ran-requires c = (c.requires.0, (c.requires.1.0, (old-sorted c.before.before.before.before.before.before.before.before.before.before.before.before.before.before.before.before.before.before.before.before.before.before.before.before.before.before.before.before.before.before.before.before.before.before.before.before.before.before.before, (marks-long c.before.before.before.before.before.before.before.before.before.before.before.before.before.before.before.before.before.before.before.before.before.before.before.before.before.before.before.before.before.before.before.before.before.before.before.before.before.before.before, (inl (let e = kept-long c.before.before.before.before.before.before.before.before.before.before.before.before.before.before.before.before.before.before.before.before.before.before.before.before.before.before.before.before.before.before.before.before.before.before.before.before.before.before.before in omega (arith, e)), c.requires.1.1.1.1.1)))))
@@ -132,64 +132,64 @@ pub decided-end-requires : goal.decided-end-requires
 decided-end-requires c = (ran-sorted c.args.tolerance c.args.job c.args.counter (old_of c.before.before.before.before.before.before.before.before.before.before.before.before.before.before.before.before.before.before.before.before.before.before.before.before.before.before.before.before.before.before.before.before.before.before.before.before.before.before.before.before.before.before.before.before.before.before.before.before.before.before.before.before.before.before.before.before.before.before.before.before.before.before.before.before.before.before.before.before.before) (left_by c.before.before.before.before.before.before.before.before.before.before.before.before.before.before.before.before.before.before.before.before.before.before.before.before.before.before.before.before.before.before) (old-sound c.before.before.before.before.before.before.before.before.before.before.before.before.before.before.before.before.before.before.before.before.before.before.before.before.before.before.before.before.before.before.before.before.before.before.before.before.before.before.before.before.before.before.before.before.before.before.before.before.before.before.before.before.before.before.before.before.before.before.before.before.before.before.before.before.before.before.before.before.before) c.args.marks.now c.args.kept.now (marks_by c.before.before.before.before.before.before.before.before.before.before.before.before.before.before.before.before.before.before.before.before.before.before.before.before.before.before.before.before.before.before) (keptBy c.before.before.before.before.before.before.before.before.before.before.before.before.before.before.before.before.before.before.before.before.before.before.before.before.before.before.before.before.before.before) c.make_edits-ran.result (ran c.before.before.before.before.before.before.before.before.before.before.before.before.before.before.before.before.before.before.before.before.before.before.before.before.before.before.before.before.before.before), (c.make_edits-ran.auto.marks ∙ marks-long c.before.before.before.before.before.before.before.before.before.before.before.before.before.before.before.before.before.before.before.before.before.before.before.before.before.before.before.before.before.before.before.before.before.before.before.before.before.before.before.before.before.before.before.before.before.before.before.before.before.before.before.before.before.before.before.before.before.before.before.before.before.before.before.before.before.before.before.before.before, (c.make_edits-ran.auto.created ∙ c.requires.1.1.1.1.1.0, (c.make_edits-ran.auto.modified ∙ c.requires.1.1.1.1.1.1.0, c.make_edits-ran.auto.deleted ∙ c.requires.1.1.1.1.1.1.1))))
 
 pub tell_lists-requires : goal.tell_lists-requires
-tell_lists-requires c = ready-long (lentOn c.before.before.before.before.before.before.before.before.before.before.before.before.before.before.before.before.before.before.before.before.before.before.before.before.before.before.before.before.before.before.before.before.before.before.before.before.before.before.before.before.before.before.before.before.before.before.before.before.before.before.before.before.before.before.before.before.before.before.before.before.before.before.before.before.before.before.before.before.before.before.before.before.before.before.before.before.before.before.before.before (old_of c.before.before.before.before.before.before.before.before.before.before.before.before.before.before.before.before.before.before.before.before.before.before.before.before.before.before.before.before.before.before.before.before.before.before.before.before.before.before.before.before.before.before.before.before.before.before.before.before.before.before.before.before.before.before.before.before.before.before.before.before.before.before.before.before.before.before.before.before.before.before.before.before.before.before.before.before.before.before.before.before)) c.decided-end.result.counter (left_by c.before.before.before.before.before.before.before.before.before.before.before.before.before.before.before.before.before.before.before.before.before.before.before.before.before.before.before.before.before.before.before.before.before.before.before.before.before.before.before.before.before) (counts_of (goal.at.tell_lists-requires c).In-Made) c.decided-end.new.all_created c.decided-end.new.all_modified c.decided-end.new.all_deleted (keptBy c.before.before.before.before.before.before.before.before.before.before.before.before.before.before.before.before.before.before.before.before.before.before.before.before.before.before.before.before.before.before.before.before.before.before.before.before.before.before.before.before.before) (runOn c.before.before.before.before.before.before.before.before.before.before.before.before.before.before.before.before.before.before.before.before.before.before.before.before.before.before.before.before.before.before.before.before.before.before.before.before.before.before.before.before.before.before.before.before.before.before.before.before.before.before.before.before.before.before.before.before.before.before.before.before.before.before.before.before.before.before.before.before.before.before.before.before.before.before.before.before.before.before.before.before (old_of c.before.before.before.before.before.before.before.before.before.before.before.before.before.before.before.before.before.before.before.before.before.before.before.before.before.before.before.before.before.before.before.before.before.before.before.before.before.before.before.before.before.before.before.before.before.before.before.before.before.before.before.before.before.before.before.before.before.before.before.before.before.before.before.before.before.before.before.before.before.before.before.before.before.before.before.before.before.before.before.before)) (ready (goal.at.tell_lists-requires c).In-Made)
+tell_lists-requires c = ready-long (lentOn c.before.before.before.before.before.before.before.before.before.before.before.before.before.before.before.before.before.before.before.before.before.before.before.before.before.before.before.before.before.before.before.before.before.before.before.before.before.before.before.before.before.before.before.before.before.before.before.before.before.before.before.before.before.before.before.before.before.before.before.before.before.before.before.before.before.before.before.before.before.before.before.before.before.before.before.before.before.before.before.before (old_of c.before.before.before.before.before.before.before.before.before.before.before.before.before.before.before.before.before.before.before.before.before.before.before.before.before.before.before.before.before.before.before.before.before.before.before.before.before.before.before.before.before.before.before.before.before.before.before.before.before.before.before.before.before.before.before.before.before.before.before.before.before.before.before.before.before.before.before.before.before.before.before.before.before.before.before.before.before.before.before.before)) c.decided-end.result.counter (left_by c.before.before.before.before.before.before.before.before.before.before.before.before.before.before.before.before.before.before.before.before.before.before.before.before.before.before.before.before.before.before.before.before.before.before.before.before.before.before.before.before.before) (counts_of (goal.at.tell_lists-requires c).In-Ok) c.decided-end.new.all_created c.decided-end.new.all_modified c.decided-end.new.all_deleted (keptBy c.before.before.before.before.before.before.before.before.before.before.before.before.before.before.before.before.before.before.before.before.before.before.before.before.before.before.before.before.before.before.before.before.before.before.before.before.before.before.before.before.before) (runOn c.before.before.before.before.before.before.before.before.before.before.before.before.before.before.before.before.before.before.before.before.before.before.before.before.before.before.before.before.before.before.before.before.before.before.before.before.before.before.before.before.before.before.before.before.before.before.before.before.before.before.before.before.before.before.before.before.before.before.before.before.before.before.before.before.before.before.before.before.before.before.before.before.before.before.before.before.before.before.before.before (old_of c.before.before.before.before.before.before.before.before.before.before.before.before.before.before.before.before.before.before.before.before.before.before.before.before.before.before.before.before.before.before.before.before.before.before.before.before.before.before.before.before.before.before.before.before.before.before.before.before.before.before.before.before.before.before.before.before.before.before.before.before.before.before.before.before.before.before.before.before.before.before.before.before.before.before.before.before.before.before.before.before)) (ready (goal.at.tell_lists-requires c).In-Ok)
 
 pub tell_warnings-requires : goal.tell_warnings-requires
-tell_warnings-requires c = let t = ready-told (lentOn c.before.before.before.before.before.before.before.before.before.before.before.before.before.before.before.before.before.before.before.before.before.before.before.before.before.before.before.before.before.before.before.before.before.before.before.before.before.before.before.before.before.before.before.before.before.before.before.before.before.before.before.before.before.before.before.before.before.before.before.before.before.before.before.before.before.before.before.before.before.before.before.before.before.before.before.before.before.before.before.before.before.before.before.before.before.before.before.before.before.before.before.before.before.before.before.before.before.before.before.before (old_of c.before.before.before.before.before.before.before.before.before.before.before.before.before.before.before.before.before.before.before.before.before.before.before.before.before.before.before.before.before.before.before.before.before.before.before.before.before.before.before.before.before.before.before.before.before.before.before.before.before.before.before.before.before.before.before.before.before.before.before.before.before.before.before.before.before.before.before.before.before.before.before.before.before.before.before.before.before.before.before.before.before.before.before.before.before.before.before.before.before.before.before.before.before.before.before.before.before.before.before.before)) c.decided-end.result.counter (left_by c.before.before.before.before.before.before.before.before.before.before.before.before.before.before.before.before.before.before.before.before.before.before.before.before.before.before.before.before.before.before.before.before.before.before.before.before.before.before.before.before.before.before.before.before.before.before.before.before.before.before.before.before.before.before.before.before.before.before.before.before.before) (counts_of (goal.at.tell_warnings-requires c).In-Made) c.decided-end.new.all_created c.decided-end.new.all_modified c.decided-end.new.all_deleted (keptBy c.before.before.before.before.before.before.before.before.before.before.before.before.before.before.before.before.before.before.before.before.before.before.before.before.before.before.before.before.before.before.before.before.before.before.before.before.before.before.before.before.before.before.before.before.before.before.before.before.before.before.before.before.before.before.before.before.before.before.before.before.before) (c.make_edits-ran.auto.warnings ∙ kept-long c.before.before.before.before.before.before.before.before.before.before.before.before.before.before.before.before.before.before.before.before.before.before.before.before.before.before.before.before.before.before.before.before.before.before.before.before.before.before.before.before.before.before.before.before.before.before.before.before.before.before.before.before.before.before.before.before.before.before.before.before.before.before.before.before.before.before.before.before.before.before.before.before.before.before.before.before.before.before.before.before.before.before.before.before.before.before.before.before.before.before.before.before.before.before.before.before.before.before.before.before) (runOn c.before.before.before.before.before.before.before.before.before.before.before.before.before.before.before.before.before.before.before.before.before.before.before.before.before.before.before.before.before.before.before.before.before.before.before.before.before.before.before.before.before.before.before.before.before.before.before.before.before.before.before.before.before.before.before.before.before.before.before.before.before.before.before.before.before.before.before.before.before.before.before.before.before.before.before.before.before.before.before.before.before.before.before.before.before.before.before.before.before.before.before.before.before.before.before.before.before.before.before.before (old_of c.before.before.before.before.before.before.before.before.before.before.before.before.before.before.before.before.before.before.before.before.before.before.before.before.before.before.before.before.before.before.before.before.before.before.before.before.before.before.before.before.before.before.before.before.before.before.before.before.before.before.before.before.before.before.before.before.before.before.before.before.before.before.before.before.before.before.before.before.before.before.before.before.before.before.before.before.before.before.before.before.before.before.before.before.before.before.before.before.before.before.before.before.before.before.before.before.before.before.before.before)) (ready (goal.at.tell_warnings-requires c).In-Made) in (old-sound c.before.before.before.before.before.before.before.before.before.before.before.before.before.before.before.before.before.before.before.before.before.before.before.before.before.before.before.before.before.before.before.before.before.before.before.before.before.before.before.before.before.before.before.before.before.before.before.before.before.before.before.before.before.before.before.before.before.before.before.before.before.before.before.before.before.before.before.before.before.before.before.before.before.before.before.before.before.before.before.before.before.before.before.before.before.before.before.before.before.before.before.before.before.before.before.before.before.before.before.before, (c.requires.1.0, (t.0, (t.1.0, (t.1.1, (c.make_edits-ran.auto.warnings ∙ kept-long c.before.before.before.before.before.before.before.before.before.before.before.before.before.before.before.before.before.before.before.before.before.before.before.before.before.before.before.before.before.before.before.before.before.before.before.before.before.before.before.before.before.before.before.before.before.before.before.before.before.before.before.before.before.before.before.before.before.before.before.before.before.before.before.before.before.before.before.before.before.before.before.before.before.before.before.before.before.before.before.before.before.before.before.before.before.before.before.before.before.before.before.before.before.before.before.before.before.before.before.before, (c.make_edits-ran.auto.marks ∙ marks-long c.before.before.before.before.before.before.before.before.before.before.before.before.before.before.before.before.before.before.before.before.before.before.before.before.before.before.before.before.before.before.before.before.before.before.before.before.before.before.before.before.before.before.before.before.before.before.before.before.before.before.before.before.before.before.before.before.before.before.before.before.before.before.before.before.before.before.before.before.before.before.before.before.before.before.before.before.before.before.before.before.before.before.before.before.before.before.before.before.before.before.before.before.before.before.before.before.before.before.before.before, (c.decided-end.auto.all_created ∙ c.make_edits-ran.auto.created ∙ c.requires.1.1.1.1.1.0, (c.decided-end.auto.all_modified ∙ c.make_edits-ran.auto.modified ∙ c.requires.1.1.1.1.1.1.0, c.decided-end.auto.all_deleted ∙ c.make_edits-ran.auto.deleted ∙ c.requires.1.1.1.1.1.1.1)))))))))
+tell_warnings-requires c = let t = ready-told (lentOn c.before.before.before.before.before.before.before.before.before.before.before.before.before.before.before.before.before.before.before.before.before.before.before.before.before.before.before.before.before.before.before.before.before.before.before.before.before.before.before.before.before.before.before.before.before.before.before.before.before.before.before.before.before.before.before.before.before.before.before.before.before.before.before.before.before.before.before.before.before.before.before.before.before.before.before.before.before.before.before.before.before.before.before.before.before.before.before.before.before.before.before.before.before.before.before.before.before.before.before.before (old_of c.before.before.before.before.before.before.before.before.before.before.before.before.before.before.before.before.before.before.before.before.before.before.before.before.before.before.before.before.before.before.before.before.before.before.before.before.before.before.before.before.before.before.before.before.before.before.before.before.before.before.before.before.before.before.before.before.before.before.before.before.before.before.before.before.before.before.before.before.before.before.before.before.before.before.before.before.before.before.before.before.before.before.before.before.before.before.before.before.before.before.before.before.before.before.before.before.before.before.before.before)) c.decided-end.result.counter (left_by c.before.before.before.before.before.before.before.before.before.before.before.before.before.before.before.before.before.before.before.before.before.before.before.before.before.before.before.before.before.before.before.before.before.before.before.before.before.before.before.before.before.before.before.before.before.before.before.before.before.before.before.before.before.before.before.before.before.before.before.before.before) (counts_of (goal.at.tell_warnings-requires c).In-Ok) c.decided-end.new.all_created c.decided-end.new.all_modified c.decided-end.new.all_deleted (keptBy c.before.before.before.before.before.before.before.before.before.before.before.before.before.before.before.before.before.before.before.before.before.before.before.before.before.before.before.before.before.before.before.before.before.before.before.before.before.before.before.before.before.before.before.before.before.before.before.before.before.before.before.before.before.before.before.before.before.before.before.before.before) (c.make_edits-ran.auto.warnings ∙ kept-long c.before.before.before.before.before.before.before.before.before.before.before.before.before.before.before.before.before.before.before.before.before.before.before.before.before.before.before.before.before.before.before.before.before.before.before.before.before.before.before.before.before.before.before.before.before.before.before.before.before.before.before.before.before.before.before.before.before.before.before.before.before.before.before.before.before.before.before.before.before.before.before.before.before.before.before.before.before.before.before.before.before.before.before.before.before.before.before.before.before.before.before.before.before.before.before.before.before.before.before.before) (runOn c.before.before.before.before.before.before.before.before.before.before.before.before.before.before.before.before.before.before.before.before.before.before.before.before.before.before.before.before.before.before.before.before.before.before.before.before.before.before.before.before.before.before.before.before.before.before.before.before.before.before.before.before.before.before.before.before.before.before.before.before.before.before.before.before.before.before.before.before.before.before.before.before.before.before.before.before.before.before.before.before.before.before.before.before.before.before.before.before.before.before.before.before.before.before.before.before.before.before.before.before (old_of c.before.before.before.before.before.before.before.before.before.before.before.before.before.before.before.before.before.before.before.before.before.before.before.before.before.before.before.before.before.before.before.before.before.before.before.before.before.before.before.before.before.before.before.before.before.before.before.before.before.before.before.before.before.before.before.before.before.before.before.before.before.before.before.before.before.before.before.before.before.before.before.before.before.before.before.before.before.before.before.before.before.before.before.before.before.before.before.before.before.before.before.before.before.before.before.before.before.before.before.before)) (ready (goal.at.tell_warnings-requires c).In-Ok) in (old-sound c.before.before.before.before.before.before.before.before.before.before.before.before.before.before.before.before.before.before.before.before.before.before.before.before.before.before.before.before.before.before.before.before.before.before.before.before.before.before.before.before.before.before.before.before.before.before.before.before.before.before.before.before.before.before.before.before.before.before.before.before.before.before.before.before.before.before.before.before.before.before.before.before.before.before.before.before.before.before.before.before.before.before.before.before.before.before.before.before.before.before.before.before.before.before.before.before.before.before.before.before, (c.requires.1.0, (t.0, (t.1.0, (t.1.1, (c.make_edits-ran.auto.warnings ∙ kept-long c.before.before.before.before.before.before.before.before.before.before.before.before.before.before.before.before.before.before.before.before.before.before.before.before.before.before.before.before.before.before.before.before.before.before.before.before.before.before.before.before.before.before.before.before.before.before.before.before.before.before.before.before.before.before.before.before.before.before.before.before.before.before.before.before.before.before.before.before.before.before.before.before.before.before.before.before.before.before.before.before.before.before.before.before.before.before.before.before.before.before.before.before.before.before.before.before.before.before.before.before, (c.make_edits-ran.auto.marks ∙ marks-long c.before.before.before.before.before.before.before.before.before.before.before.before.before.before.before.before.before.before.before.before.before.before.before.before.before.before.before.before.before.before.before.before.before.before.before.before.before.before.before.before.before.before.before.before.before.before.before.before.before.before.before.before.before.before.before.before.before.before.before.before.before.before.before.before.before.before.before.before.before.before.before.before.before.before.before.before.before.before.before.before.before.before.before.before.before.before.before.before.before.before.before.before.before.before.before.before.before.before.before.before, (c.decided-end.auto.all_created ∙ c.make_edits-ran.auto.created ∙ c.requires.1.1.1.1.1.0, (c.decided-end.auto.all_modified ∙ c.make_edits-ran.auto.modified ∙ c.requires.1.1.1.1.1.1.0, c.decided-end.auto.all_deleted ∙ c.make_edits-ran.auto.deleted ∙ c.requires.1.1.1.1.1.1.1)))))))))
 
-pub shape_of-lanes-in-Made : goal.shape_of-lanes-in-Made
-shape_of-lanes-in-Made c = c.tell_warnings.auto.lanes ∙ c.make_edits-ran.auto.lanes
+pub shape_of-lanes-in-Ok : goal.shape_of-lanes-in-Ok
+shape_of-lanes-in-Ok c = c.tell_warnings.auto.lanes ∙ c.make_edits-ran.auto.lanes
 
-pub shape_of-boundaries-in-Made : goal.shape_of-boundaries-in-Made
-shape_of-boundaries-in-Made c = c.tell_warnings.auto.boundaries ∙ c.make_edits-ran.auto.boundaries
+pub shape_of-boundaries-in-Ok : goal.shape_of-boundaries-in-Ok
+shape_of-boundaries-in-Ok c = c.tell_warnings.auto.boundaries ∙ c.make_edits-ran.auto.boundaries
 
-pub shape_of-roads-in-Made : goal.shape_of-roads-in-Made
-shape_of-roads-in-Made c = c.tell_warnings.auto.roads ∙ c.make_edits-ran.auto.roads
+pub shape_of-roads-in-Ok : goal.shape_of-roads-in-Ok
+shape_of-roads-in-Ok c = c.tell_warnings.auto.roads ∙ c.make_edits-ran.auto.roads
 
-pub shape_of-junctions-in-Made : goal.shape_of-junctions-in-Made
-shape_of-junctions-in-Made c = c.tell_warnings.auto.junctions ∙ c.make_edits-ran.auto.junctions
+pub shape_of-junctions-in-Ok : goal.shape_of-junctions-in-Ok
+shape_of-junctions-in-Ok c = c.tell_warnings.auto.junctions ∙ c.make_edits-ran.auto.junctions
 
-pub shape_of-rules-in-Made : goal.shape_of-rules-in-Made
-shape_of-rules-in-Made c = c.tell_warnings.auto.rules ∙ c.make_edits-ran.auto.rules
+pub shape_of-rules-in-Ok : goal.shape_of-rules-in-Ok
+shape_of-rules-in-Ok c = c.tell_warnings.auto.rules ∙ c.make_edits-ran.auto.rules
 
-pub shape_of-stop_lines-in-Made : goal.shape_of-stop_lines-in-Made
-shape_of-stop_lines-in-Made c = c.tell_warnings.auto.stop_lines ∙ c.make_edits-ran.auto.stop_lines
+pub shape_of-stop_lines-in-Ok : goal.shape_of-stop_lines-in-Ok
+shape_of-stop_lines-in-Ok c = c.tell_warnings.auto.stop_lines ∙ c.make_edits-ran.auto.stop_lines
 
-pub shape_of-crosswalks-in-Made : goal.shape_of-crosswalks-in-Made
-shape_of-crosswalks-in-Made c = c.tell_warnings.auto.crosswalks ∙ c.make_edits-ran.auto.crosswalks
+pub shape_of-crosswalks-in-Ok : goal.shape_of-crosswalks-in-Ok
+shape_of-crosswalks-in-Ok c = c.tell_warnings.auto.crosswalks ∙ c.make_edits-ran.auto.crosswalks
 
-pub shape_of-coordinates-in-Made : goal.shape_of-coordinates-in-Made
-shape_of-coordinates-in-Made c = c.tell_warnings.auto.coordinates ∙ c.make_edits-ran.auto.coordinates
+pub shape_of-coordinates-in-Ok : goal.shape_of-coordinates-in-Ok
+shape_of-coordinates-in-Ok c = c.tell_warnings.auto.coordinates ∙ c.make_edits-ran.auto.coordinates
 
-pub shape_of-marks-in-Made : goal.shape_of-marks-in-Made
-shape_of-marks-in-Made c = c.tell_warnings.auto.marks ∙ c.make_edits-ran.auto.marks
+pub shape_of-marks-in-Ok : goal.shape_of-marks-in-Ok
+shape_of-marks-in-Ok c = c.tell_warnings.auto.marks ∙ c.make_edits-ran.auto.marks
 
-pub shape_of-all_created-in-Made : goal.shape_of-all_created-in-Made
-shape_of-all_created-in-Made c = c.tell_warnings.auto.all_created ∙ (c.decided-end.auto.all_created ∙ c.make_edits-ran.auto.created)
+pub shape_of-all_created-in-Ok : goal.shape_of-all_created-in-Ok
+shape_of-all_created-in-Ok c = c.tell_warnings.auto.all_created ∙ (c.decided-end.auto.all_created ∙ c.make_edits-ran.auto.created)
 
-pub shape_of-all_modified-in-Made : goal.shape_of-all_modified-in-Made
-shape_of-all_modified-in-Made c = c.tell_warnings.auto.all_modified ∙ (c.decided-end.auto.all_modified ∙ c.make_edits-ran.auto.modified)
+pub shape_of-all_modified-in-Ok : goal.shape_of-all_modified-in-Ok
+shape_of-all_modified-in-Ok c = c.tell_warnings.auto.all_modified ∙ (c.decided-end.auto.all_modified ∙ c.make_edits-ran.auto.modified)
 
-pub shape_of-all_deleted-in-Made : goal.shape_of-all_deleted-in-Made
-shape_of-all_deleted-in-Made c = c.tell_warnings.auto.all_deleted ∙ (c.decided-end.auto.all_deleted ∙ c.make_edits-ran.auto.deleted)
+pub shape_of-all_deleted-in-Ok : goal.shape_of-all_deleted-in-Ok
+shape_of-all_deleted-in-Ok c = c.tell_warnings.auto.all_deleted ∙ (c.decided-end.auto.all_deleted ∙ c.make_edits-ran.auto.deleted)
 
-pub shape_of-kept-in-Made : goal.shape_of-kept-in-Made
-shape_of-kept-in-Made c = c.make_edits-ran.auto.warnings
+pub shape_of-kept-in-Ok : goal.shape_of-kept-in-Ok
+shape_of-kept-in-Ok c = c.make_edits-ran.auto.warnings
 
-pub shape_of-created-in-Made : goal.shape_of-created-in-Made
-shape_of-created-in-Made c = c.tell_lists.auto.created
+pub shape_of-created-in-Ok : goal.shape_of-created-in-Ok
+shape_of-created-in-Ok c = c.tell_lists.auto.created
 
-pub shape_of-modified-in-Made : goal.shape_of-modified-in-Made
-shape_of-modified-in-Made c = c.tell_lists.auto.modified
+pub shape_of-modified-in-Ok : goal.shape_of-modified-in-Ok
+shape_of-modified-in-Ok c = c.tell_lists.auto.modified
 
-pub shape_of-deleted-in-Made : goal.shape_of-deleted-in-Made
-shape_of-deleted-in-Made c = c.tell_lists.auto.deleted
+pub shape_of-deleted-in-Ok : goal.shape_of-deleted-in-Ok
+shape_of-deleted-in-Ok c = c.tell_lists.auto.deleted
 
-pub shape_of-warnings-in-Made : goal.shape_of-warnings-in-Made
-shape_of-warnings-in-Made c = c.tell_warnings.auto.warnings
+pub shape_of-warnings-in-Ok : goal.shape_of-warnings-in-Ok
+shape_of-warnings-in-Ok c = c.tell_warnings.auto.warnings
 
-pub returns-in-Made : goal.returns-in-Made
-returns-in-Made c = ap (λ a. job_ended (record { counter = c.decided-end.result.counter; tables = tables_of c.tell_warnings.new.lanes c.tell_warnings.new.boundaries c.tell_warnings.new.roads c.tell_warnings.new.junctions c.tell_warnings.new.rules c.tell_warnings.new.stop_lines c.tell_warnings.new.crosswalks c.tell_warnings.new.coordinates; created = c.tell_lists.new.created; modified = c.tell_lists.new.modified; deleted = c.tell_lists.new.deleted; warnings = c.tell_warnings.new.warnings }) (old_of c.before.before.before.before.before.before.before.before.before.before.before.before.before.before.before.before.before.before.before.before.before.before.before.before.before.before.before.before.before.before.before.before.before.before.before.before.before.before.before.before.before.before.before.before.before.before.before.before.before.before.before.before.before.before.before.before.before.before.before.before.before.before.before.before.before.before.before.before.before.before.before.before.before.before.before.before.before.before.before.before.before.before.before.before.before.before.before.before.before.before.before.before.before.before.before.before.before.before.before.before.before.before.before.before.before.before.before.before.before.before.before.before.before.before.before.before.before.before.before.before.before.before.before.before.before.before.before) a) c.in-Made.is ∙ (ready-ends (lentOn c.before.before.before.before.before.before.before.before.before.before.before.before.before.before.before.before.before.before.before.before.before.before.before.before.before.before.before.before.before.before.before.before.before.before.before.before.before.before.before.before.before.before.before.before.before.before.before.before.before.before.before.before.before.before.before.before.before.before.before.before.before.before.before.before.before.before.before.before.before.before.before.before.before.before.before.before.before.before.before.before.before.before.before.before.before.before.before.before.before.before.before.before.before.before.before.before.before.before.before.before.before.before.before.before.before.before.before.before.before.before.before.before.before.before.before.before.before.before.before.before.before.before.before.before.before.before.before (old_of c.before.before.before.before.before.before.before.before.before.before.before.before.before.before.before.before.before.before.before.before.before.before.before.before.before.before.before.before.before.before.before.before.before.before.before.before.before.before.before.before.before.before.before.before.before.before.before.before.before.before.before.before.before.before.before.before.before.before.before.before.before.before.before.before.before.before.before.before.before.before.before.before.before.before.before.before.before.before.before.before.before.before.before.before.before.before.before.before.before.before.before.before.before.before.before.before.before.before.before.before.before.before.before.before.before.before.before.before.before.before.before.before.before.before.before.before.before.before.before.before.before.before.before.before.before.before.before)) c.decided-end.result.counter (left_by c.before.before.before.before.before.before.before.before.before.before.before.before.before.before.before.before.before.before.before.before.before.before.before.before.before.before.before.before.before.before.before.before.before.before.before.before.before.before.before.before.before.before.before.before.before.before.before.before.before.before.before.before.before.before.before.before.before.before.before.before.before.before.before.before.before.before.before.before.before.before.before.before.before.before.before.before.before.before.before.before.before.before.before.before.before.before.before.before) (counts_of (goal.at.returns-in-Made c).In-Made) c.decided-end.new.all_created c.decided-end.new.all_modified c.decided-end.new.all_deleted (keptBy c.before.before.before.before.before.before.before.before.before.before.before.before.before.before.before.before.before.before.before.before.before.before.before.before.before.before.before.before.before.before.before.before.before.before.before.before.before.before.before.before.before.before.before.before.before.before.before.before.before.before.before.before.before.before.before.before.before.before.before.before.before.before.before.before.before.before.before.before.before.before.before.before.before.before.before.before.before.before.before.before.before.before.before.before.before.before.before.before) (runOn c.before.before.before.before.before.before.before.before.before.before.before.before.before.before.before.before.before.before.before.before.before.before.before.before.before.before.before.before.before.before.before.before.before.before.before.before.before.before.before.before.before.before.before.before.before.before.before.before.before.before.before.before.before.before.before.before.before.before.before.before.before.before.before.before.before.before.before.before.before.before.before.before.before.before.before.before.before.before.before.before.before.before.before.before.before.before.before.before.before.before.before.before.before.before.before.before.before.before.before.before.before.before.before.before.before.before.before.before.before.before.before.before.before.before.before.before.before.before.before.before.before.before.before.before.before.before.before (old_of c.before.before.before.before.before.before.before.before.before.before.before.before.before.before.before.before.before.before.before.before.before.before.before.before.before.before.before.before.before.before.before.before.before.before.before.before.before.before.before.before.before.before.before.before.before.before.before.before.before.before.before.before.before.before.before.before.before.before.before.before.before.before.before.before.before.before.before.before.before.before.before.before.before.before.before.before.before.before.before.before.before.before.before.before.before.before.before.before.before.before.before.before.before.before.before.before.before.before.before.before.before.before.before.before.before.before.before.before.before.before.before.before.before.before.before.before.before.before.before.before.before.before.before.before.before.before.before)) (ready (goal.at.returns-in-Made c).In-Made) (tables_of c.tell_warnings.new.lanes c.tell_warnings.new.boundaries c.tell_warnings.new.roads c.tell_warnings.new.junctions c.tell_warnings.new.rules c.tell_warnings.new.stop_lines c.tell_warnings.new.crosswalks c.tell_warnings.new.coordinates) c.tell_lists.new.created c.tell_lists.new.modified c.tell_lists.new.deleted c.tell_warnings.new.warnings c.tell_warnings.ensures c.tell_lists.ensures ∙ ap (λ (z : Tables). ending (lentOn c.before.before.before.before.before.before.before.before.before.before.before.before.before.before.before.before.before.before.before.before.before.before.before.before.before.before.before.before.before.before.before.before.before.before.before.before.before.before.before.before.before.before.before.before.before.before.before.before.before.before.before.before.before.before.before.before.before.before.before.before.before.before.before.before.before.before.before.before.before.before.before.before.before.before.before.before.before.before.before.before.before.before.before.before.before.before.before.before.before.before.before.before.before.before.before.before.before.before.before.before.before.before.before.before.before.before.before.before.before.before.before.before.before.before.before.before.before.before.before.before.before.before.before.before.before.before.before z) (old_of c.before.before.before.before.before.before.before.before.before.before.before.before.before.before.before.before.before.before.before.before.before.before.before.before.before.before.before.before.before.before.before.before.before.before.before.before.before.before.before.before.before.before.before.before.before.before.before.before.before.before.before.before.before.before.before.before.before.before.before.before.before.before.before.before.before.before.before.before.before.before.before.before.before.before.before.before.before.before.before.before.before.before.before.before.before.before.before.before.before.before.before.before.before.before.before.before.before.before.before.before.before.before.before.before.before.before.before.before.before.before.before.before.before.before.before.before.before.before.before.before.before.before.before.before.before.before.before) (runOn c.before.before.before.before.before.before.before.before.before.before.before.before.before.before.before.before.before.before.before.before.before.before.before.before.before.before.before.before.before.before.before.before.before.before.before.before.before.before.before.before.before.before.before.before.before.before.before.before.before.before.before.before.before.before.before.before.before.before.before.before.before.before.before.before.before.before.before.before.before.before.before.before.before.before.before.before.before.before.before.before.before.before.before.before.before.before.before.before.before.before.before.before.before.before.before.before.before.before.before.before.before.before.before.before.before.before.before.before.before.before.before.before.before.before.before.before.before.before.before.before.before.before.before.before.before.before.before z)) c.requires.1.1.0)
+pub returns-in-Ok : goal.returns-in-Ok
+returns-in-Ok c = ap (λ a. job_ended (record { counter = c.decided-end.result.counter; tables = tables_of c.tell_warnings.new.lanes c.tell_warnings.new.boundaries c.tell_warnings.new.roads c.tell_warnings.new.junctions c.tell_warnings.new.rules c.tell_warnings.new.stop_lines c.tell_warnings.new.crosswalks c.tell_warnings.new.coordinates; created = c.tell_lists.new.created; modified = c.tell_lists.new.modified; deleted = c.tell_lists.new.deleted; warnings = c.tell_warnings.new.warnings }) (old_of c.before.before.before.before.before.before.before.before.before.before.before.before.before.before.before.before.before.before.before.before.before.before.before.before.before.before.before.before.before.before.before.before.before.before.before.before.before.before.before.before.before.before.before.before.before.before.before.before.before.before.before.before.before.before.before.before.before.before.before.before.before.before.before.before.before.before.before.before.before.before.before.before.before.before.before.before.before.before.before.before.before.before.before.before.before.before.before.before.before.before.before.before.before.before.before.before.before.before.before.before.before.before.before.before.before.before.before.before.before.before.before.before.before.before.before.before.before.before.before.before.before.before.before.before.before.before.before) a) c.in-Ok.is ∙ (ready-ends (lentOn c.before.before.before.before.before.before.before.before.before.before.before.before.before.before.before.before.before.before.before.before.before.before.before.before.before.before.before.before.before.before.before.before.before.before.before.before.before.before.before.before.before.before.before.before.before.before.before.before.before.before.before.before.before.before.before.before.before.before.before.before.before.before.before.before.before.before.before.before.before.before.before.before.before.before.before.before.before.before.before.before.before.before.before.before.before.before.before.before.before.before.before.before.before.before.before.before.before.before.before.before.before.before.before.before.before.before.before.before.before.before.before.before.before.before.before.before.before.before.before.before.before.before.before.before.before.before.before (old_of c.before.before.before.before.before.before.before.before.before.before.before.before.before.before.before.before.before.before.before.before.before.before.before.before.before.before.before.before.before.before.before.before.before.before.before.before.before.before.before.before.before.before.before.before.before.before.before.before.before.before.before.before.before.before.before.before.before.before.before.before.before.before.before.before.before.before.before.before.before.before.before.before.before.before.before.before.before.before.before.before.before.before.before.before.before.before.before.before.before.before.before.before.before.before.before.before.before.before.before.before.before.before.before.before.before.before.before.before.before.before.before.before.before.before.before.before.before.before.before.before.before.before.before.before.before.before.before)) c.decided-end.result.counter (left_by c.before.before.before.before.before.before.before.before.before.before.before.before.before.before.before.before.before.before.before.before.before.before.before.before.before.before.before.before.before.before.before.before.before.before.before.before.before.before.before.before.before.before.before.before.before.before.before.before.before.before.before.before.before.before.before.before.before.before.before.before.before.before.before.before.before.before.before.before.before.before.before.before.before.before.before.before.before.before.before.before.before.before.before.before.before.before.before.before) (counts_of (goal.at.returns-in-Ok c).In-Ok) c.decided-end.new.all_created c.decided-end.new.all_modified c.decided-end.new.all_deleted (keptBy c.before.before.before.before.before.before.before.before.before.before.before.before.before.before.before.before.before.before.before.before.before.before.before.before.before.before.before.before.before.before.before.before.before.before.before.before.before.before.before.before.before.before.before.before.before.before.before.before.before.before.before.before.before.before.before.before.before.before.before.before.before.before.before.before.before.before.before.before.before.before.before.before.before.before.before.before.before.before.before.before.before.before.before.before.before.before.before.before) (runOn c.before.before.before.before.before.before.before.before.before.before.before.before.before.before.before.before.before.before.before.before.before.before.before.before.before.before.before.before.before.before.before.before.before.before.before.before.before.before.before.before.before.before.before.before.before.before.before.before.before.before.before.before.before.before.before.before.before.before.before.before.before.before.before.before.before.before.before.before.before.before.before.before.before.before.before.before.before.before.before.before.before.before.before.before.before.before.before.before.before.before.before.before.before.before.before.before.before.before.before.before.before.before.before.before.before.before.before.before.before.before.before.before.before.before.before.before.before.before.before.before.before.before.before.before.before.before.before (old_of c.before.before.before.before.before.before.before.before.before.before.before.before.before.before.before.before.before.before.before.before.before.before.before.before.before.before.before.before.before.before.before.before.before.before.before.before.before.before.before.before.before.before.before.before.before.before.before.before.before.before.before.before.before.before.before.before.before.before.before.before.before.before.before.before.before.before.before.before.before.before.before.before.before.before.before.before.before.before.before.before.before.before.before.before.before.before.before.before.before.before.before.before.before.before.before.before.before.before.before.before.before.before.before.before.before.before.before.before.before.before.before.before.before.before.before.before.before.before.before.before.before.before.before.before.before.before.before)) (ready (goal.at.returns-in-Ok c).In-Ok) (tables_of c.tell_warnings.new.lanes c.tell_warnings.new.boundaries c.tell_warnings.new.roads c.tell_warnings.new.junctions c.tell_warnings.new.rules c.tell_warnings.new.stop_lines c.tell_warnings.new.crosswalks c.tell_warnings.new.coordinates) c.tell_lists.new.created c.tell_lists.new.modified c.tell_lists.new.deleted c.tell_warnings.new.warnings c.tell_warnings.ensures c.tell_lists.ensures ∙ ap (λ (z : Tables). ending (lentOn c.before.before.before.before.before.before.before.before.before.before.before.before.before.before.before.before.before.before.before.before.before.before.before.before.before.before.before.before.before.before.before.before.before.before.before.before.before.before.before.before.before.before.before.before.before.before.before.before.before.before.before.before.before.before.before.before.before.before.before.before.before.before.before.before.before.before.before.before.before.before.before.before.before.before.before.before.before.before.before.before.before.before.before.before.before.before.before.before.before.before.before.before.before.before.before.before.before.before.before.before.before.before.before.before.before.before.before.before.before.before.before.before.before.before.before.before.before.before.before.before.before.before.before.before.before.before.before z) (old_of c.before.before.before.before.before.before.before.before.before.before.before.before.before.before.before.before.before.before.before.before.before.before.before.before.before.before.before.before.before.before.before.before.before.before.before.before.before.before.before.before.before.before.before.before.before.before.before.before.before.before.before.before.before.before.before.before.before.before.before.before.before.before.before.before.before.before.before.before.before.before.before.before.before.before.before.before.before.before.before.before.before.before.before.before.before.before.before.before.before.before.before.before.before.before.before.before.before.before.before.before.before.before.before.before.before.before.before.before.before.before.before.before.before.before.before.before.before.before.before.before.before.before.before.before.before.before.before) (runOn c.before.before.before.before.before.before.before.before.before.before.before.before.before.before.before.before.before.before.before.before.before.before.before.before.before.before.before.before.before.before.before.before.before.before.before.before.before.before.before.before.before.before.before.before.before.before.before.before.before.before.before.before.before.before.before.before.before.before.before.before.before.before.before.before.before.before.before.before.before.before.before.before.before.before.before.before.before.before.before.before.before.before.before.before.before.before.before.before.before.before.before.before.before.before.before.before.before.before.before.before.before.before.before.before.before.before.before.before.before.before.before.before.before.before.before.before.before.before.before.before.before.before.before.before.before.before.before z)) c.requires.1.1.0)
 
 pub put_back-requires : goal.put_back-requires
 put_back-requires c = same-fits (left_by c.before.before.before.before.before.before.before.before.before.before.before.before.before.before.before.before.before.before.before.before.before.before.before.before.before.before.before.before.before.before.before.before.before.before.before.before.before.before.before.before.before.before.before.before.before.before) (old_of c.before.before.before.before.before.before.before.before.before.before.before.before.before.before.before.before.before.before.before.before.before.before.before.before.before.before.before.before.before.before.before.before.before.before.before.before.before.before.before.before.before.before.before.before.before.before.before.before.before.before.before.before.before.before.before.before.before.before.before.before.before.before.before.before.before.before.before.before.before.before.before.before.before.before.before.before.before.before.before.before.before.before.before.before.before) (long c.before.before.before.before.before.before.before.before.before.before.before.before.before.before.before.before.before.before.before.before.before.before.before.before.before.before.before.before.before.before.before.before.before.before.before.before.before.before.before.before.before.before.before.before.before.before)
@@ -246,4 +246,4 @@ pub shape_of-warnings : goal.shape_of-warnings
 shape_of-warnings c = refl
 
 pub returns : goal.returns
-returns c = ap (λ (z : Tables). job_ended (record { counter = c.decided-end.result.counter; tables = z; created = c.args.created.now; modified = c.args.modified.now; deleted = c.args.deleted.now; warnings = c.args.warnings.now }) (old_of c.before.before.before.before.before.before.before.before.before.before.before.before.before.before.before.before.before.before.before.before.before.before.before.before.before.before.before.before.before.before.before.before.before.before.before.before.before.before.before.before.before.before.before.before.before.before.before.before.before.before.before.before.before.before.before.before.before.before.before.before.before.before.before.before.before.before.before.before.before.before.before.before.before.before.before.before.before.before.before.before.before.before.before.before.before.before.before.before.before.before.before.before.before.before.before.before.before.before.before.before.before.before) c.decided-end.result.answer) (c.put_back.ensures ∙ put-back-same (left_by c.before.before.before.before.before.before.before.before.before.before.before.before.before.before.before.before.before.before.before.before.before.before.before.before.before.before.before.before.before.before.before.before.before.before.before.before.before.before.before.before.before.before.before.before.before.before.before.before.before.before.before.before.before.before.before.before.before.before.before.before.before.before.before) (old_of c.before.before.before.before.before.before.before.before.before.before.before.before.before.before.before.before.before.before.before.before.before.before.before.before.before.before.before.before.before.before.before.before.before.before.before.before.before.before.before.before.before.before.before.before.before.before.before.before.before.before.before.before.before.before.before.before.before.before.before.before.before.before.before.before.before.before.before.before.before.before.before.before.before.before.before.before.before.before.before.before.before.before.before.before.before.before.before.before.before.before.before.before.before.before.before.before.before.before.before.before.before.before) (long c.before.before.before.before.before.before.before.before.before.before.before.before.before.before.before.before.before.before.before.before.before.before.before.before.before.before.before.before.before.before.before.before.before.before.before.before.before.before.before.before.before.before.before.before.before.before.before.before.before.before.before.before.before.before.before.before.before.before.before.before.before.before.before)) ∙ (decided-refused (lentOn c.before.before.before.before.before.before.before.before.before.before.before.before.before.before.before.before.before.before.before.before.before.before.before.before.before.before.before.before.before.before.before.before.before.before.before.before.before.before.before.before.before.before.before.before.before.before.before.before.before.before.before.before.before.before.before.before.before.before.before.before.before.before.before.before.before.before.before.before.before.before.before.before.before.before.before.before.before.before.before.before.before.before.before.before.before.before.before.before.before.before.before.before.before.before.before.before.before.before.before.before.before.before (old_of c.before.before.before.before.before.before.before.before.before.before.before.before.before.before.before.before.before.before.before.before.before.before.before.before.before.before.before.before.before.before.before.before.before.before.before.before.before.before.before.before.before.before.before.before.before.before.before.before.before.before.before.before.before.before.before.before.before.before.before.before.before.before.before.before.before.before.before.before.before.before.before.before.before.before.before.before.before.before.before.before.before.before.before.before.before.before.before.before.before.before.before.before.before.before.before.before.before.before.before.before.before.before)) (left_by c.before.before.before.before.before.before.before.before.before.before.before.before.before.before.before.before.before.before.before.before.before.before.before.before.before.before.before.before.before.before.before.before.before.before.before.before.before.before.before.before.before.before.before.before.before.before.before.before.before.before.before.before.before.before.before.before.before.before.before.before.before.before.before) c.args.marks.now c.args.kept.now (marks_by c.before.before.before.before.before.before.before.before.before.before.before.before.before.before.before.before.before.before.before.before.before.before.before.before.before.before.before.before.before.before.before.before.before.before.before.before.before.before.before.before.before.before.before.before.before.before.before.before.before.before.before.before.before.before.before.before.before.before.before.before.before.before.before) (keptBy c.before.before.before.before.before.before.before.before.before.before.before.before.before.before.before.before.before.before.before.before.before.before.before.before.before.before.before.before.before.before.before.before.before.before.before.before.before.before.before.before.before.before.before.before.before.before.before.before.before.before.before.before.before.before.before.before.before.before.before.before.before.before.before) c.make_edits-ran.result c.make_edits-ran.new.created c.make_edits-ran.new.modified c.make_edits-ran.new.deleted c.decided-end.result c.decided-end.new.all_created c.decided-end.new.all_modified c.decided-end.new.all_deleted (old-sorted c.before.before.before.before.before.before.before.before.before.before.before.before.before.before.before.before.before.before.before.before.before.before.before.before.before.before.before.before.before.before.before.before.before.before.before.before.before.before.before.before.before.before.before.before.before.before.before.before.before.before.before.before.before.before.before.before.before.before.before.before.before.before.before.before.before.before.before.before.before.before.before.before.before.before.before.before.before.before.before.before.before.before.before.before.before.before.before.before.before.before.before.before.before.before.before.before.before.before.before.before.before.before) c.requires.1.1.1.0 c.in_default.not-Made (runOn c.before.before.before.before.before.before.before.before.before.before.before.before.before.before.before.before.before.before.before.before.before.before.before.before.before.before.before.before.before.before.before.before.before.before.before.before.before.before.before.before.before.before.before.before.before.before.before.before.before.before.before.before.before.before.before.before.before.before.before.before.before.before.before.before.before.before.before.before.before.before.before.before.before.before.before.before.before.before.before.before.before.before.before.before.before.before.before.before.before.before.before.before.before.before.before.before.before.before.before.before.before.before (old_of c.before.before.before.before.before.before.before.before.before.before.before.before.before.before.before.before.before.before.before.before.before.before.before.before.before.before.before.before.before.before.before.before.before.before.before.before.before.before.before.before.before.before.before.before.before.before.before.before.before.before.before.before.before.before.before.before.before.before.before.before.before.before.before.before.before.before.before.before.before.before.before.before.before.before.before.before.before.before.before.before.before.before.before.before.before.before.before.before.before.before.before.before.before.before.before.before.before.before.before.before.before.before)) (ran c.before.before.before.before.before.before.before.before.before.before.before.before.before.before.before.before.before.before.before.before.before.before.before.before.before.before.before.before.before.before.before.before.before.before.before.before.before.before.before.before.before.before.before.before.before.before.before.before.before.before.before.before.before.before.before.before.before.before.before.before.before.before.before) c.decided-end.ensures ∙ ap (λ (z : Tables). ending (lentOn c.before.before.before.before.before.before.before.before.before.before.before.before.before.before.before.before.before.before.before.before.before.before.before.before.before.before.before.before.before.before.before.before.before.before.before.before.before.before.before.before.before.before.before.before.before.before.before.before.before.before.before.before.before.before.before.before.before.before.before.before.before.before.before.before.before.before.before.before.before.before.before.before.before.before.before.before.before.before.before.before.before.before.before.before.before.before.before.before.before.before.before.before.before.before.before.before.before.before.before.before.before.before z) (old_of c.before.before.before.before.before.before.before.before.before.before.before.before.before.before.before.before.before.before.before.before.before.before.before.before.before.before.before.before.before.before.before.before.before.before.before.before.before.before.before.before.before.before.before.before.before.before.before.before.before.before.before.before.before.before.before.before.before.before.before.before.before.before.before.before.before.before.before.before.before.before.before.before.before.before.before.before.before.before.before.before.before.before.before.before.before.before.before.before.before.before.before.before.before.before.before.before.before.before.before.before.before.before) (runOn c.before.before.before.before.before.before.before.before.before.before.before.before.before.before.before.before.before.before.before.before.before.before.before.before.before.before.before.before.before.before.before.before.before.before.before.before.before.before.before.before.before.before.before.before.before.before.before.before.before.before.before.before.before.before.before.before.before.before.before.before.before.before.before.before.before.before.before.before.before.before.before.before.before.before.before.before.before.before.before.before.before.before.before.before.before.before.before.before.before.before.before.before.before.before.before.before.before.before.before.before.before.before z)) c.requires.1.1.0)
+returns c = ap (λ (z : Tables). job_ended (record { counter = c.decided-end.result.counter; tables = z; created = c.args.created.now; modified = c.args.modified.now; deleted = c.args.deleted.now; warnings = c.args.warnings.now }) (old_of c.before.before.before.before.before.before.before.before.before.before.before.before.before.before.before.before.before.before.before.before.before.before.before.before.before.before.before.before.before.before.before.before.before.before.before.before.before.before.before.before.before.before.before.before.before.before.before.before.before.before.before.before.before.before.before.before.before.before.before.before.before.before.before.before.before.before.before.before.before.before.before.before.before.before.before.before.before.before.before.before.before.before.before.before.before.before.before.before.before.before.before.before.before.before.before.before.before.before.before.before.before.before) c.decided-end.result.answer) (c.put_back.ensures ∙ put-back-same (left_by c.before.before.before.before.before.before.before.before.before.before.before.before.before.before.before.before.before.before.before.before.before.before.before.before.before.before.before.before.before.before.before.before.before.before.before.before.before.before.before.before.before.before.before.before.before.before.before.before.before.before.before.before.before.before.before.before.before.before.before.before.before.before.before) (old_of c.before.before.before.before.before.before.before.before.before.before.before.before.before.before.before.before.before.before.before.before.before.before.before.before.before.before.before.before.before.before.before.before.before.before.before.before.before.before.before.before.before.before.before.before.before.before.before.before.before.before.before.before.before.before.before.before.before.before.before.before.before.before.before.before.before.before.before.before.before.before.before.before.before.before.before.before.before.before.before.before.before.before.before.before.before.before.before.before.before.before.before.before.before.before.before.before.before.before.before.before.before.before) (long c.before.before.before.before.before.before.before.before.before.before.before.before.before.before.before.before.before.before.before.before.before.before.before.before.before.before.before.before.before.before.before.before.before.before.before.before.before.before.before.before.before.before.before.before.before.before.before.before.before.before.before.before.before.before.before.before.before.before.before.before.before.before.before)) ∙ (decided-refused (lentOn c.before.before.before.before.before.before.before.before.before.before.before.before.before.before.before.before.before.before.before.before.before.before.before.before.before.before.before.before.before.before.before.before.before.before.before.before.before.before.before.before.before.before.before.before.before.before.before.before.before.before.before.before.before.before.before.before.before.before.before.before.before.before.before.before.before.before.before.before.before.before.before.before.before.before.before.before.before.before.before.before.before.before.before.before.before.before.before.before.before.before.before.before.before.before.before.before.before.before.before.before.before.before (old_of c.before.before.before.before.before.before.before.before.before.before.before.before.before.before.before.before.before.before.before.before.before.before.before.before.before.before.before.before.before.before.before.before.before.before.before.before.before.before.before.before.before.before.before.before.before.before.before.before.before.before.before.before.before.before.before.before.before.before.before.before.before.before.before.before.before.before.before.before.before.before.before.before.before.before.before.before.before.before.before.before.before.before.before.before.before.before.before.before.before.before.before.before.before.before.before.before.before.before.before.before.before.before)) (left_by c.before.before.before.before.before.before.before.before.before.before.before.before.before.before.before.before.before.before.before.before.before.before.before.before.before.before.before.before.before.before.before.before.before.before.before.before.before.before.before.before.before.before.before.before.before.before.before.before.before.before.before.before.before.before.before.before.before.before.before.before.before.before.before) c.args.marks.now c.args.kept.now (marks_by c.before.before.before.before.before.before.before.before.before.before.before.before.before.before.before.before.before.before.before.before.before.before.before.before.before.before.before.before.before.before.before.before.before.before.before.before.before.before.before.before.before.before.before.before.before.before.before.before.before.before.before.before.before.before.before.before.before.before.before.before.before.before.before) (keptBy c.before.before.before.before.before.before.before.before.before.before.before.before.before.before.before.before.before.before.before.before.before.before.before.before.before.before.before.before.before.before.before.before.before.before.before.before.before.before.before.before.before.before.before.before.before.before.before.before.before.before.before.before.before.before.before.before.before.before.before.before.before.before.before) c.make_edits-ran.result c.make_edits-ran.new.created c.make_edits-ran.new.modified c.make_edits-ran.new.deleted c.decided-end.result c.decided-end.new.all_created c.decided-end.new.all_modified c.decided-end.new.all_deleted (old-sorted c.before.before.before.before.before.before.before.before.before.before.before.before.before.before.before.before.before.before.before.before.before.before.before.before.before.before.before.before.before.before.before.before.before.before.before.before.before.before.before.before.before.before.before.before.before.before.before.before.before.before.before.before.before.before.before.before.before.before.before.before.before.before.before.before.before.before.before.before.before.before.before.before.before.before.before.before.before.before.before.before.before.before.before.before.before.before.before.before.before.before.before.before.before.before.before.before.before.before.before.before.before.before) c.requires.1.1.1.0 c.in_default.not-Ok (runOn c.before.before.before.before.before.before.before.before.before.before.before.before.before.before.before.before.before.before.before.before.before.before.before.before.before.before.before.before.before.before.before.before.before.before.before.before.before.before.before.before.before.before.before.before.before.before.before.before.before.before.before.before.before.before.before.before.before.before.before.before.before.before.before.before.before.before.before.before.before.before.before.before.before.before.before.before.before.before.before.before.before.before.before.before.before.before.before.before.before.before.before.before.before.before.before.before.before.before.before.before.before.before (old_of c.before.before.before.before.before.before.before.before.before.before.before.before.before.before.before.before.before.before.before.before.before.before.before.before.before.before.before.before.before.before.before.before.before.before.before.before.before.before.before.before.before.before.before.before.before.before.before.before.before.before.before.before.before.before.before.before.before.before.before.before.before.before.before.before.before.before.before.before.before.before.before.before.before.before.before.before.before.before.before.before.before.before.before.before.before.before.before.before.before.before.before.before.before.before.before.before.before.before.before.before.before.before)) (ran c.before.before.before.before.before.before.before.before.before.before.before.before.before.before.before.before.before.before.before.before.before.before.before.before.before.before.before.before.before.before.before.before.before.before.before.before.before.before.before.before.before.before.before.before.before.before.before.before.before.before.before.before.before.before.before.before.before.before.before.before.before.before.before) c.decided-end.ensures ∙ ap (λ (z : Tables). ending (lentOn c.before.before.before.before.before.before.before.before.before.before.before.before.before.before.before.before.before.before.before.before.before.before.before.before.before.before.before.before.before.before.before.before.before.before.before.before.before.before.before.before.before.before.before.before.before.before.before.before.before.before.before.before.before.before.before.before.before.before.before.before.before.before.before.before.before.before.before.before.before.before.before.before.before.before.before.before.before.before.before.before.before.before.before.before.before.before.before.before.before.before.before.before.before.before.before.before.before.before.before.before.before.before z) (old_of c.before.before.before.before.before.before.before.before.before.before.before.before.before.before.before.before.before.before.before.before.before.before.before.before.before.before.before.before.before.before.before.before.before.before.before.before.before.before.before.before.before.before.before.before.before.before.before.before.before.before.before.before.before.before.before.before.before.before.before.before.before.before.before.before.before.before.before.before.before.before.before.before.before.before.before.before.before.before.before.before.before.before.before.before.before.before.before.before.before.before.before.before.before.before.before.before.before.before.before.before.before.before) (runOn c.before.before.before.before.before.before.before.before.before.before.before.before.before.before.before.before.before.before.before.before.before.before.before.before.before.before.before.before.before.before.before.before.before.before.before.before.before.before.before.before.before.before.before.before.before.before.before.before.before.before.before.before.before.before.before.before.before.before.before.before.before.before.before.before.before.before.before.before.before.before.before.before.before.before.before.before.before.before.before.before.before.before.before.before.before.before.before.before.before.before.before.before.before.before.before.before.before.before.before.before.before.before z)) c.requires.1.1.0)

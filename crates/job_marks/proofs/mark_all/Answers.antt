@@ -1,4 +1,4 @@
--- `job_marks::mark_all` meets its contract: what is left of the list, over the marks now, gives the whole. The measure is how many entities are left. Assumes nothing.
+-- `job_marks::mark_all` meets its contract: what is left of the list, over the marks now, gives the whole. Assumes nothing.
 use mathlib.Core.Path.{◌∙◌}
 use mathlib.Core.List.{[]}
 use Prim.Native.Nat.{◌-◌}
@@ -43,12 +43,6 @@ bounds-modified-i-in-loop-i c = omega (arith, c.loop-i-test.true, c.requires.1.1
 
 pub mark_one-requires : goal.mark_one-requires
 mark_one-requires c = (c.requires.0, c.loop-i.invariant.many ∙ c.requires.1.0)
-
-pub overflow_add-i : goal.overflow_add-i
-overflow_add-i c = omega (arith, c.loop-i-test.true, c.requires.1.1)
-
-pub loop-i-smaller : goal.loop-i-smaller
-loop-i-smaller c = omega (arith, c.loop-i-test.true)
 
 pub loop-i-preserved : goal.loop-i-preserved
 loop-i-preserved c =

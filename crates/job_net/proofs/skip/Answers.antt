@@ -1,4 +1,5 @@
--- `job_net::skip` meets its contract: what is passed and what is left give the whole. The measure is how many rows are left. Assumes nothing.
+-- `job_net::skip` meets its contract: what is passed and what is left give the whole. Assumes nothing.
+use mathlib.Core.Path.{◌≡◌, ◌∙◌}
 use Prim.Native.Nat.{◌-◌}
 use native.Mathlib.Omega.{arith}
 use Rattle.lists.specs.Rows.{keys}
@@ -22,14 +23,8 @@ bounds-rows-j c = let a = c.args in omega (arith, row-start c.loop-j.j a.n a.s (
 pub returns-then-id-rows : goal.returns-then-id-rows
 returns-then-id-rows c = let a = c.args in walk-stops a.s a.n a.id a.rows.now c.requires.0 a.from c.loop-j.j c.loop-j.invariant c.loop-j-test.true (omega (arith, c.if-id-rows.true))
 
-pub overflow_add-j : goal.overflow_add-j
-overflow_add-j c = omega arith
-
-pub loop-j-smaller : goal.loop-j-smaller
-loop-j-smaller c = omega arith
-
 pub loop-j-preserved : goal.loop-j-preserved
 loop-j-preserved c = let a = c.args in walk-turns a.s a.n a.id a.rows.now c.requires.0 a.from c.loop-j.j c.loop-j.invariant c.loop-j-test.true (omega (arith, c.if-id-rows.false))
 
 pub returns : goal.returns
-returns c = let a = c.args in walk_ends a.s a.n a.id a.rows.now c.requires.0 a.from c.loop-j.j c.loop-j.invariant c.loop-j-test.false
+returns c = let a = c.args in let last : a.n ≡ c.loop-j.j = omega (arith, c.requires.1.1, c.loop-j-test.false, c.loop-j.auto.j-end) in last ∙ walk_ends a.s a.n a.id a.rows.now c.requires.0 a.from c.loop-j.j c.loop-j.invariant c.loop-j-test.false

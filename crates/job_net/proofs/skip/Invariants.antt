@@ -1,4 +1,4 @@
--- `job_net::skip` meets its contract: what is passed and what is left give the whole. The measure is how many rows are left. Assumes nothing.
+-- `job_net::skip` meets its contract: what is passed and what is left give the whole. Assumes nothing.
 use Prim.Native.Nat.{◌-◌}
 use native.Mathlib.Omega.{arith}
 use Rattle.lists.specs.Rows.{keys}
@@ -9,6 +9,3 @@ use Rattle.job_net.proofs.skip.Given as goal
 
 abbrev pub invariant-loop-j : goal.invariant-loop-j
 invariant-loop-j l = Walked l.id (keys l.s l.n l.rows) l.from l.j
-
-abbrev pub decreases-loop-j : goal.decreases-loop-j
-decreases-loop-j l = l.n - l.j

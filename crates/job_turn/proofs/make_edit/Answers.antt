@@ -42,61 +42,61 @@ overflow_mul-first c = omega (arith, begins (goal.at.overflow_mul-first c).Start
 pub offset_bounds-warnings-first : goal.offset_bounds-warnings-first
 offset_bounds-warnings-first c = omega (arith, begins (goal.at.offset_bounds-warnings-first c).Start, c.well_formed)
 
-pub slice_bounds-dispatch-count : goal.slice_bounds-dispatch-count
-slice_bounds-dispatch-count c = omega (arith, begins (goal.at.slice_bounds-dispatch-count c).Start)
+pub slice_bounds-answered-count : goal.slice_bounds-answered-count
+slice_bounds-answered-count c = omega (arith, begins (goal.at.slice_bounds-answered-count c).Start)
 
-pub dispatch-answer-requires : goal.dispatch-answer-requires
-dispatch-answer-requires c = c.requires.0
+pub answered-answer-requires : goal.answered-answer-requires
+answered-answer-requires c = c.requires.0
 
 pub mark_all-requires : goal.mark_all-requires
 mark_all-requires c =
     let s = (goal.at.mark_all-requires c).Start in
-    let d = c.dispatch-answer in
-    (s.requires.1.0, (s.requires.1.1.0, may-mark s.args.tolerance s.args.command (lent s) _ d.result d.ensures s.requires.0 (fits (goal.at.mark_all-requires c).Start) c.counts-n.result c.counts-n.ensures d.auto.modified))
+    let d = c.answered-answer in
+    (s.requires.1.0, (s.requires.1.1.0, may-mark s.args.tolerance s.args.command (lent s) _ d.result d.ensures s.requires.0 (fits (goal.at.mark_all-requires c).Start) c.answer_counts-n.result c.answer_counts-n.ensures d.auto.modified))
 
 pub turn_of-requires : goal.turn_of-requires
 turn_of-requires c =
     let s = (goal.at.turn_of-requires c).Start in
-    let d = c.dispatch-answer in
+    let d = c.answered-answer in
     counter-word s.args.tolerance s.args.command (lent s) _ d.result d.ensures (omega (arith, s.well_formed))
 
 pub shape_of-lanes : goal.shape_of-lanes
-shape_of-lanes c = c.dispatch-answer.auto.lanes
+shape_of-lanes c = c.answered-answer.auto.lanes
 
 pub shape_of-boundaries : goal.shape_of-boundaries
-shape_of-boundaries c = c.dispatch-answer.auto.boundaries
+shape_of-boundaries c = c.answered-answer.auto.boundaries
 
 pub shape_of-roads : goal.shape_of-roads
-shape_of-roads c = c.dispatch-answer.auto.roads
+shape_of-roads c = c.answered-answer.auto.roads
 
 pub shape_of-junctions : goal.shape_of-junctions
-shape_of-junctions c = c.dispatch-answer.auto.junctions
+shape_of-junctions c = c.answered-answer.auto.junctions
 
 pub shape_of-rules : goal.shape_of-rules
-shape_of-rules c = c.dispatch-answer.auto.rules
+shape_of-rules c = c.answered-answer.auto.rules
 
 pub shape_of-stop_lines : goal.shape_of-stop_lines
-shape_of-stop_lines c = c.dispatch-answer.auto.stop_lines
+shape_of-stop_lines c = c.answered-answer.auto.stop_lines
 
 pub shape_of-crosswalks : goal.shape_of-crosswalks
-shape_of-crosswalks c = c.dispatch-answer.auto.crosswalks
+shape_of-crosswalks c = c.answered-answer.auto.crosswalks
 
 pub shape_of-coordinates : goal.shape_of-coordinates
-shape_of-coordinates c = c.dispatch-answer.auto.coordinates
+shape_of-coordinates c = c.answered-answer.auto.coordinates
 
 pub shape_of-created : goal.shape_of-created
-shape_of-created c = c.dispatch-answer.auto.created
+shape_of-created c = c.answered-answer.auto.created
 
 pub shape_of-modified : goal.shape_of-modified
-shape_of-modified c = c.dispatch-answer.auto.modified
+shape_of-modified c = c.answered-answer.auto.modified
 
 pub shape_of-deleted : goal.shape_of-deleted
-shape_of-deleted c = c.dispatch-answer.auto.deleted
+shape_of-deleted c = c.answered-answer.auto.deleted
 
 pub shape_of-warnings : goal.shape_of-warnings
 shape_of-warnings c =
     let s = (goal.at.shape_of-warnings c).Start in
-    let d = c.dispatch-answer in
+    let d = c.answered-answer in
     same_len_mid (s.args.at * 10) (length s.args.warnings.now - s.args.at * 10) s.args.warnings.now d.new.warnings d.auto.warnings
 
 pub shape_of-marks : goal.shape_of-marks
@@ -105,10 +105,10 @@ shape_of-marks c = c.mark_all.auto.marks
 pub returns : goal.returns
 returns c =
     let s = (goal.at.returns c).Start in
-    let d = c.dispatch-answer in
+    let d = c.answered-answer in
     let m = c.mark_all in
-    let n = c.counts-n in
+    let n = c.answer_counts-n in
     made_as s.args.tolerance s.args.command (lent s) _ d.result d.ensures s.requires.0 (fits (goal.at.returns c).Start) (old s) s.args.marks.now m.new.marks s.args.at s.args.warnings.now _ n.result c.turn_of.result n.ensures m.ensures (begins (goal.at.returns c).Start) refl refl c.turn_of.ensures
 
-pub slice_bounds-dispatch-start : goal.slice_bounds-dispatch-start
-slice_bounds-dispatch-start c = omega (arith, begins (goal.at.slice_bounds-dispatch-start c).Start)
+pub slice_bounds-answered-start : goal.slice_bounds-answered-start
+slice_bounds-answered-start c = omega (arith, begins (goal.at.slice_bounds-answered-start c).Start)

@@ -29,14 +29,6 @@ offset_bounds-edits-i c = omega arith
 pub bounds-edits-i : goal.bounds-edits-i
 bounds-edits-i c = omega arith
 
--- src/lib.rt:56:9
-pub overflow_add-i : goal.overflow_add-i
-overflow_add-i c = omega arith
-
--- src/lib.rt:52:5
-pub loop-i-smaller : goal.loop-i-smaller
-loop-i-smaller c = omega arith
-
 -- src/lib.rt:52:5
 pub loop-i-preserved : goal.loop-i-preserved
 loop-i-preserved c =

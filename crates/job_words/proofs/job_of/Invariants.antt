@@ -14,6 +14,3 @@ use Rattle.job_words.proofs.job_of.Given as goal
 
 abbrev pub invariant-loop-i : goal.invariant-loop-i
 invariant-loop-i l = (l.i ≤ 64) × ((length l.edits ≡ 64) × (take l.i l.edits ≡ edits_in l.i l.rows))
-
-abbrev pub decreases-loop-i : goal.decreases-loop-i
-decreases-loop-i l = 64 - l.i

@@ -1,6 +1,6 @@
 -- `joins::copy_points` meets its contract: what is left, written behind what was written, makes the whole. Assumes nothing.
 use Prim.Native.Nat.{◌+◌, ◌≤◌, ◌<◌, ◌-◌}
-use mathlib.Core.Path.{refl}
+use mathlib.Core.Path.{◌≡◌, refl}
 use mathlib.Core.List.{List, [], ◌∷◌, ◌++◌}
 use native.Mathlib.Omega.{arith}
 use borrow.Author.Rules.{rules}
@@ -24,14 +24,16 @@ line_of c = points c.args.line.now
 abbrev whole : AtInLoopI → List Point3
 whole c = drop c.args.from (line_of c)
 
-next : (c : AtInLoopI) → Left c.args.out.now c.loop-i.out c.args.k c.loop-i.to (whole c)
+next : (c : AtInLoopI) → Left c.args.out.now c.loop-i.out c.args.k (c.args.k + (c.loop-i.i - c.args.from)) (whole c)
     (at (line_of c) c.loop-i.i ∷ [] ++ drop (c.loop-i.i + 1) (line_of c))
 next c =
     let h : c.loop-i.i < length (line_of c) = omega (arith, c.count-n.ensures) in
     rw (left-more (line_of c) c.loop-i.i h) at c.loop-i.invariant
 
 pub loop-i-init : goal.loop-i-init
-loop-i-init c = begins c.args.out.now c.args.k (drop c.args.from (points c.args.line.now))
+loop-i-init c =
+    let here : c.args.k + (c.args.from - c.args.from) ≡ c.args.k = omega arith in
+    rw here (begins c.args.out.now c.args.k (drop c.args.from (points c.args.line.now)))
 
 pub point-requires : goal.point-requires
 point-requires c = omega (arith, c.count-n.ensures, c.loop-i-test.true)
@@ -41,21 +43,10 @@ put_point-requires c =
     let r = fits_more _ _ _ _ (whole c.before.before.before) (at (line_of c.before.before.before) c.loop-i.i ∷ []) (drop (c.loop-i.i + 1) (line_of c.before.before.before)) c.requires (next c.before.before.before) in
     omega (arith, r)
 
-pub overflow_add-i : goal.overflow_add-i
-overflow_add-i c = omega (arith, c.count-n.type_inv, c.loop-i-test.true)
-
-pub overflow_add-to : goal.overflow_add-to
-overflow_add-to c =
-    let r = fits_more _ _ _ _ (whole c.before.before.before.before.before.before) (at (line_of c.before.before.before.before.before.before) c.loop-i.i ∷ []) (drop (c.loop-i.i + 1) (line_of c.before.before.before.before.before.before)) c.requires (next c.before.before.before.before.before.before) in
-    omega (arith, r, c.loop-i.invariant.same, c.well_formed.1.1.0.0)
-
-pub loop-i-smaller : goal.loop-i-smaller
-loop-i-smaller c = omega (arith, c.loop-i-test.true)
-
 pub loop-i-preserved : goal.loop-i-preserved
 loop-i-preserved c =
     rw (c.put_point.ensures, c.point.ensures)
-    (goes_on _ _ _ _ (whole c.before.before.before.before.before.before) (at (line_of c.before.before.before.before.before.before) c.loop-i.i ∷ []) (drop (c.loop-i.i + 1) (line_of c.before.before.before.before.before.before)) c.requires (next c.before.before.before.before.before.before) (c.loop-i.to + 1) refl)
+    (goes_on _ _ _ _ (whole c.before.before.before.before.before.before) (at (line_of c.before.before.before.before.before.before) c.loop-i.i ∷ []) (drop (c.loop-i.i + 1) (line_of c.before.before.before.before.before.before)) c.requires (next c.before.before.before.before.before.before) (c.args.k + (c.loop-i.i + 1 - c.args.from)) (omega (arith, c.loop-i.auto.i)))
 
 pub shape_of-out : goal.shape_of-out
 shape_of-out c = c.loop-i.invariant.same
@@ -65,4 +56,4 @@ returns c =
     let ps = points c.args.line.now in
     let l = c.loop-i in
     let h : length ps ≤ l.i = omega (arith, c.count-n.ensures, c.loop-i-test.false) in
-    ends c.args.out.now l.out c.args.k l.to (drop c.args.from ps) (rw (left-none ps l.i h) at l.invariant)
+    ends c.args.out.now l.out c.args.k (c.args.k + (l.i - c.args.from)) (drop c.args.from ps) (rw (left-none ps l.i h) at l.invariant)

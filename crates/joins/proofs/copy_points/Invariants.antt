@@ -12,7 +12,4 @@ use Rattle.geometry.specs.declared.Point3.{Point3}
 use Rattle.joins.proofs.copy_points.Given as goal
 
 abbrev pub invariant-loop-i : goal.invariant-loop-i
-invariant-loop-i l = Left l.initial.out l.out l.k l.to (drop l.from (points l.line)) (drop l.i (points l.line))
-
-abbrev pub decreases-loop-i : goal.decreases-loop-i
-decreases-loop-i l = l.n - l.i
+invariant-loop-i l = Left l.initial.out l.out l.k (l.k + (l.i - l.from)) (drop l.from (points l.line)) (drop l.i (points l.line))

@@ -13,6 +13,3 @@ use Rattle.joins.proofs.reversed.Given as goal
 
 abbrev pub invariant-loop-i : goal.invariant-loop-i
 invariant-loop-i l = (l.i ≤ l.n) × Left l.initial.out l.out 0 l.i (reverse (points l.line)) (reverse (take (length (points l.line) - l.i) (points l.line)))
-
-abbrev pub decreases-loop-i : goal.decreases-loop-i
-decreases-loop-i l = l.n - l.i

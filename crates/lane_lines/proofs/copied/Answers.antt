@@ -43,12 +43,6 @@ put_point-requires c =
     let r = fits_more _ _ _ _ (line_of c.before.before.before) (at (line_of c.before.before.before) c.loop-i.i ∷ []) (rest c.before.before.before) (room c.before.before.before) (next c.before.before.before) in
     omega (arith, r)
 
-pub overflow_add-i : goal.overflow_add-i
-overflow_add-i c = omega (arith, c.count-n.type_inv, c.loop-i-test.true)
-
-pub loop-i-smaller : goal.loop-i-smaller
-loop-i-smaller c = omega (arith, c.loop-i-test.true)
-
 pub loop-i-preserved : goal.loop-i-preserved
 loop-i-preserved c = (
   omega (arith, c.loop-i-test.true),

@@ -13,6 +13,3 @@ use Rattle.lane_lines.proofs.copied.Given as goal
 
 abbrev pub invariant-loop-i : goal.invariant-loop-i
 invariant-loop-i l = (l.i ≤ l.n) × Left l.initial.out l.out 0 l.i (points l.line) (drop l.i (points l.line))
-
-abbrev pub decreases-loop-i : goal.decreases-loop-i
-decreases-loop-i l = l.n - l.i

@@ -7,14 +7,14 @@ pub put_where-two-requires : goal.put_where-two-requires
 put_where-two-requires c =
     let a = c.args in
     let one = c.put_where-one in
-    front-room a.deleted.now a.lane a.gone.count a.gone.first a.gone.second c.requires c.number.result c.number-boundary.result c.number.ensures c.number-boundary.ensures one.result one.new.out one.ensures.0 one.ensures.1
+    front-room a.deleted.now a.lane a.gone.count a.gone.first a.gone.second c.requires c.from.result c.from-boundary.result c.from.ensures c.from-boundary.ensures one.result one.new.out one.ensures.0 one.ensures.1
 
 pub put_where-requires : goal.put_where-requires
 put_where-requires c =
     let a = c.args in
     let one = c.put_where-one in
     let two = c.put_where-two in
-    last-room a.deleted.now a.lane a.gone.count a.gone.first a.gone.second c.requires c.number.result c.number-boundary.result c.number.ensures c.number-boundary.ensures one.result one.new.out one.ensures.0 one.ensures.1 two.result two.new.out two.ensures.0 two.ensures.1
+    last-room a.deleted.now a.lane a.gone.count a.gone.first a.gone.second c.requires c.from.result c.from-boundary.result c.from.ensures c.from-boundary.ensures one.result one.new.out one.ensures.0 one.ensures.1 two.result two.new.out two.ensures.0 two.ensures.1
 
 pub returns : goal.returns
 returns c =
@@ -22,4 +22,4 @@ returns c =
     let one = c.put_where-one in
     let two = c.put_where-two in
     let three = c.put_where in
-    gone-listed a.deleted.now a.lane a.gone.count a.gone.first a.gone.second c.requires c.number.result c.number-boundary.result c.number.ensures c.number-boundary.ensures one.result one.new.out one.ensures.0 one.ensures.1 two.result two.new.out two.ensures.0 two.ensures.1 three.result three.new.out three.ensures.0 three.ensures.1
+    gone-listed a.deleted.now a.lane a.gone.count a.gone.first a.gone.second c.requires c.from.result c.from-boundary.result c.from.ensures c.from-boundary.ensures one.result one.new.out one.ensures.0 one.ensures.1 two.result two.new.out two.ensures.0 two.ensures.1 three.result three.new.out three.ensures.0 three.ensures.1

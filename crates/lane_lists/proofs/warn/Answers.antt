@@ -1,4 +1,4 @@
--- `lane_lists::warn` meets its contract. The invariant: the rules of the first i rows are warned of. The measure is how many rows are left. Assumes nothing.
+-- `lane_lists::warn` meets its contract. The invariant: the rules of the first i rows are warned of. Assumes nothing.
 use Prim.Native.Nat.{◌+◌, ◌*◌, ◌-◌, ◌≤◌}
 use native.Mathlib.Omega.{arith}
 use lib.ListN.{length}
@@ -54,12 +54,6 @@ warn_where-place-requires c =
     let l = c.loop-i in
     let b = c.names_lane-on in
     warned-room a.lane a.rules.now a.warnings.now c.requires.1 l.warnings l.i l.place l.invariant c.loop-i-test.true b.result b.ensures
-
-pub overflow_add-i : goal.overflow_add-i
-overflow_add-i c = omega (arith, c.loop-i-test.true, formed-few Orphans c.args.rules.now c.requires.0)
-
-pub loop-i-smaller : goal.loop-i-smaller
-loop-i-smaller c = omega (arith, c.loop-i-test.true)
 
 pub loop-i-preserved : goal.loop-i-preserved
 loop-i-preserved c =

@@ -1,4 +1,4 @@
--- `lane_lists::warn` meets its contract. The invariant: the rules of the first i rows are warned of. The measure is how many rows are left. Assumes nothing.
+-- `lane_lists::warn` meets its contract. The invariant: the rules of the first i rows are warned of. Assumes nothing.
 use Prim.Native.Nat.{◌+◌, ◌*◌, ◌-◌, ◌≤◌}
 use native.Mathlib.Omega.{arith}
 use lib.ListN.{length}
@@ -10,6 +10,3 @@ use Rattle.lane_lists.proofs.warn.Given as goal
 
 abbrev pub invariant-loop-i : goal.invariant-loop-i
 invariant-loop-i l = Warned l.lane l.rules l.initial.warnings l.warnings l.i l.place
-
-abbrev pub decreases-loop-i : goal.decreases-loop-i
-decreases-loop-i l = l.n - l.i

@@ -33,20 +33,11 @@ loop-i-init c =
 pub overflow_mul-i : goal.overflow_mul-i
 overflow_mul-i c = omega (arith, (needed c.before.before).0, c.loop-i.invariant.1.words, c.well_formed)
 
-pub overflow_add-i : goal.overflow_add-i
-overflow_add-i c = omega (arith, (needed c.before.before).0, c.loop-i.invariant.1.words, c.well_formed)
-
 pub overflow_add-i-in-loop-i : goal.overflow_add-i-in-loop-i
 overflow_add-i-in-loop-i c = omega (arith, (needed c.before.before).0, c.loop-i.invariant.1.words, c.well_formed)
 
 pub gather_line-place-requires : goal.gather_line-place-requires
 gather_line-place-requires c = (c.requires.0, needed c.before.before.before)
-
-pub overflow_add-i-in-loop-i-2 : goal.overflow_add-i-in-loop-i-2
-overflow_add-i-in-loop-i-2 c = omega (arith, (counted-facts 4096 c.args.stride c.args.rows.now c.requires.1.1.1.0).1.0, c.loop-i-test.true)
-
-pub loop-i-smaller : goal.loop-i-smaller
-loop-i-smaller c = omega (arith, c.loop-i-test.true)
 
 pub loop-i-preserved : goal.loop-i-preserved
 loop-i-preserved c =

@@ -1,5 +1,5 @@
--- `layout_all::gather` meets its contract. The invariant: what becomes of the column is what becomes of the rows from i on, from the place as it is.
--- The measure is how many rows are left. Assumes nothing.
+-- `layout_all::gather` meets its contract. The invariant: what becomes of the column is what becomes of the rows from i on, from the place as it is. Assumes
+-- nothing.
 use mathlib.Core.Path.{refl}
 use native.Mathlib.Omega.{arith}
 use Prim.Native.Nat.{◌+◌, ◌-◌, ◌*◌, ◌≤◌}
@@ -11,6 +11,3 @@ use Rattle.layout_all.proofs.gather.Given as goal
 
 abbrev pub invariant-loop-i : goal.invariant-loop-i
 invariant-loop-i l = (l.i ≤ l.n) × Left (plain l.stride l.offset) (sourced l.reach l.work l.drawn) l.initial.rows l.initial.coordinates l.at (l.n - l.i) (1 + l.i * l.stride) l.rows l.coordinates l.place
-
-abbrev pub decreases-loop-i : goal.decreases-loop-i
-decreases-loop-i l = l.n - l.i

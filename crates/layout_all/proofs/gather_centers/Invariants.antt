@@ -1,5 +1,5 @@
--- `layout_all::gather_centers` meets its contract. The invariant: what becomes of the centrelines is what becomes of those from lane i on, from the place as it is.
--- The measure is how many lanes are left. Assumes nothing.
+-- `layout_all::gather_centers` meets its contract. The invariant: what becomes of the centrelines is what becomes of those from lane i on, from the place as it
+-- is. Assumes nothing.
 use native.Mathlib.Omega.{arith}
 use Prim.Native.Nat.{◌+◌, ◌-◌, ◌*◌, ◌≤◌}
 use Rattle.tables.specs.View.{word}
@@ -10,6 +10,3 @@ use Rattle.layout_all.proofs.gather_centers.Given as goal
 
 abbrev pub invariant-loop-i : goal.invariant-loop-i
 invariant-loop-i l = (l.i ≤ l.n) × Left centerlines (sourced l.reach l.work l.drawn) l.initial.lanes l.initial.coordinates l.at (l.n - l.i) (1 + l.i * 52) l.lanes l.coordinates l.place
-
-abbrev pub decreases-loop-i : goal.decreases-loop-i
-decreases-loop-i l = l.n - l.i

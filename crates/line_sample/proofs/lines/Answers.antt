@@ -1,7 +1,6 @@
 -- `line_sample::lines`: the floats that were read of a line are its front. Assumes nothing.
 use lib.ListN.{length-take}
 use native.Mathlib.Omega.{arith}
-use borrow.Author.Rules.{rules}
 use Rattle.line_sample.proofs.lines.Goals as goal
 
 pub slice_bounds-turns-end-2 : goal.slice_bounds-turns-end-2

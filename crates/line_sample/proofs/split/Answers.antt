@@ -1,7 +1,6 @@
 -- `line_sample::split` has room for both pieces: each is a slice, whose points were counted. Assumes nothing.
 use native.Mathlib.Omega.{arith}
 use Rattle.polyline.specs.Polyline.{first_piece, second_piece}
-use borrow.Author.Rules.{rules}
 use Rattle.line_sample.proofs.split.Goals as goal
 
 pub split_at-n-requires : goal.split_at-n-requires

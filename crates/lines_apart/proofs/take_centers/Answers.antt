@@ -1,4 +1,6 @@
 -- `lines_apart::take_centers` meets its contract. The invariant: what the lanes' centrelines find and mark is what those from lane i on do, from the marks as they are.
+use mathlib.Core.Bool.{not}
+use borrow.Author.Tests.{not-true, not-false}
 use mathlib.Core.Path.{◌≡◌, sym, ap, ◌∙◌}
 use mathlib.Core.List.{List, ◌++◌}
 use Prim.Native.Nat.{ℕ, ◌+◌, ◌-◌, ◌*◌, ◌≤◌}
@@ -79,25 +81,19 @@ take_center-requires c =
     let fits = left-fits c.args.marks.now (whole c.before.before.before) c.loop-i.marks (center_span (lane c.before.before.before)) (rest c.before.before.before) (next c.before.before.before) in
     (long, fits)
 
-pub overflow_add-i : goal.overflow_add-i
-overflow_add-i c = omega (arith, (counted-facts 1024 52 c.args.t.now c.requires.0).1.0)
-
-pub loop-i-smaller : goal.loop-i-smaller
-loop-i-smaller c = omega arith
-
 pub loop-i-preserved : goal.loop-i-preserved
 loop-i-preserved c =
     let t = c in
     let l = c.take_center in
-    (omega arith, left_step c.args.marks.now (whole c.before.before.before.before.before.before.before) c.loop-i.marks (center_span (lane c.before.before.before.before.before.before.before)) (rest c.before.before.before.before.before.before.before) (next c.before.before.before.before.before.before.before) l.new.marks l.auto.marks (sym l.ensures.0 ∙ c.if-take_center.true) (l.ensures.1 c.if-take_center.true))
+    (omega arith, left_step c.args.marks.now (whole c.before.before.before.before.before.before.before) c.loop-i.marks (center_span (lane c.before.before.before.before.before.before.before)) (rest c.before.before.before.before.before.before.before) (next c.before.before.before.before.before.before.before) l.new.marks l.auto.marks (sym l.ensures.0 ∙ (not-false c.take_center.result (ap not c.if-not-take_center.false))) (l.ensures.1 (not-false c.take_center.result (ap not c.if-not-take_center.false))))
 
-pub shape_of-marks-else-take_center : goal.shape_of-marks-else-take_center
-shape_of-marks-else-take_center c = c.take_center.auto.marks ∙ c.loop-i.invariant.1.long
+pub shape_of-marks-then-not-take_center : goal.shape_of-marks-then-not-take_center
+shape_of-marks-then-not-take_center c = c.take_center.auto.marks ∙ c.loop-i.invariant.1.long
 
-pub returns-else-take_center : goal.returns-else-take_center
-returns-else-take_center c =
+pub returns-then-not-take_center : goal.returns-then-not-take_center
+returns-then-not-take_center c =
     let t = c in
-    (sym (left-stop c.args.marks.now (whole c.before.before.before.before.before.before.before) c.loop-i.marks (center_span (lane c.before.before.before.before.before.before.before)) (rest c.before.before.before.before.before.before.before) (next c.before.before.before.before.before.before.before) (sym c.take_center.ensures.0 ∙ c.if-take_center.false)), λ h. never h)
+    (sym (left-stop c.args.marks.now (whole c.before.before.before.before.before.before.before) c.loop-i.marks (center_span (lane c.before.before.before.before.before.before.before)) (rest c.before.before.before.before.before.before.before) (next c.before.before.before.before.before.before.before) (sym c.take_center.ensures.0 ∙ (not-true c.take_center.result (ap not c.if-not-take_center.true)))), λ h. never h)
 
 pub shape_of-marks : goal.shape_of-marks
 shape_of-marks c = c.loop-i.invariant.1.long

@@ -14,6 +14,3 @@ use Rattle.lines_apart.proofs.take_centers.Given as goal
 
 abbrev pub invariant-loop-i : goal.invariant-loop-i
 invariant-loop-i l = (l.i ≤ l.n) × Left l.initial.marks (joined (rows 52 center_span l.t)) l.marks (joined (reads 52 center_span (l.n - l.i) (drop (l.i * 52) (drop 1 l.t))))
-
-abbrev pub decreases-loop-i : goal.decreases-loop-i
-decreases-loop-i l = l.n - l.i

@@ -1,5 +1,7 @@
 -- `lines_apart::take_column` meets its contract. The invariant: what the column's lines find and mark is what those from row i on do, from the marks as they are.
-use mathlib.Core.Path.{refl, sym, ◌∙◌}
+use mathlib.Core.Bool.{not}
+use borrow.Author.Tests.{not-true, not-false}
+use mathlib.Core.Path.{refl, sym, ◌∙◌, ap}
 use mathlib.Core.List.{List, [], ◌∷◌}
 use Prim.Native.Nat.{◌+◌, ◌-◌, ◌*◌, ◌≤◌}
 use native.Mathlib.Omega.{arith}
@@ -77,28 +79,20 @@ bounds-t-at-in-loop-i c = omega (arith, room c.before.before.before.before)
 pub take_line-requires : goal.take_line-requires
 take_line-requires c = all_head (within (length c.loop-i.marks)) (line c.before.before.before.before) [] (left-fits c.args.marks.now (whole c.before.before.before.before) c.loop-i.marks (line c.before.before.before.before ∷ []) (rest c.before.before.before.before) (next c.before.before.before.before))
 
-pub overflow_add-i : goal.overflow_add-i
-overflow_add-i c =
-    let s = c in
-    omega (arith, (counted-facts 4096 s.args.row s.args.t.now s.requires.1.1.0).1.0)
-
-pub loop-i-smaller : goal.loop-i-smaller
-loop-i-smaller c = omega arith
-
 pub loop-i-preserved : goal.loop-i-preserved
 loop-i-preserved c =
     let t = c in
     let e = take-one c.loop-i.marks c.take_line.new.marks (line c.before.before.before.before.before.before.before.before) (line c.before.before.before.before.before.before.before.before ∷ []) c.take_line.result refl c.take_line.ensures.0 c.take_line.ensures.1 in
-    (omega arith, left_step c.args.marks.now (whole c.before.before.before.before.before.before.before.before) c.loop-i.marks (line c.before.before.before.before.before.before.before.before ∷ []) (rest c.before.before.before.before.before.before.before.before) (next c.before.before.before.before.before.before.before.before) c.take_line.new.marks c.take_line.auto.marks (sym e.0 ∙ c.if-take_line.true) (e.1 c.if-take_line.true))
+    (omega arith, left_step c.args.marks.now (whole c.before.before.before.before.before.before.before.before) c.loop-i.marks (line c.before.before.before.before.before.before.before.before ∷ []) (rest c.before.before.before.before.before.before.before.before) (next c.before.before.before.before.before.before.before.before) c.take_line.new.marks c.take_line.auto.marks (sym e.0 ∙ (not-false c.take_line.result (ap not c.if-not-take_line.false))) (e.1 (not-false c.take_line.result (ap not c.if-not-take_line.false))))
 
-pub shape_of-marks-else-take_line : goal.shape_of-marks-else-take_line
-shape_of-marks-else-take_line c = c.take_line.auto.marks ∙ c.loop-i.invariant.1.long
+pub shape_of-marks-then-not-take_line : goal.shape_of-marks-then-not-take_line
+shape_of-marks-then-not-take_line c = c.take_line.auto.marks ∙ c.loop-i.invariant.1.long
 
-pub returns-else-take_line : goal.returns-else-take_line
-returns-else-take_line c =
+pub returns-then-not-take_line : goal.returns-then-not-take_line
+returns-then-not-take_line c =
     let t = c in
     let e = take-one c.loop-i.marks c.take_line.new.marks (line c.before.before.before.before.before.before.before.before) (line c.before.before.before.before.before.before.before.before ∷ []) c.take_line.result refl c.take_line.ensures.0 c.take_line.ensures.1 in
-    (sym (left-stop c.args.marks.now (whole c.before.before.before.before.before.before.before.before) c.loop-i.marks (line c.before.before.before.before.before.before.before.before ∷ []) (rest c.before.before.before.before.before.before.before.before) (next c.before.before.before.before.before.before.before.before) (sym e.0 ∙ c.if-take_line.false)), λ h. never h)
+    (sym (left-stop c.args.marks.now (whole c.before.before.before.before.before.before.before.before) c.loop-i.marks (line c.before.before.before.before.before.before.before.before ∷ []) (rest c.before.before.before.before.before.before.before.before) (next c.before.before.before.before.before.before.before.before) (sym e.0 ∙ (not-true c.take_line.result (ap not c.if-not-take_line.true)))), λ h. never h)
 
 pub shape_of-marks : goal.shape_of-marks
 shape_of-marks c = c.loop-i.invariant.1.long

@@ -16,6 +16,3 @@ use Rattle.lines_apart.proofs.take_column.Given as goal
 
 abbrev pub invariant-loop-i : goal.invariant-loop-i
 invariant-loop-i l = (l.i ≤ l.n) × Left l.initial.marks (rows l.row (span_at l.k) l.t) l.marks (reads l.row (span_at l.k) (l.n - l.i) (drop (l.i * l.row) (drop 1 l.t)))
-
-abbrev pub decreases-loop-i : goal.decreases-loop-i
-decreases-loop-i l = l.n - l.i

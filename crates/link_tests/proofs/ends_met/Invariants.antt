@@ -1,4 +1,4 @@
--- `link_tests::ends_met` meets its contract. The invariant: the cursors are the counts where those from j on are. The measure is how many are left. Assumes nothing.
+-- `link_tests::ends_met` meets its contract. The invariant: the cursors are the counts where those from j on are. Assumes nothing.
 use mathlib.Core.Path.{◌≡◌, refl, sym, ◌∙◌}
 use Prim.Native.Nat.{◌+◌, ◌-◌, ◌*◌, ◌≤◌, ◌<◌}
 use native.Mathlib.Omega.{arith}
@@ -14,6 +14,3 @@ use Rattle.link_tests.proofs.ends_met.Given as goal
 
 abbrev pub invariant-loop-j : goal.invariant-loop-j
 invariant-loop-j l = (l.j ≤ length l.met) × (same_numbers l.met (rows 52 (word 18) l.t) ≡ same_numbers (drop l.j l.met) (drop l.j (rows 52 (word 18) l.t)))
-
-abbrev pub decreases-loop-j : goal.decreases-loop-j
-decreases-loop-j l = length l.met - l.j

@@ -1,7 +1,8 @@
 -- `link_tests::lane_met` meets its contract. The invariant: the cursors count the links before k, and the lane's links are met where those from k on are. The measure
-use mathlib.Core.Path.{◌≡◌, refl, sym, ◌∙◌}
+use borrow.Author.Tests.{not-true, not-false}
+use mathlib.Core.Path.{◌≡◌, refl, sym, ◌∙◌, ap}
 use mathlib.Core.List.{List}
-use mathlib.Core.Bool.{true, ◌&&◌, true≢false}
+use mathlib.Core.Bool.{true, ◌&&◌, true≢false, not}
 use mathlib.Core.Logic.{inr}
 use Prim.Native.Nat.{ℕ, ◌+◌, ◌-◌, ◌*◌, ◌≤◌}
 use native.Mathlib.Omega.{arith}
@@ -74,24 +75,18 @@ loop-k-init c = (omega arith, (refl, (c.requires.1.1, refl)))
 pub link_met-requires : goal.link_met-requires
 link_met-requires c = let b = c.before.before.before.before.before.before.before.before in (b.requires.0, (b.requires.1.0, (rw (← count-is c.before.before.before.before.before.before.before.before) c.loop-k-test.true, c.loop-k.invariant.1.1.0)))
 
-pub overflow_add-k : goal.overflow_add-k
-overflow_add-k c = omega (arith, few c.before.before.before.before.before.before.before.before.before.before.before.before, c.loop-k-test.true)
-
-pub loop-k-smaller : goal.loop-k-smaller
-loop-k-smaller c = omega (arith, c.loop-k-test.true)
-
 pub loop-k-preserved : goal.loop-k-preserved
 loop-k-preserved c =
     let l = c.link_met in
-    (omega (arith, c.loop-k-test.true), (l.auto.met ∙ c.loop-k.invariant.1.0, (l.ensures.1 c.if-link_met.true, turn c.before.before.before.before.before.before ∙ rw (← l.ensures.0, c.if-link_met.true))))
+    (omega (arith, c.loop-k-test.true), (l.auto.met ∙ c.loop-k.invariant.1.0, (l.ensures.1 (not-false c.link_met.result (ap not c.if-not-link_met.false)), turn c.before.before.before.before.before.before ∙ rw (← l.ensures.0, (not-false c.link_met.result (ap not c.if-not-link_met.false))))))
 
-pub shape_of-met-else-link_met : goal.shape_of-met-else-link_met
-shape_of-met-else-link_met c = c.link_met.auto.met ∙ c.loop-k.invariant.1.0
+pub shape_of-met-then-not-link_met : goal.shape_of-met-then-not-link_met
+shape_of-met-then-not-link_met c = c.link_met.auto.met ∙ c.loop-k.invariant.1.0
 
-pub returns-else-link_met : goal.returns-else-link_met
-returns-else-link_met c =
+pub returns-then-not-link_met : goal.returns-then-not-link_met
+returns-then-not-link_met c =
     let l = c.link_met in
-    (sym (turn c.before.before.before.before.before.before ∙ rw (← l.ensures.0, c.if-link_met.false)), λ z. absurd (true≢false (sym z)))
+    (sym (turn c.before.before.before.before.before.before ∙ rw (← l.ensures.0, (not-true c.link_met.result (ap not c.if-not-link_met.true)))), λ z. absurd (true≢false (sym z)))
 
 pub shape_of-met : goal.shape_of-met
 shape_of-met c = c.loop-k.invariant.1.0

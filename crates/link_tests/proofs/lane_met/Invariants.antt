@@ -19,6 +19,3 @@ use Rattle.link_tests.proofs.lane_met.Given as goal
 
 abbrev pub invariant-loop-k : goal.invariant-loop-k
 invariant-loop-k l = (l.k ≤ l.count) × ((length l.met ≡ length l.initial.met) × ((l.met ≡ cursors l.t l.i l.k) × (lane_met l.t l.i ≡ all (link_met l.t l.i) (drop l.k (ids_at 35 (lane_at l.t l.i))))))
-
-abbrev pub decreases-loop-k : goal.decreases-loop-k
-decreases-loop-k l = l.count - l.k

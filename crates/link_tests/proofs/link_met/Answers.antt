@@ -1,4 +1,5 @@
 -- `link_tests::link_met` meets its contract. By the three ways out: the lane is absent, its list has a place for the link, its list is at its end. Assumes nothing.
+use Rattle.std.specs.Prelude.{Some}
 use borrow.Author.Rules.{rules}
 use mathlib.Core.Path.{◌≡◌, refl, sym, ap, ◌∙◌}
 use mathlib.Core.List.{List}
@@ -8,14 +9,13 @@ use Prim.Native.Nat.{ℕ, ◌+◌, ◌*◌, ◌≤◌, ◌<◌}
 use native.Mathlib.Omega.{arith}
 use lib.ListN.{length, get_or}
 use Rattle.lists.specs.Rows.{row_with}
-use Rattle.lists.specs.declared.Found.TheVariants.{At}
 use Rattle.tables.specs.View.{word, ids_at}
 use Rattle.row_tests.specs.Returned.{searchable, lane_at}
 use Rattle.row_tests.proofs.Lanes.{lane_room, links-within, lane-found, word_at}
 use Rattle.link_tests.specs.Met.{lane_ids}
 use Rattle.link_tests.proofs.Steps.{link_at, ids-ready, id-found, cursors-many, link-absent, link-past, link-there, link-moved}
 use Rattle.link_tests.proofs.link_met.Goals as goal
-use Rattle.link_tests.proofs.link_met.Goals.{In-At}
+use Rattle.link_tests.proofs.link_met.Goals.{In-Some}
 use Rattle.link_tests.proofs.link_met.Lts as lts
 use Rattle.link_tests.proofs.link_met.Reads as reads
 use Rattle.link_tests.proofs.link_met.Tie as tie
@@ -55,22 +55,22 @@ sought c =
     id-found (words c.before.before.before.before.before.before) b.args.ids.now b.requires.0.0 (lane c.before.before.before.before.before.before) c.find_id-found.result (rw (← linked c.before.before.before.before.before.before) c.find_id-found.ensures)
 
 -- the row that is found is one of the rows, and its list lies in it
-abbrev row : (c : In-At) → ℕ
-row c = c.in-At.j
+abbrev row : (c : In-Some) → ℕ
+row c = c.in-Some.j
 
-at : (c : In-At) → row_with (lane c.before.before.before.before.before.before.before.before) (lane_ids (words c.before.before.before.before.before.before.before.before)) ≡ At (row c)
-at c = sought c.before.before ∙ c.in-At.is
+at : (c : In-Some) → row_with (lane c.before.before.before.before.before.before.before.before) (lane_ids (words c.before.before.before.before.before.before.before.before)) ≡ Some (row c)
+at c = sought c.before.before ∙ c.in-Some.is
 
-low : (c : In-At) → row c < word 0 (words c.before.before.before.before.before.before.before.before)
+low : (c : In-Some) → row c < word 0 (words c.before.before.before.before.before.before.before.before)
 low c = let b = c in lane-found (words c.before.before.before.before.before.before.before.before) (sorted c.before.before.before.before.before.before.before.before) (lane c.before.before.before.before.before.before.before.before) (row c) (at c)
 
-there : (c : In-At) → 1 + row c * 52 + 52 ≤ length (words c.before.before.before.before.before.before.before.before)
+there : (c : In-Some) → 1 + row c * 52 + 52 ≤ length (words c.before.before.before.before.before.before.before.before)
 there c = let b = c in lane_room (words c.before.before.before.before.before.before.before.before) (sorted c.before.before.before.before.before.before.before.before) (row c) (low c)
 
-count : (c : In-At) → get_or (words c.before.before.before.before.before.before.before.before) (1 + row c * 52 + 18) 0 ≡ word 18 (lane_at (words c.before.before.before.before.before.before.before.before) (row c))
+count : (c : In-Some) → get_or (words c.before.before.before.before.before.before.before.before) (1 + row c * 52 + 18) 0 ≡ word 18 (lane_at (words c.before.before.before.before.before.before.before.before) (row c))
 count c = word_at (words c.before.before.before.before.before.before.before.before) (row c) 18 (omega arith)
 
-before : (c : In-At) → 18 + 1 + word 18 (lane_at (words c.before.before.before.before.before.before.before.before) (row c)) ≤ 52
+before : (c : In-Some) → 18 + 1 + word 18 (lane_at (words c.before.before.before.before.before.before.before.before) (row c)) ≤ 52
 before c = let b = c in omega (arith, links-within (words c.before.before.before.before.before.before.before.before) (sorted c.before.before.before.before.before.before.before.before) (row c) (low c) 18 (inl refl), count c)
 
 pub overflow_mul-at : goal.overflow_mul-at
@@ -116,37 +116,37 @@ pub overflow_add-before-2 : goal.overflow_add-before-2
 overflow_add-before-2 c = omega (arith, there c)
 
 pub bounds-met-j : goal.bounds-met-j
-bounds-met-j c = rw (many c.before.before.before.before.before.before.before.before.before) (low (goal.at.bounds-met-j c).In-At)
+bounds-met-j c = rw (many c.before.before.before.before.before.before.before.before.before) (low (goal.at.bounds-met-j c).In-Some)
 
 pub overflow_cast-cursor : goal.overflow_cast-cursor
-overflow_cast-cursor c = omega (arith, c.slice_known-2-1.given (row (goal.at.overflow_cast-cursor c).In-At))
+overflow_cast-cursor c = omega (arith, c.slice_known-2-1.given (row (goal.at.overflow_cast-cursor c).In-Some))
 
 pub offset_bounds-t-before : goal.offset_bounds-t-before
-offset_bounds-t-before c = omega (arith, there (goal.at.offset_bounds-t-before c).In-At)
+offset_bounds-t-before c = omega (arith, there (goal.at.offset_bounds-t-before c).In-Some)
 
 pub bounds-t-before : goal.bounds-t-before
-bounds-t-before c = omega (arith, there (goal.at.bounds-t-before c).In-At)
+bounds-t-before c = omega (arith, there (goal.at.bounds-t-before c).In-Some)
 
 pub overflow_add-met : goal.overflow_add-met
-overflow_add-met c = omega (arith, before (goal.at.overflow_add-met c).In-At, count (goal.at.overflow_add-met c).In-At, c.if-cursor-t.true)
+overflow_add-met c = omega (arith, before (goal.at.overflow_add-met c).In-Some, count (goal.at.overflow_add-met c).In-Some, c.if-cursor-t.true)
 
 pub bounds-met-j-then-cursor-t : goal.bounds-met-j-then-cursor-t
-bounds-met-j-then-cursor-t c = rw (many c.before.before.before.before.before.before.before.before.before.before.before) (low (goal.at.bounds-met-j-then-cursor-t c).In-At)
+bounds-met-j-then-cursor-t c = rw (many c.before.before.before.before.before.before.before.before.before.before.before) (low (goal.at.bounds-met-j-then-cursor-t c).In-Some)
 
 pub overflow_add-result : goal.overflow_add-result
-overflow_add-result c = omega (arith, there (goal.at.overflow_add-result c).In-At)
+overflow_add-result c = omega (arith, there (goal.at.overflow_add-result c).In-Some)
 
 pub overflow_cast-result : goal.overflow_cast-result
-overflow_cast-result c = omega (arith, before (goal.at.overflow_cast-result c).In-At, count (goal.at.overflow_cast-result c).In-At, c.if-cursor-t.true)
+overflow_cast-result c = omega (arith, before (goal.at.overflow_cast-result c).In-Some, count (goal.at.overflow_cast-result c).In-Some, c.if-cursor-t.true)
 
 pub overflow_add-result-then-cursor-t : goal.overflow_add-result-then-cursor-t
-overflow_add-result-then-cursor-t c = omega (arith, there (goal.at.overflow_add-result-then-cursor-t c).In-At, before (goal.at.overflow_add-result-then-cursor-t c).In-At, count (goal.at.overflow_add-result-then-cursor-t c).In-At, c.if-cursor-t.true)
+overflow_add-result-then-cursor-t c = omega (arith, there (goal.at.overflow_add-result-then-cursor-t c).In-Some, before (goal.at.overflow_add-result-then-cursor-t c).In-Some, count (goal.at.overflow_add-result-then-cursor-t c).In-Some, c.if-cursor-t.true)
 
 pub offset_bounds-t-before-then-cursor-t : goal.offset_bounds-t-before-then-cursor-t
-offset_bounds-t-before-then-cursor-t c = omega (arith, there (goal.at.offset_bounds-t-before-then-cursor-t c).In-At, before (goal.at.offset_bounds-t-before-then-cursor-t c).In-At, count (goal.at.offset_bounds-t-before-then-cursor-t c).In-At, c.if-cursor-t.true)
+offset_bounds-t-before-then-cursor-t c = omega (arith, there (goal.at.offset_bounds-t-before-then-cursor-t c).In-Some, before (goal.at.offset_bounds-t-before-then-cursor-t c).In-Some, count (goal.at.offset_bounds-t-before-then-cursor-t c).In-Some, c.if-cursor-t.true)
 
 pub bounds-t-before-then-cursor-t : goal.bounds-t-before-then-cursor-t
-bounds-t-before-then-cursor-t c = omega (arith, there (goal.at.bounds-t-before-then-cursor-t c).In-At, before (goal.at.bounds-t-before-then-cursor-t c).In-At, count (goal.at.bounds-t-before-then-cursor-t c).In-At, c.if-cursor-t.true)
+bounds-t-before-then-cursor-t c = omega (arith, there (goal.at.bounds-t-before-then-cursor-t c).In-Some, before (goal.at.bounds-t-before-then-cursor-t c).In-Some, count (goal.at.bounds-t-before-then-cursor-t c).In-Some, c.if-cursor-t.true)
 
 pub offset_bounds-t-at-then-cursor-t : goal.offset_bounds-t-at-then-cursor-t
 offset_bounds-t-at-then-cursor-t c = omega (arith, room c.before.before.before.before.before.before.before.before.before.before.before.before)
@@ -158,14 +158,14 @@ pub returns-then-cursor-t : goal.returns-then-cursor-t
 returns-then-cursor-t c =
     let b = c in
     let f = c in (
-      link-there (words c.before.before.before.before.before.before.before.before.before.before.before.before.before) (sorted c.before.before.before.before.before.before.before.before.before.before.before.before.before) b.requires.0.1 b.args.i b.requires.1.0 b.args.k b.requires.1.1.0 (row (goal.at.returns-then-cursor-t c).In-At) (at (goal.at.returns-then-cursor-t c).In-At) b.args.met.now b.requires.1.1.1 c.if-cursor-t.true,
-      λ z. link-moved (words c.before.before.before.before.before.before.before.before.before.before.before.before.before) (sorted c.before.before.before.before.before.before.before.before.before.before.before.before.before) b.requires.0.1 b.args.i b.requires.1.0 b.args.k b.requires.1.1.0 (row (goal.at.returns-then-cursor-t c).In-At) (at (goal.at.returns-then-cursor-t c).In-At) b.args.met.now b.requires.1.1.1,
+      link-there (words c.before.before.before.before.before.before.before.before.before.before.before.before.before) (sorted c.before.before.before.before.before.before.before.before.before.before.before.before.before) b.requires.0.1 b.args.i b.requires.1.0 b.args.k b.requires.1.1.0 (row (goal.at.returns-then-cursor-t c).In-Some) (at (goal.at.returns-then-cursor-t c).In-Some) b.args.met.now b.requires.1.1.1 c.if-cursor-t.true,
+      λ z. link-moved (words c.before.before.before.before.before.before.before.before.before.before.before.before.before) (sorted c.before.before.before.before.before.before.before.before.before.before.before.before.before) b.requires.0.1 b.args.i b.requires.1.0 b.args.k b.requires.1.1.0 (row (goal.at.returns-then-cursor-t c).In-Some) (at (goal.at.returns-then-cursor-t c).In-Some) b.args.met.now b.requires.1.1.1,
     )
 
 pub returns : goal.returns
 returns c =
     let b = c in
     let f = c in (
-      link-past (words c.before.before.before.before.before.before.before.before.before.before.before) (sorted c.before.before.before.before.before.before.before.before.before.before.before) b.requires.0.1 b.args.i b.requires.1.0 b.args.k b.requires.1.1.0 (row (goal.at.returns c).In-At) (at (goal.at.returns c).In-At) b.args.met.now b.requires.1.1.1 (omega (arith, c.if-cursor-t.false)),
+      link-past (words c.before.before.before.before.before.before.before.before.before.before.before) (sorted c.before.before.before.before.before.before.before.before.before.before.before) b.requires.0.1 b.args.i b.requires.1.0 b.args.k b.requires.1.1.0 (row (goal.at.returns c).In-Some) (at (goal.at.returns c).In-Some) b.args.met.now b.requires.1.1.1 (omega (arith, c.if-cursor-t.false)),
       λ z. absurd (true≢false (sym z)),
     )

@@ -1,6 +1,8 @@
--- `link_tests::neighbors_returned` meets its contract. The invariant: every row passes where those from i on do. The measure is how many are left. Assumes nothing.
+-- `link_tests::neighbors_returned` meets its contract. The invariant: every row passes where those from i on do. Assumes nothing.
+use mathlib.Core.Bool.{not}
+use borrow.Author.Tests.{not-true, not-false}
 use borrow.Author.Rules.{rules}
-use mathlib.Core.Path.{◌≡◌, refl}
+use mathlib.Core.Path.{◌≡◌, refl, ap}
 use mathlib.Core.Logic.{inl, inr}
 use Prim.Native.Nat.{◌-◌, ◌≤◌}
 use native.Mathlib.Omega.{arith}
@@ -35,18 +37,12 @@ slot_returned-requires c = (c.requires, (inl refl, c.loop-i-test.true))
 pub slot_returned-requires-in-loop-i : goal.slot_returned-requires-in-loop-i
 slot_returned-requires-in-loop-i c = (c.requires, (inr refl, c.loop-i-test.true))
 
-pub overflow_add-i : goal.overflow_add-i
-overflow_add-i c = omega (arith, lanes-few c.args.t.now c.requires.sorted)
-
-pub loop-i-smaller : goal.loop-i-smaller
-loop-i-smaller c = omega arith
-
 pub loop-i-preserved : goal.loop-i-preserved
-loop-i-preserved c = let t = c.args.t.now in (omega arith, pass-goes-on 52 (slots_returned t) t c.loop-i.i c.loop-i.invariant.1 c.both.result c.loop-i-test.true (tested c.before.before) c.if-both.true)
+loop-i-preserved c = let t = c.args.t.now in (omega arith, pass-goes-on 52 (slots_returned t) t c.loop-i.i c.loop-i.invariant.1 c.both.result c.loop-i-test.true (tested c.before.before) (not-false c.both.result (ap not c.if-not-both.false)))
 
-pub returns-else-both : goal.returns-else-both
+pub returns-then-not-both : goal.returns-then-not-both
 unfolding all_rows
-returns-else-both c = let t = c.args.t.now in pass-stops 52 (slots_returned t) t c.loop-i.i c.loop-i.invariant.1 c.both.result c.loop-i-test.true (tested c.before.before) c.if-both.false
+returns-then-not-both c = let t = c.args.t.now in pass-stops 52 (slots_returned t) t c.loop-i.i c.loop-i.invariant.1 c.both.result c.loop-i-test.true (tested c.before.before) (not-true c.both.result (ap not c.if-not-both.true))
 
 pub returns : goal.returns
 unfolding all_rows

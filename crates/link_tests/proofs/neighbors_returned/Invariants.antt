@@ -1,4 +1,4 @@
--- `link_tests::neighbors_returned` meets its contract. The invariant: every row passes where those from i on do. The measure is how many are left. Assumes nothing.
+-- `link_tests::neighbors_returned` meets its contract. The invariant: every row passes where those from i on do. Assumes nothing.
 use borrow.Author.Rules.{rules}
 use mathlib.Core.Path.{◌≡◌, refl}
 use mathlib.Core.Logic.{inl, inr}
@@ -12,6 +12,3 @@ use Rattle.link_tests.proofs.neighbors_returned.Given as goal
 
 abbrev pub invariant-loop-i : goal.invariant-loop-i
 invariant-loop-i l = (l.i ≤ l.n) × (all_rows 52 (slots_returned l.t) l.t ≡ rest_rows 52 (slots_returned l.t) l.t l.i)
-
-abbrev pub decreases-loop-i : goal.decreases-loop-i
-decreases-loop-i l = l.n - l.i

@@ -1,4 +1,5 @@
 -- `link_tests::slot_returned` meets its contract. By the three ways out: the slot is empty, its lane is absent, its lane is there. Assumes nothing.
+use Rattle.std.specs.Prelude.{Some}
 use borrow.Author.Rules.{rules}
 use mathlib.Core.Path.{◌≡◌, ◌∙◌}
 use mathlib.Core.Bool.{true}
@@ -7,13 +8,12 @@ use Prim.Native.Nat.{ℕ, ◌+◌, ◌*◌, ◌≤◌}
 use native.Mathlib.Omega.{arith}
 use lib.ListN.{length, get_or}
 use Rattle.lists.specs.Rows.{row_with}
-use Rattle.lists.specs.declared.Found.TheVariants.{At}
 use Rattle.row_tests.specs.Returned.{searchable}
 use Rattle.row_tests.proofs.Lanes.{lane-found, lane_room, slot-within, answer-within, slot-none, slot-absent, slot-there}
 use Rattle.link_tests.specs.Met.{lane_ids}
 use Rattle.link_tests.proofs.Steps.{ids-ready, id-found}
 use Rattle.link_tests.proofs.slot_returned.Goals as goal
-use Rattle.link_tests.proofs.slot_returned.Goals.{In-At}
+use Rattle.link_tests.proofs.slot_returned.Goals.{In-Some}
 use Rattle.link_tests.proofs.slot_returned.Lts as lts
 use Rattle.link_tests.proofs.slot_returned.Reads as reads
 use Rattle.link_tests.proofs.slot_returned.Tie as tie
@@ -50,16 +50,16 @@ sought c =
     id-found (words c.before.before.before.before.before.before.before) b.args.ids.now b.requires.0 (named c.before.before.before.before.before.before.before) c.find_id-found.result c.find_id-found.ensures
 
 -- the row that is found is one of the rows, and the answering slot lies in it
-abbrev first : (c : In-At) → AtStart
+abbrev first : (c : In-Some) → AtStart
 first c = c.before.before.before.before.before.before.before.before.before
 
-abbrev row : (c : In-At) → ℕ
-row c = c.in-At.j
+abbrev row : (c : In-Some) → ℕ
+row c = c.in-Some.j
 
-at : (c : In-At) → row_with (named (first c)) (lane_ids (words (first c))) ≡ At (row c)
-at c = sought c.before.before ∙ c.in-At.is
+at : (c : In-Some) → row_with (named (first c)) (lane_ids (words (first c))) ≡ Some (row c)
+at c = sought c.before.before ∙ c.in-Some.is
 
-there : (c : In-At) → 1 + row c * 52 + 52 ≤ length (words (first c))
+there : (c : In-Some) → 1 + row c * 52 + 52 ≤ length (words (first c))
 there c = let b = first c in lane_room (words b) (sorted b) (row c) (lane-found (words b) (sorted b) (named b) (row c) (at c))
 
 answer : (c : AtAfterAnswerPlace) → c.answer_place.result + 2 ≤ 52
@@ -113,22 +113,22 @@ pub overflow_add-answer : goal.overflow_add-answer
 overflow_add-answer c = omega (arith, there c)
 
 pub overflow_add-answer-2 : goal.overflow_add-answer-2
-overflow_add-answer-2 c = omega (arith, there (goal.at.overflow_add-answer-2 c).In-At, answer c.before)
+overflow_add-answer-2 c = omega (arith, there (goal.at.overflow_add-answer-2 c).In-Some, answer c.before)
 
 pub offset_bounds-t-answer : goal.offset_bounds-t-answer
-offset_bounds-t-answer c = omega (arith, there (goal.at.offset_bounds-t-answer c).In-At, answer c.before)
+offset_bounds-t-answer c = omega (arith, there (goal.at.offset_bounds-t-answer c).In-Some, answer c.before)
 
 pub bounds-t-answer : goal.bounds-t-answer
-bounds-t-answer c = omega (arith, there (goal.at.bounds-t-answer c).In-At, answer c.before.before)
+bounds-t-answer c = omega (arith, there (goal.at.bounds-t-answer c).In-Some, answer c.before.before)
 
 pub overflow_add-answer-3 : goal.overflow_add-answer-3
-overflow_add-answer-3 c = omega (arith, there (goal.at.overflow_add-answer-3 c).In-At, answer c.before.before)
+overflow_add-answer-3 c = omega (arith, there (goal.at.overflow_add-answer-3 c).In-Some, answer c.before.before)
 
 pub offset_bounds-t-answer-2 : goal.offset_bounds-t-answer-2
-offset_bounds-t-answer-2 c = omega (arith, there (goal.at.offset_bounds-t-answer-2 c).In-At, answer c.before.before)
+offset_bounds-t-answer-2 c = omega (arith, there (goal.at.offset_bounds-t-answer-2 c).In-Some, answer c.before.before)
 
 pub bounds-t-answer-2 : goal.bounds-t-answer-2
-bounds-t-answer-2 c = omega (arith, there (goal.at.bounds-t-answer-2 c).In-At, answer c.before.before.before)
+bounds-t-answer-2 c = omega (arith, there (goal.at.bounds-t-answer-2 c).In-Some, answer c.before.before.before)
 
 pub offset_bounds-t-at-3 : goal.offset_bounds-t-at-3
 offset_bounds-t-at-3 c = omega (arith, room c.before.before.before.before.before.before.before.before.before.before.before.before)
@@ -140,4 +140,4 @@ pub returns : goal.returns
 returns c =
     let b = c in
     let p = c.answer_place in
-    c.both.ensures ∙ slot-there (words c.before.before.before.before.before.before.before.before.before.before.before.before.before.before) b.args.i b.args.k (slot c.before.before.before.before.before.before.before.before.before.before.before.before.before.before) c.if-mark-eq0.false (row (goal.at.returns c).In-At) p.result (answer c.before.before.before.before.before) (at (goal.at.returns c).In-At) p.ensures
+    c.both.ensures ∙ slot-there (words c.before.before.before.before.before.before.before.before.before.before.before.before.before.before) b.args.i b.args.k (slot c.before.before.before.before.before.before.before.before.before.before.before.before.before.before) c.if-mark-eq0.false (row (goal.at.returns c).In-Some) p.result (answer c.before.before.before.before.before) (at (goal.at.returns c).In-Some) p.ensures

@@ -1,5 +1,4 @@
--- `lists::all_at_most` meets its contract. The invariant: the list passes where what is left from i on does.
--- The measure is how much is left. Assumes nothing.
+-- `lists::all_at_most` meets its contract. The invariant: the list passes where what is left from i on does. Assumes nothing.
 use mathlib.Core.Path.{◌≡◌, refl, sym, ◌∙◌}
 use Prim.Native.Nat.{ℕ, ◌-◌, ◌≤◌}
 use native.Mathlib.Omega.{arith}
@@ -10,8 +9,5 @@ use Rattle.lists.specs.Every.{all}
 use Rattle.lists.proofs.Every.{all-step, all_end}
 use Rattle.lists.proofs.all_at_most.Given as goal
 
-abbrev pub invariant-loop-i : goal.invariant-loop-i
-invariant-loop-i l = (l.i ≤ length l.ids) × (all (λ x. leb x l.most) l.ids ≡ all (λ x. leb x l.most) (drop l.i l.ids))
-
-abbrev pub decreases-loop-i : goal.decreases-loop-i
-decreases-loop-i l = length l.ids - l.i
+abbrev pub invariant-loop-id : goal.invariant-loop-id
+invariant-loop-id l = all (λ x. leb x l.most) l.ids ≡ all (λ x. leb x l.most) (drop l.id-index l.ids)

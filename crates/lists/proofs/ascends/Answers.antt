@@ -28,12 +28,6 @@ bounds-ids-i-in-loop-i c = omega arith
 pub returns-then-ids-i : goal.returns-then-ids-i
 returns-then-ids-i c = sym (c.loop-i.invariant.1 ∙ ascending_breaks c.args.ids.now c.loop-i.i c.loop-i-test.true c.if-ids-i.true)
 
-pub overflow_add-i : goal.overflow_add-i
-overflow_add-i c = omega arith
-
-pub loop-i-smaller : goal.loop-i-smaller
-loop-i-smaller c = omega arith
-
 pub loop-i-preserved : goal.loop-i-preserved
 loop-i-preserved c = (omega arith, c.loop-i.invariant.1 ∙ ascending-step c.args.ids.now c.loop-i.i c.loop-i-test.true c.if-ids-i.false)
 

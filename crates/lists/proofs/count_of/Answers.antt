@@ -1,47 +1,32 @@
--- `lists::count_of` meets its contract. The invariant: the count is that of the ids before i.
+-- `lists::count_of` meets its contract. The invariant: the count is that of the ids so far. Assumes nothing.
 use mathlib.Core.Path.{◌≡◌, refl, ◌∙◌}
-use mathlib.Core.Logic.{⊎_elim}
-use Prim.Native.Nat.{◌-◌, ◌≤◌, ◌<◌}
+use Prim.Native.Nat.{◌≤◌, ◌<◌}
 use native.Mathlib.Omega.{arith}
 use lib.Dec.{eqb}
-use lib.ListN.{length, get_or, take}
+use lib.ListN.{length, get_or}
+use lib.Seq.{take_all}
 use borrow.Author.Tests.{eq-eqb, ne_eqb}
 use Rattle.lists.specs.Select.{keep}
 use Rattle.lists.proofs.Turns.{count-one, count_none}
 use Rattle.lists.proofs.count_of.Goals as goal
 
-pub loop-i-init : goal.loop-i-init
+pub loop-x-init : goal.loop-x-init
 unfolding keep
-loop-i-init c = (omega arith, (omega arith, refl))
+loop-x-init c = (omega arith, refl)
 
-pub offset_bounds-ids-i : goal.offset_bounds-ids-i
-offset_bounds-ids-i c = omega arith
-
-pub bounds-ids-i : goal.bounds-ids-i
-bounds-ids-i c = omega arith
-
-pub overflow_add-count : goal.overflow_add-count
-overflow_add-count c = omega arith
-
-pub overflow_add-i : goal.overflow_add-i
-overflow_add-i c = omega arith
-
-pub loop-i-smaller : goal.loop-i-smaller
-loop-i-smaller c = omega arith
-
-pub loop-i-preserved : goal.loop-i-preserved
-loop-i-preserved c =
+pub loop-x-preserved : goal.loop-x-preserved
+loop-x-preserved c =
     let a = c.args in
-    let t = c.loop-i in
+    let t = c.loop-x in
     let w = a.ids.now in
-    let x = get_or w t.i 0 in
-    let h : t.i < length w = omega arith in
-    ⊎_elim
-    (λ s. (omega arith, (omega arith, s.count-is ∙ count-one (eqb a.id) w t.i t.count 0 h t.invariant.1.1 (eq-eqb a.id x s.if-id-ids.true))))
-    (λ s. (omega arith, (omega arith, s.count-is ∙ count_none (eqb a.id) w t.i t.count 0 h t.invariant.1.1 (ne_eqb a.id x s.if-id-ids.false))))
-    c.if-id-ids.branch-raw
+    let x = get_or w t.x-index 0 in
+    let h : t.x-index < length w = omega (arith, c.loop-x-test.true) in
+    elim c.if-id-x.branch [
+      | goal.then-id-x s ↦ (omega (arith, t.invariant.0, s.count-is), s.count-is ∙ count-one (eqb a.id) w t.x-index t.count 0 h t.invariant.1 (eq-eqb a.id x s.if-id-x.true))
+      | goal.else-id-x s ↦ (omega (arith, t.invariant.0, s.count-is), s.count-is ∙ count_none (eqb a.id) w t.x-index t.count 0 h t.invariant.1 (ne_eqb a.id x s.if-id-x.false))
+    ]
 
 pub returns : goal.returns
 returns c =
-    let e : c.loop-i.i ≡ c.args.n = omega arith in
-    rw e at c.loop-i.invariant.1.1
+    let h : length c.args.ids.now ≤ c.loop-x.x-index = omega (arith, c.loop-x-test.false) in
+    rw (take_all c.loop-x.x-index c.args.ids.now h) at c.loop-x.invariant.1

@@ -69,12 +69,6 @@ returns-then-rows-i c =
     let p : get_or (ks t) i 0 ≤ get_or (ks t) (i - 1) 0 = rw (key t i h, key t (i - 1) (omega arith)) c.if-rows-i.true in
     sym (t.loop-i.invariant.1 ∙ ascending_breaks (ks t) i (inside t i h) p)
 
-pub overflow_add-i : goal.overflow_add-i
-overflow_add-i c = omega arith
-
-pub loop-i-smaller : goal.loop-i-smaller
-loop-i-smaller c = omega arith
-
 pub loop-i-preserved : goal.loop-i-preserved
 loop-i-preserved c =
     let t = c.before.before.before.before in

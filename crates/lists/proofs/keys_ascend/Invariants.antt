@@ -1,5 +1,4 @@
--- `lists::keys_ascend` meets its contract. The invariant is that of `ascends`, of the list of keys.
--- The measure is how many rows are left. Assumes nothing.
+-- `lists::keys_ascend` meets its contract. The invariant is that of `ascends`, of the list of keys. Assumes nothing.
 use mathlib.Core.List.{List}
 use mathlib.Core.Path.{◌≡◌, sym, ◌∙◌}
 use Prim.Native.Nat.{ℕ, ◌-◌, ◌*◌, ◌≤◌, ◌<◌}
@@ -13,6 +12,3 @@ use Rattle.lists.proofs.keys_ascend.Given as goal
 
 abbrev pub invariant-loop-i : goal.invariant-loop-i
 invariant-loop-i l = (1 ≤ l.i) × (ascending (keys l.s l.n l.rows) ≡ above (get_or (keys l.s l.n l.rows) (l.i - 1) 0) (drop l.i (keys l.s l.n l.rows)))
-
-abbrev pub decreases-loop-i : goal.decreases-loop-i
-decreases-loop-i l = l.n - l.i

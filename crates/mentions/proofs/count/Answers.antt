@@ -1,4 +1,4 @@
--- `naming::count` meets its contract. The invariant: what is counted are the ids of the first i rows. The measure is how many rows are left. Assumes nothing.
+-- `naming::count` meets its contract. The invariant: what is counted are the ids of the first i rows. Assumes nothing.
 use mathlib.Core.Path.{◌≡◌, sym, ap, ◌∙◌}
 use Prim.Native.Nat.{◌+◌, ◌*◌, ◌-◌, ◌≤◌}
 use native.Mathlib.Omega.{arith}
@@ -53,12 +53,6 @@ names_lane-requires c = lent-formed c.args.rows c.args.t.now c.requires c.row_wo
 
 pub overflow_add-count : goal.overflow_add-count
 overflow_add-count c = omega (arith, c.loop-i.invariant.0, c.loop-i.invariant.1, named-few c.args.rows c.args.id c.args.t.now c.loop-i.i, formed-few c.args.rows c.args.t.now c.requires)
-
-pub overflow_add-i : goal.overflow_add-i
-overflow_add-i c = omega (arith, c.loop-i-test.true, formed-few c.args.rows c.args.t.now c.requires)
-
-pub loop-i-smaller : goal.loop-i-smaller
-loop-i-smaller c = omega (arith, c.loop-i-test.true)
 
 pub loop-i-preserved : goal.loop-i-preserved
 loop-i-preserved c =

@@ -1,4 +1,4 @@
--- `naming::count` meets its contract. The invariant: what is counted are the ids of the first i rows. The measure is how many rows are left. Assumes nothing.
+-- `naming::count` meets its contract. The invariant: what is counted are the ids of the first i rows. Assumes nothing.
 use mathlib.Core.Path.{◌≡◌, sym, ap, ◌∙◌}
 use Prim.Native.Nat.{◌+◌, ◌*◌, ◌-◌, ◌≤◌}
 use native.Mathlib.Omega.{arith}
@@ -10,6 +10,3 @@ use Rattle.mentions.proofs.count.Given as goal
 
 abbrev pub invariant-loop-i : goal.invariant-loop-i
 invariant-loop-i l = (l.i ≤ l.n) × (l.count ≡ length (named_of l.rows l.id l.t l.i))
-
-abbrev pub decreases-loop-i : goal.decreases-loop-i
-decreases-loop-i l = l.n - l.i

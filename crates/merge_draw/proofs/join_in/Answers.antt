@@ -1,7 +1,7 @@
 -- `merge_draw::join_in` meets its contract: both sides and the joined line are read back from where they were written. Assumes nothing.
+use Rattle.std.specs.Prelude.{Option}
 use mathlib.Core.Path.{◌≡◌, sym}
 use mathlib.Core.List.{List}
-use mathlib.Core.Option.{Option}
 use Prim.Native.Nat.{◌*◌, ◌≤◌}
 use native.Mathlib.Omega.{arith}
 use lib.Ieee.{Float}
@@ -19,7 +19,7 @@ use Rattle.merge_draw.proofs.join_in.Reads as reads
 use Rattle.merge_draw.proofs.join_in.Tie as tie
 
 abbrev AtAfterPointsM : Type 0
-AtAfterPointsM = lts.After-points2 tie.the-claims reads.Pre reads.Post
+AtAfterPointsM = lts.After-unwrap_or2 tie.the-claims reads.Pre reads.Post
 
 abbrev AtAfterConcatSize : Type 0
 AtAfterConcatSize = lts.After-concat tie.the-claims reads.Pre reads.Post
@@ -47,10 +47,10 @@ abbrev twoOut : AtAfterPointsM → List Float
 twoOut c = c.oriented_boundary-2.new.out
 
 abbrev ps : AtAfterPointsM → Line
-ps c = points (take (c.points-n.result * 3) (oneOut c))
+ps c = points (take (c.unwrap_or-n.result * 3) (oneOut c))
 
 abbrev qs : AtAfterPointsM → Line
-qs c = points (take (c.points-m.result * 3) (twoOut c))
+qs c = points (take (c.unwrap_or-m.result * 3) (twoOut c))
 
 few-one : (c : AtAfterPointsM) → length (a c) ≤ 256
 few-one c = oriented-few c.args.coordinates.now c.args.boundaries.now (row_at 52 c.args.lanes.now c.args.i) c.args.side c.requires.0.drawable.boundaries_short
@@ -58,23 +58,23 @@ few-one c = oriented-few c.args.coordinates.now c.args.boundaries.now (row_at 52
 few-two : (c : AtAfterPointsM) → length (b c) ≤ 256
 few-two c = oriented-few c.args.coordinates.now c.args.boundaries.now (row_at 52 c.args.lanes.now c.args.j) c.args.side c.requires.0.drawable.boundaries_short
 
-small_one : (c : AtAfterPointsM) → c.points-n.result * 3 ≤ 768
-small_one c = side-small (one c) c.args.one.now (oneOut c) (few-one c) c.requires.1.0 c.oriented_boundary.ensures.1 c.oriented_boundary.result c.oriented_boundary.ensures.0 c.points-n.result c.points-n.ensures
+small_one : (c : AtAfterPointsM) → c.unwrap_or-n.result * 3 ≤ 768
+small_one c = side-small (one c) c.args.one.now (oneOut c) (few-one c) c.requires.1.0 c.oriented_boundary.ensures.1 c.oriented_boundary.result c.oriented_boundary.ensures.0 c.unwrap_or-n.result c.unwrap_or-n.ensures
 
-small-two : (c : AtAfterPointsM) → c.points-m.result * 3 ≤ 768
-small-two c = side-small (two c) c.args.two.now (twoOut c) (few-two c) c.requires.1.1.0 c.oriented_boundary-2.ensures.1 c.oriented_boundary-2.result c.oriented_boundary-2.ensures.0 c.points-m.result c.points-m.ensures
+small-two : (c : AtAfterPointsM) → c.unwrap_or-m.result * 3 ≤ 768
+small-two c = side-small (two c) c.args.two.now (twoOut c) (few-two c) c.requires.1.1.0 c.oriented_boundary-2.ensures.1 c.oriented_boundary-2.result c.oriented_boundary-2.ensures.0 c.unwrap_or-m.result c.unwrap_or-m.ensures
 
-room-one : (c : AtAfterPointsM) → c.points-n.result * 3 ≤ length (oneOut c)
-room-one c = side-room (one c) c.args.one.now (oneOut c) (few-one c) c.requires.1.0 c.oriented_boundary.ensures.1 c.oriented_boundary.result c.oriented_boundary.ensures.0 c.points-n.result c.points-n.ensures
+room-one : (c : AtAfterPointsM) → c.unwrap_or-n.result * 3 ≤ length (oneOut c)
+room-one c = side-room (one c) c.args.one.now (oneOut c) (few-one c) c.requires.1.0 c.oriented_boundary.ensures.1 c.oriented_boundary.result c.oriented_boundary.ensures.0 c.unwrap_or-n.result c.unwrap_or-n.ensures
 
-room-two : (c : AtAfterPointsM) → c.points-m.result * 3 ≤ length (twoOut c)
-room-two c = side-room (two c) c.args.two.now (twoOut c) (few-two c) c.requires.1.1.0 c.oriented_boundary-2.ensures.1 c.oriented_boundary-2.result c.oriented_boundary-2.ensures.0 c.points-m.result c.points-m.ensures
+room-two : (c : AtAfterPointsM) → c.unwrap_or-m.result * 3 ≤ length (twoOut c)
+room-two c = side-room (two c) c.args.two.now (twoOut c) (few-two c) c.requires.1.1.0 c.oriented_boundary-2.ensures.1 c.oriented_boundary-2.result c.oriented_boundary-2.ensures.0 c.unwrap_or-m.result c.unwrap_or-m.ensures
 
 back_one : (c : AtAfterPointsM) → ps c ≡ a c
-back_one c = side-back (one c) c.args.one.now (oneOut c) (few-one c) c.requires.1.0 c.oriented_boundary.ensures.1 c.oriented_boundary.result c.oriented_boundary.ensures.0 c.points-n.result c.points-n.ensures
+back_one c = side-back (one c) c.args.one.now (oneOut c) (few-one c) c.requires.1.0 c.oriented_boundary.ensures.1 c.oriented_boundary.result c.oriented_boundary.ensures.0 c.unwrap_or-n.result c.unwrap_or-n.ensures
 
 back-two : (c : AtAfterPointsM) → qs c ≡ b c
-back-two c = side-back (two c) c.args.two.now (twoOut c) (few-two c) c.requires.1.1.0 c.oriented_boundary-2.ensures.1 c.oriented_boundary-2.result c.oriented_boundary-2.ensures.0 c.points-m.result c.points-m.ensures
+back-two c = side-back (two c) c.args.two.now (twoOut c) (few-two c) c.requires.1.1.0 c.oriented_boundary-2.ensures.1 c.oriented_boundary-2.result c.oriented_boundary-2.ensures.0 c.unwrap_or-m.result c.unwrap_or-m.ensures
 
 -- the joined line, and what was written of it
 abbrev lineOut : AtAfterConcatSize → List Float
@@ -102,13 +102,13 @@ pub slice_bounds-concat-end : goal.slice_bounds-concat-end
 slice_bounds-concat-end c = room-one c.before
 
 pub slice_bounds-concat-end-2 : goal.slice_bounds-concat-end-2
-slice_bounds-concat-end-2 c = sym (length-take-le (c.points-n.result * 3) (oneOut c.before) (room-one c.before))
+slice_bounds-concat-end-2 c = sym (length-take-le (c.unwrap_or-n.result * 3) (oneOut c.before) (room-one c.before))
 
 pub slice_bounds-concat-end-3 : goal.slice_bounds-concat-end-3
 slice_bounds-concat-end-3 c = room-two c.before
 
 pub slice_bounds-concat-end-4 : goal.slice_bounds-concat-end-4
-slice_bounds-concat-end-4 c = sym (length-take-le (c.points-m.result * 3) (twoOut c.before) (room-two c.before))
+slice_bounds-concat-end-4 c = sym (length-take-le (c.unwrap_or-m.result * 3) (twoOut c.before) (room-two c.before))
 
 pub concat-size-requires : goal.concat-size-requires
 concat-size-requires c = joined-room (join c.before.before) (a c.before.before) (b c.before.before) (ps c.before.before) (qs c.before.before) (back_one c.before.before) (back-two c.before.before) (few-one c.before.before) (few-two c.before.before) c.args.line.now c.requires.1.1.1

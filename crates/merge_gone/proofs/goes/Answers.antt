@@ -36,4 +36,4 @@ bounds-lanes-j c = omega (arith, both-rows c.requires)
 pub returns : goal.returns
 returns c =
     let a = c.args in
-    goes-there a.lanes.now a.i a.j a.left a.right a.boundaries.now a.id c.boundary-found.result c.boundary-found.ensures c.in-At.field-0 c.in-At.is c.held.result c.used_outside.result c.either.result c.held.ensures c.used_outside.ensures c.either.ensures
+    goes-there a.lanes.now a.i a.j a.left a.right a.boundaries.now a.id c.boundary-found.result c.boundary-found.ensures c.in-Some.field-0 c.in-Some.is c.held.result c.used_outside.result c.either.result c.held.ensures c.used_outside.ensures c.either.ensures

@@ -1,6 +1,6 @@
 use borrow.Author.Rules.{rules}
 use native.Mathlib.Omega.{arith}
-use Rattle.step.specs.Step.{tables_of, lent_of}
+use Rattle.lent.specs.Lent.{map_tables, given}
 use mathlib.Core.Path.{sym}
 use Prim.Native.Nat.{ℕ}
 use lib.ListN.{replicate, length-replicate}
@@ -14,77 +14,29 @@ pub overflow_add-side_ids : goal.overflow_add-side_ids
 overflow_add-side_ids c = let s = c in omega (arith, ids_few s.args.plan.left, ids_few s.args.plan.right, c.side_ids.ensures, c.side_ids-2.ensures)
 
 -- src/lib.rt:255:9
-pub returns-then-not-ids_left : goal.returns-then-not-ids_left
-returns-then-not-ids_left c = let s = c in no-ids s.args.join s.args.i s.args.j s.args.plan (lent_of s.args.counter s.args.lanes.now s.args.boundaries.now s.args.roads.now s.args.junctions.now s.args.rules.now s.args.stop_lines.now s.args.crosswalks.now s.args.coordinates.now s.args.created.now s.args.modified.now s.args.deleted.now s.args.warnings.now) c.side_ids.result c.side_ids-2.result c.side_ids.ensures c.side_ids-2.ensures c.ids_left.result c.ids_left.ensures c.if-not-ids_left.true
+pub returns-then-not-ids_left-clause-made : goal.returns-then-not-ids_left-clause-made
+returns-then-not-ids_left-clause-made c = let s = c in no-ids s.args.join s.args.i s.args.j s.args.plan (given s.args.counter s.args.map.now s.args.lists.now) c.side_ids.result c.side_ids-2.result c.side_ids.ensures c.side_ids-2.ensures c.ids_left.result c.ids_left.ensures c.if-not-ids_left.true
 
 -- src/lib.rt:277:9
 pub slice_bounds-gone-end-2 : goal.slice_bounds-gone-end-2
-slice_bounds-gone-end-2 c = let s = c in (front (replicate 4 0) (gone_in (tables_of s.args.lanes.now s.args.boundaries.now s.args.roads.now s.args.junctions.now s.args.rules.now s.args.stop_lines.now s.args.crosswalks.now s.args.coordinates.now) s.args.i s.args.j s.args.plan) c.gone-n.new.out c.gone-n.result (omega (arith, length-replicate {A = ℕ} 4 0, (s.requires.decided (ids-there s.args.join s.args.i s.args.j s.args.plan (lent_of s.args.counter s.args.lanes.now s.args.boundaries.now s.args.roads.now s.args.junctions.now s.args.rules.now s.args.stop_lines.now s.args.crosswalks.now s.args.coordinates.now s.args.created.now s.args.modified.now s.args.deleted.now s.args.warnings.now) c.side_ids.result c.side_ids-2.result c.side_ids.ensures c.side_ids-2.ensures c.ids_left.result c.ids_left.ensures c.if-not-ids_left.false)).gone_few)) c.gone-n.ensures.0 c.gone-n.ensures.1).0
+slice_bounds-gone-end-2 c = let s = c in (front (replicate 4 0) (gone_in (map_tables s.args.map.now) s.args.i s.args.j s.args.plan) c.gone-n.new.out c.gone-n.result (omega (arith, length-replicate {A = ℕ} 4 0, (s.requires.decided (ids-there s.args.join s.args.i s.args.j s.args.plan (given s.args.counter s.args.map.now s.args.lists.now) c.side_ids.result c.side_ids-2.result c.side_ids.ensures c.side_ids-2.ensures c.ids_left.result c.ids_left.ensures c.if-not-ids_left.false)).gone_few)) c.gone-n.ensures.0 c.gone-n.ensures.1).0
 
 -- src/lib.rt:277:9
 pub slice_bounds-merge_with-end : goal.slice_bounds-merge_with-end
-slice_bounds-merge_with-end c = let s = c in sym (length-take-le c.gone-n.result c.gone-n.new.out (front (replicate 4 0) (gone_in (tables_of s.args.lanes.now s.args.boundaries.now s.args.roads.now s.args.junctions.now s.args.rules.now s.args.stop_lines.now s.args.crosswalks.now s.args.coordinates.now) s.args.i s.args.j s.args.plan) c.gone-n.new.out c.gone-n.result (omega (arith, length-replicate {A = ℕ} 4 0, (s.requires.decided (ids-there s.args.join s.args.i s.args.j s.args.plan (lent_of s.args.counter s.args.lanes.now s.args.boundaries.now s.args.roads.now s.args.junctions.now s.args.rules.now s.args.stop_lines.now s.args.crosswalks.now s.args.coordinates.now s.args.created.now s.args.modified.now s.args.deleted.now s.args.warnings.now) c.side_ids.result c.side_ids-2.result c.side_ids.ensures c.side_ids-2.ensures c.ids_left.result c.ids_left.ensures c.if-not-ids_left.false)).gone_few)) c.gone-n.ensures.0 c.gone-n.ensures.1).0)
+slice_bounds-merge_with-end c = let s = c in sym (length-take-le c.gone-n.result c.gone-n.new.out (front (replicate 4 0) (gone_in (map_tables s.args.map.now) s.args.i s.args.j s.args.plan) c.gone-n.new.out c.gone-n.result (omega (arith, length-replicate {A = ℕ} 4 0, (s.requires.decided (ids-there s.args.join s.args.i s.args.j s.args.plan (given s.args.counter s.args.map.now s.args.lists.now) c.side_ids.result c.side_ids-2.result c.side_ids.ensures c.side_ids-2.ensures c.ids_left.result c.ids_left.ensures c.if-not-ids_left.false)).gone_few)) c.gone-n.ensures.0 c.gone-n.ensures.1).0)
 
 -- src/lib.rt:278:9
 pub slice_bounds-joined-end : goal.slice_bounds-joined-end
-slice_bounds-joined-end c = let s = c in (front (replicate 2 0) (joined_in (tables_of s.args.lanes.now s.args.boundaries.now s.args.roads.now s.args.junctions.now s.args.rules.now s.args.stop_lines.now s.args.crosswalks.now s.args.coordinates.now) s.args.i s.args.plan) c.joined_ids-m.new.out c.joined_ids-m.result (omega (arith, length-replicate {A = ℕ} 2 0, (s.requires.decided (ids-there s.args.join s.args.i s.args.j s.args.plan (lent_of s.args.counter s.args.lanes.now s.args.boundaries.now s.args.roads.now s.args.junctions.now s.args.rules.now s.args.stop_lines.now s.args.crosswalks.now s.args.coordinates.now s.args.created.now s.args.modified.now s.args.deleted.now s.args.warnings.now) c.side_ids.result c.side_ids-2.result c.side_ids.ensures c.side_ids-2.ensures c.ids_left.result c.ids_left.ensures c.if-not-ids_left.false)).joined_few)) (both-refs s.args.plan.left s.args.plan.right c.boundary_ref-one.result c.boundary_ref-two.result _ _ c.boundary_ref-one.ensures c.boundary_ref-two.ensures (replicate 2 0) c.joined_ids-m.new.out c.joined_ids-m.result c.joined_ids-m.ensures).0 (both-refs s.args.plan.left s.args.plan.right c.boundary_ref-one.result c.boundary_ref-two.result _ _ c.boundary_ref-one.ensures c.boundary_ref-two.ensures (replicate 2 0) c.joined_ids-m.new.out c.joined_ids-m.result c.joined_ids-m.ensures).1).0
+slice_bounds-joined-end c = let s = c in (front (replicate 2 0) (joined_in (map_tables s.args.map.now) s.args.i s.args.plan) c.joined_ids-m.new.out c.joined_ids-m.result (omega (arith, length-replicate {A = ℕ} 2 0, (s.requires.decided (ids-there s.args.join s.args.i s.args.j s.args.plan (given s.args.counter s.args.map.now s.args.lists.now) c.side_ids.result c.side_ids-2.result c.side_ids.ensures c.side_ids-2.ensures c.ids_left.result c.ids_left.ensures c.if-not-ids_left.false)).joined_few)) (both-refs s.args.plan.left s.args.plan.right c.boundary_ref-one.result c.boundary_ref-two.result _ _ c.boundary_ref-one.ensures c.boundary_ref-two.ensures (replicate 2 0) c.joined_ids-m.new.out c.joined_ids-m.result c.joined_ids-m.ensures).0 (both-refs s.args.plan.left s.args.plan.right c.boundary_ref-one.result c.boundary_ref-two.result _ _ c.boundary_ref-one.ensures c.boundary_ref-two.ensures (replicate 2 0) c.joined_ids-m.new.out c.joined_ids-m.result c.joined_ids-m.ensures).1).0
 
 -- src/lib.rt:278:9
 pub slice_bounds-merge_with-end-2 : goal.slice_bounds-merge_with-end-2
-slice_bounds-merge_with-end-2 c = let s = c in sym (length-take-le c.joined_ids-m.result c.joined_ids-m.new.out (front (replicate 2 0) (joined_in (tables_of s.args.lanes.now s.args.boundaries.now s.args.roads.now s.args.junctions.now s.args.rules.now s.args.stop_lines.now s.args.crosswalks.now s.args.coordinates.now) s.args.i s.args.plan) c.joined_ids-m.new.out c.joined_ids-m.result (omega (arith, length-replicate {A = ℕ} 2 0, (s.requires.decided (ids-there s.args.join s.args.i s.args.j s.args.plan (lent_of s.args.counter s.args.lanes.now s.args.boundaries.now s.args.roads.now s.args.junctions.now s.args.rules.now s.args.stop_lines.now s.args.crosswalks.now s.args.coordinates.now s.args.created.now s.args.modified.now s.args.deleted.now s.args.warnings.now) c.side_ids.result c.side_ids-2.result c.side_ids.ensures c.side_ids-2.ensures c.ids_left.result c.ids_left.ensures c.if-not-ids_left.false)).joined_few)) (both-refs s.args.plan.left s.args.plan.right c.boundary_ref-one.result c.boundary_ref-two.result _ _ c.boundary_ref-one.ensures c.boundary_ref-two.ensures (replicate 2 0) c.joined_ids-m.new.out c.joined_ids-m.result c.joined_ids-m.ensures).0 (both-refs s.args.plan.left s.args.plan.right c.boundary_ref-one.result c.boundary_ref-two.result _ _ c.boundary_ref-one.ensures c.boundary_ref-two.ensures (replicate 2 0) c.joined_ids-m.new.out c.joined_ids-m.result c.joined_ids-m.ensures).1).0)
+slice_bounds-merge_with-end-2 c = let s = c in sym (length-take-le c.joined_ids-m.result c.joined_ids-m.new.out (front (replicate 2 0) (joined_in (map_tables s.args.map.now) s.args.i s.args.plan) c.joined_ids-m.new.out c.joined_ids-m.result (omega (arith, length-replicate {A = ℕ} 2 0, (s.requires.decided (ids-there s.args.join s.args.i s.args.j s.args.plan (given s.args.counter s.args.map.now s.args.lists.now) c.side_ids.result c.side_ids-2.result c.side_ids.ensures c.side_ids-2.ensures c.ids_left.result c.ids_left.ensures c.if-not-ids_left.false)).joined_few)) (both-refs s.args.plan.left s.args.plan.right c.boundary_ref-one.result c.boundary_ref-two.result _ _ c.boundary_ref-one.ensures c.boundary_ref-two.ensures (replicate 2 0) c.joined_ids-m.new.out c.joined_ids-m.result c.joined_ids-m.ensures).0 (both-refs s.args.plan.left s.args.plan.right c.boundary_ref-one.result c.boundary_ref-two.result _ _ c.boundary_ref-one.ensures c.boundary_ref-two.ensures (replicate 2 0) c.joined_ids-m.new.out c.joined_ids-m.result c.joined_ids-m.ensures).1).0)
 
 -- src/lib.rt:263:5
 pub merge_with-requires : goal.merge_with-requires
-merge_with-requires c = let s = c in decided-asks s.args.counter s.args.join s.args.i s.args.j s.args.plan _ _ (gone_in (tables_of s.args.lanes.now s.args.boundaries.now s.args.roads.now s.args.junctions.now s.args.rules.now s.args.stop_lines.now s.args.crosswalks.now s.args.coordinates.now) s.args.i s.args.j s.args.plan) (joined_in (tables_of s.args.lanes.now s.args.boundaries.now s.args.roads.now s.args.junctions.now s.args.rules.now s.args.stop_lines.now s.args.crosswalks.now s.args.coordinates.now) s.args.i s.args.plan) (tables_of s.args.lanes.now s.args.boundaries.now s.args.roads.now s.args.junctions.now s.args.rules.now s.args.stop_lines.now s.args.crosswalks.now s.args.coordinates.now) (front (replicate 4 0) (gone_in (tables_of s.args.lanes.now s.args.boundaries.now s.args.roads.now s.args.junctions.now s.args.rules.now s.args.stop_lines.now s.args.crosswalks.now s.args.coordinates.now) s.args.i s.args.j s.args.plan) c.gone-n.new.out c.gone-n.result (omega (arith, length-replicate {A = ℕ} 4 0, (s.requires.decided (ids-there s.args.join s.args.i s.args.j s.args.plan (lent_of s.args.counter s.args.lanes.now s.args.boundaries.now s.args.roads.now s.args.junctions.now s.args.rules.now s.args.stop_lines.now s.args.crosswalks.now s.args.coordinates.now s.args.created.now s.args.modified.now s.args.deleted.now s.args.warnings.now) c.side_ids.result c.side_ids-2.result c.side_ids.ensures c.side_ids-2.ensures c.ids_left.result c.ids_left.ensures c.if-not-ids_left.false)).gone_few)) c.gone-n.ensures.0 c.gone-n.ensures.1).1 (front (replicate 2 0) (joined_in (tables_of s.args.lanes.now s.args.boundaries.now s.args.roads.now s.args.junctions.now s.args.rules.now s.args.stop_lines.now s.args.crosswalks.now s.args.coordinates.now) s.args.i s.args.plan) c.joined_ids-m.new.out c.joined_ids-m.result (omega (arith, length-replicate {A = ℕ} 2 0, (s.requires.decided (ids-there s.args.join s.args.i s.args.j s.args.plan (lent_of s.args.counter s.args.lanes.now s.args.boundaries.now s.args.roads.now s.args.junctions.now s.args.rules.now s.args.stop_lines.now s.args.crosswalks.now s.args.coordinates.now s.args.created.now s.args.modified.now s.args.deleted.now s.args.warnings.now) c.side_ids.result c.side_ids-2.result c.side_ids.ensures c.side_ids-2.ensures c.ids_left.result c.ids_left.ensures c.if-not-ids_left.false)).joined_few)) (both-refs s.args.plan.left s.args.plan.right c.boundary_ref-one.result c.boundary_ref-two.result _ _ c.boundary_ref-one.ensures c.boundary_ref-two.ensures (replicate 2 0) c.joined_ids-m.new.out c.joined_ids-m.result c.joined_ids-m.ensures).0 (both-refs s.args.plan.left s.args.plan.right c.boundary_ref-one.result c.boundary_ref-two.result _ _ c.boundary_ref-one.ensures c.boundary_ref-two.ensures (replicate 2 0) c.joined_ids-m.new.out c.joined_ids-m.result c.joined_ids-m.ensures).1).1 (s.requires.decided (ids-there s.args.join s.args.i s.args.j s.args.plan (lent_of s.args.counter s.args.lanes.now s.args.boundaries.now s.args.roads.now s.args.junctions.now s.args.rules.now s.args.stop_lines.now s.args.crosswalks.now s.args.coordinates.now s.args.created.now s.args.modified.now s.args.deleted.now s.args.warnings.now) c.side_ids.result c.side_ids-2.result c.side_ids.ensures c.side_ids-2.ensures c.ids_left.result c.ids_left.ensures c.if-not-ids_left.false))
+merge_with-requires c = let s = c in decided-asks s.args.counter s.args.join s.args.i s.args.j s.args.plan _ _ (gone_in (map_tables s.args.map.now) s.args.i s.args.j s.args.plan) (joined_in (map_tables s.args.map.now) s.args.i s.args.plan) (map_tables s.args.map.now) (front (replicate 4 0) (gone_in (map_tables s.args.map.now) s.args.i s.args.j s.args.plan) c.gone-n.new.out c.gone-n.result (omega (arith, length-replicate {A = ℕ} 4 0, (s.requires.decided (ids-there s.args.join s.args.i s.args.j s.args.plan (given s.args.counter s.args.map.now s.args.lists.now) c.side_ids.result c.side_ids-2.result c.side_ids.ensures c.side_ids-2.ensures c.ids_left.result c.ids_left.ensures c.if-not-ids_left.false)).gone_few)) c.gone-n.ensures.0 c.gone-n.ensures.1).1 (front (replicate 2 0) (joined_in (map_tables s.args.map.now) s.args.i s.args.plan) c.joined_ids-m.new.out c.joined_ids-m.result (omega (arith, length-replicate {A = ℕ} 2 0, (s.requires.decided (ids-there s.args.join s.args.i s.args.j s.args.plan (given s.args.counter s.args.map.now s.args.lists.now) c.side_ids.result c.side_ids-2.result c.side_ids.ensures c.side_ids-2.ensures c.ids_left.result c.ids_left.ensures c.if-not-ids_left.false)).joined_few)) (both-refs s.args.plan.left s.args.plan.right c.boundary_ref-one.result c.boundary_ref-two.result _ _ c.boundary_ref-one.ensures c.boundary_ref-two.ensures (replicate 2 0) c.joined_ids-m.new.out c.joined_ids-m.result c.joined_ids-m.ensures).0 (both-refs s.args.plan.left s.args.plan.right c.boundary_ref-one.result c.boundary_ref-two.result _ _ c.boundary_ref-one.ensures c.boundary_ref-two.ensures (replicate 2 0) c.joined_ids-m.new.out c.joined_ids-m.result c.joined_ids-m.ensures).1).1 (s.requires.decided (ids-there s.args.join s.args.i s.args.j s.args.plan (given s.args.counter s.args.map.now s.args.lists.now) c.side_ids.result c.side_ids-2.result c.side_ids.ensures c.side_ids-2.ensures c.ids_left.result c.ids_left.ensures c.if-not-ids_left.false))
 
 -- src/lib.rt:230:1
-pub shape_of-lanes : goal.shape_of-lanes
-shape_of-lanes c = c.merge_with.auto.lanes
-
--- src/lib.rt:230:1
-pub shape_of-boundaries : goal.shape_of-boundaries
-shape_of-boundaries c = c.merge_with.auto.boundaries
-
--- src/lib.rt:230:1
-pub shape_of-roads : goal.shape_of-roads
-shape_of-roads c = c.merge_with.auto.roads
-
--- src/lib.rt:230:1
-pub shape_of-junctions : goal.shape_of-junctions
-shape_of-junctions c = c.merge_with.auto.junctions
-
--- src/lib.rt:230:1
-pub shape_of-rules : goal.shape_of-rules
-shape_of-rules c = c.merge_with.auto.rules
-
--- src/lib.rt:230:1
-pub shape_of-stop_lines : goal.shape_of-stop_lines
-shape_of-stop_lines c = c.merge_with.auto.stop_lines
-
--- src/lib.rt:230:1
-pub shape_of-crosswalks : goal.shape_of-crosswalks
-shape_of-crosswalks c = c.merge_with.auto.crosswalks
-
--- src/lib.rt:230:1
-pub shape_of-coordinates : goal.shape_of-coordinates
-shape_of-coordinates c = c.merge_with.auto.coordinates
-
--- src/lib.rt:230:1
-pub shape_of-created : goal.shape_of-created
-shape_of-created c = c.merge_with.auto.created
-
--- src/lib.rt:230:1
-pub shape_of-modified : goal.shape_of-modified
-shape_of-modified c = c.merge_with.auto.modified
-
--- src/lib.rt:230:1
-pub shape_of-deleted : goal.shape_of-deleted
-shape_of-deleted c = c.merge_with.auto.deleted
-
--- src/lib.rt:230:1
-pub shape_of-warnings : goal.shape_of-warnings
-shape_of-warnings c = c.merge_with.auto.warnings
-
--- src/lib.rt:230:1
-pub returns : goal.returns
-returns c = let s = c in found-made s.args.join s.args.i s.args.j s.args.plan (lent_of s.args.counter s.args.lanes.now s.args.boundaries.now s.args.roads.now s.args.junctions.now s.args.rules.now s.args.stop_lines.now s.args.crosswalks.now s.args.coordinates.now s.args.created.now s.args.modified.now s.args.deleted.now s.args.warnings.now) c.side_ids.result c.side_ids-2.result c.side_ids.ensures c.side_ids-2.ensures c.ids_left.result c.ids_left.ensures c.if-not-ids_left.false _ _ (front (replicate 4 0) (gone_in (tables_of s.args.lanes.now s.args.boundaries.now s.args.roads.now s.args.junctions.now s.args.rules.now s.args.stop_lines.now s.args.crosswalks.now s.args.coordinates.now) s.args.i s.args.j s.args.plan) c.gone-n.new.out c.gone-n.result (omega (arith, length-replicate {A = ℕ} 4 0, (s.requires.decided (ids-there s.args.join s.args.i s.args.j s.args.plan (lent_of s.args.counter s.args.lanes.now s.args.boundaries.now s.args.roads.now s.args.junctions.now s.args.rules.now s.args.stop_lines.now s.args.crosswalks.now s.args.coordinates.now s.args.created.now s.args.modified.now s.args.deleted.now s.args.warnings.now) c.side_ids.result c.side_ids-2.result c.side_ids.ensures c.side_ids-2.ensures c.ids_left.result c.ids_left.ensures c.if-not-ids_left.false)).gone_few)) c.gone-n.ensures.0 c.gone-n.ensures.1).1 (front (replicate 2 0) (joined_in (tables_of s.args.lanes.now s.args.boundaries.now s.args.roads.now s.args.junctions.now s.args.rules.now s.args.stop_lines.now s.args.crosswalks.now s.args.coordinates.now) s.args.i s.args.plan) c.joined_ids-m.new.out c.joined_ids-m.result (omega (arith, length-replicate {A = ℕ} 2 0, (s.requires.decided (ids-there s.args.join s.args.i s.args.j s.args.plan (lent_of s.args.counter s.args.lanes.now s.args.boundaries.now s.args.roads.now s.args.junctions.now s.args.rules.now s.args.stop_lines.now s.args.crosswalks.now s.args.coordinates.now s.args.created.now s.args.modified.now s.args.deleted.now s.args.warnings.now) c.side_ids.result c.side_ids-2.result c.side_ids.ensures c.side_ids-2.ensures c.ids_left.result c.ids_left.ensures c.if-not-ids_left.false)).joined_few)) (both-refs s.args.plan.left s.args.plan.right c.boundary_ref-one.result c.boundary_ref-two.result _ _ c.boundary_ref-one.ensures c.boundary_ref-two.ensures (replicate 2 0) c.joined_ids-m.new.out c.joined_ids-m.result c.joined_ids-m.ensures).0 (both-refs s.args.plan.left s.args.plan.right c.boundary_ref-one.result c.boundary_ref-two.result _ _ c.boundary_ref-one.ensures c.boundary_ref-two.ensures (replicate 2 0) c.joined_ids-m.new.out c.joined_ids-m.result c.joined_ids-m.ensures).1).1 _ c.merge_with.ensures
+pub returns-clause-made : goal.returns-clause-made
+returns-clause-made c = let s = c in found-made s.args.join s.args.i s.args.j s.args.plan (given s.args.counter s.args.map.now s.args.lists.now) c.side_ids.result c.side_ids-2.result c.side_ids.ensures c.side_ids-2.ensures c.ids_left.result c.ids_left.ensures c.if-not-ids_left.false _ _ (front (replicate 4 0) (gone_in (map_tables s.args.map.now) s.args.i s.args.j s.args.plan) c.gone-n.new.out c.gone-n.result (omega (arith, length-replicate {A = ℕ} 4 0, (s.requires.decided (ids-there s.args.join s.args.i s.args.j s.args.plan (given s.args.counter s.args.map.now s.args.lists.now) c.side_ids.result c.side_ids-2.result c.side_ids.ensures c.side_ids-2.ensures c.ids_left.result c.ids_left.ensures c.if-not-ids_left.false)).gone_few)) c.gone-n.ensures.0 c.gone-n.ensures.1).1 (front (replicate 2 0) (joined_in (map_tables s.args.map.now) s.args.i s.args.plan) c.joined_ids-m.new.out c.joined_ids-m.result (omega (arith, length-replicate {A = ℕ} 2 0, (s.requires.decided (ids-there s.args.join s.args.i s.args.j s.args.plan (given s.args.counter s.args.map.now s.args.lists.now) c.side_ids.result c.side_ids-2.result c.side_ids.ensures c.side_ids-2.ensures c.ids_left.result c.ids_left.ensures c.if-not-ids_left.false)).joined_few)) (both-refs s.args.plan.left s.args.plan.right c.boundary_ref-one.result c.boundary_ref-two.result _ _ c.boundary_ref-one.ensures c.boundary_ref-two.ensures (replicate 2 0) c.joined_ids-m.new.out c.joined_ids-m.result c.joined_ids-m.ensures).0 (both-refs s.args.plan.left s.args.plan.right c.boundary_ref-one.result c.boundary_ref-two.result _ _ c.boundary_ref-one.ensures c.boundary_ref-two.ensures (replicate 2 0) c.joined_ids-m.new.out c.joined_ids-m.result c.joined_ids-m.ensures).1).1 _ c.merge_with.ensures.made

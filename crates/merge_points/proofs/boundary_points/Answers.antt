@@ -1,4 +1,4 @@
--- `merge_points::boundary_points` meets its contract. The invariant: what is counted are the points of the rows before i. The measure is how many rows are left. Assumes nothing.
+-- `merge_points::boundary_points` meets its contract. The invariant: what is counted are the points of the rows before i. Assumes nothing.
 use mathlib.Core.Path.{◌≡◌, ap, ◌∙◌}
 use Prim.Native.Nat.{◌+◌, ◌-◌, ◌*◌, ◌≤◌, ◌<◌}
 use native.Mathlib.Omega.{arith}
@@ -74,12 +74,6 @@ row_points-points-requires c =
 
 pub overflow_add-points : goal.overflow_add-points
 overflow_add-points c = omega (arith, few c.before, passed c.before.before.before, c.loop-i.invariant.few)
-
-pub overflow_add-i : goal.overflow_add-i
-overflow_add-i c = omega (arith, passed c.before.before.before)
-
-pub loop-i-smaller : goal.loop-i-smaller
-loop-i-smaller c = omega (arith, c.loop-i-test.true)
 
 pub loop-i-preserved : goal.loop-i-preserved
 loop-i-preserved c =

@@ -8,7 +8,7 @@ pub returns-then-id-second : goal.returns-then-id-second
 returns-then-id-second c = rw (eq-eqb (get_or c.args.row.now 0 0) c.args.second c.if-id-second.true)
 
 pub returns-then-id-first : goal.returns-then-id-first
-returns-then-id-first c = rw (ne_eqb (get_or c.args.row.now 0 0) c.args.second c.if-id-second.false, eq-eqb (get_or c.args.row.now 0 0) c.args.first c.if-id-first.true, c.center_points.ensures)
+returns-then-id-first c = rw (ne_eqb (get_or c.args.row.now 0 0) c.args.second c.if-id-second.false, eq-eqb (get_or c.args.row.now 0 0) c.args.first c.if-id-first.true, c.unwrap_or.ensures)
 
 pub returns-then-row-eq0 : goal.returns-then-row-eq0
 returns-then-row-eq0 c = rw (ne_eqb (get_or c.args.row.now 0 0) c.args.second c.if-id-second.false, ne_eqb (get_or c.args.row.now 0 0) c.args.first c.if-id-first.false, eq-eqb (get_or c.args.row.now 6 0) 0 c.if-row-eq0.true)

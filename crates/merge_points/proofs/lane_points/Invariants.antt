@@ -1,4 +1,4 @@
--- `merge_points::lane_points` meets its contract. The invariant: what is counted are the points of the rows before i. The measure is how many rows are left. Assumes nothing.
+-- `merge_points::lane_points` meets its contract. The invariant: what is counted are the points of the rows before i. Assumes nothing.
 use mathlib.Core.Path.{◌≡◌, ap, ◌∙◌}
 use Prim.Native.Nat.{◌+◌, ◌-◌, ◌*◌, ◌≤◌, ◌<◌}
 use native.Mathlib.Omega.{arith}
@@ -13,6 +13,3 @@ use Rattle.merge_points.proofs.lane_points.Given as goal
 
 abbrev pub invariant-loop-i : goal.invariant-loop-i
 invariant-loop-i l = Summed 52 (center_after l.first l.second l.center) l.lanes 512 l.i l.points
-
-abbrev pub decreases-loop-i : goal.decreases-loop-i
-decreases-loop-i l = l.n - l.i

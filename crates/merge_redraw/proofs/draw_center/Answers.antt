@@ -1,4 +1,5 @@
 -- `merge_redraw::draw_center` meets its contract: the centreline is written in the part that begins at its first point. Assumes nothing.
+use Rattle.std.specs.Prelude.{is_some}
 use borrow.Author.Rules.{rules}
 use mathlib.Core.Path.{◌∙◌, sym}
 use Prim.Native.Nat.{◌*◌}

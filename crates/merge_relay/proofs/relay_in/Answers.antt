@@ -1,7 +1,7 @@
 -- `merge_relay::relay_in` meets its contract: the steps put together. Assumes nothing.
 use borrow.Author.Rules.{rules}
 use Rattle.layout.specs.Layout.{line_tables}
-use Rattle.merge_redraw.proofs.Whole.{draw_asks, taken-asks, right-fits, side-asks, lanes_ask, redraw_asks, gather-asks, all-relaid}
+use Rattle.merge_redraw.proofs.Whole.{draw_asks, taken-asks, id-fits, right-fits, side-asks, lanes_ask, redraw_asks, gather-asks, all-relaid}
 use native.Mathlib.Omega.{arith}
 use Rattle.merge_relay.proofs.relay_in.Goals as goal
 
@@ -9,6 +9,11 @@ pub taken_of-taken-requires : goal.taken_of-taken-requires
 taken_of-taken-requires c =
     let a = c.args in
     taken-asks a.join a.plan a.next a.reach a.gone.now a.i a.j a.lanes.now a.boundaries.now a.stop_lines.now a.crosswalks.now a.coordinates.now a.work.now c.requires.0 c.requires.1
+
+pub overflow_add-other : goal.overflow_add-other
+overflow_add-other c =
+    let a = c.args in
+    omega (arith, id-fits a.join a.plan a.next a.reach a.gone.now a.i a.j a.lanes.now a.boundaries.now a.stop_lines.now a.crosswalks.now a.coordinates.now a.work.now c.requires.0 c.requires.1 c.side_ids.result c.side_ids.ensures)
 
 pub overflow_add-right_at : goal.overflow_add-right_at
 overflow_add-right_at c =
@@ -33,7 +38,7 @@ redrawn_of-two-requires c =
 pub redraw_boundaries-requires : goal.redraw_boundaries-requires
 redraw_boundaries-requires c =
     let a = c.args in
-    redraw_asks a.join a.plan a.next a.reach a.gone.now a.i a.j a.lanes.now a.boundaries.now a.stop_lines.now a.crosswalks.now a.coordinates.now a.work.now c.requires.0 c.requires.1 c.taken_of-taken.result c.taken_of-taken.ensures c.side_points.result c.side_points.ensures c.redrawn_of-one.result c.redrawn_of-two.result c.redrawn_of-one.ensures c.redrawn_of-two.ensures
+    redraw_asks a.join a.plan a.next a.reach a.gone.now a.i a.j a.lanes.now a.boundaries.now a.stop_lines.now a.crosswalks.now a.coordinates.now a.work.now c.requires.0 c.requires.1 c.taken_of-taken.result c.taken_of-taken.ensures c.side_points.result c.side_ids.result c.side_points.ensures c.side_ids.ensures c.redrawn_of-one.result c.redrawn_of-two.result c.redrawn_of-one.ensures c.redrawn_of-two.ensures
 
 pub redraw_followed-requires : goal.redraw_followed-requires
 redraw_followed-requires c =
@@ -47,7 +52,7 @@ lay_out-requires c =
       near = c.requires.0.near;
       stored = c.requires.0.stored;
       few = omega (arith, c.draw.auto.work, c.requires.1);
-      gatherable = gather-asks a.join a.plan a.next a.reach a.gone.now a.i a.j a.lanes.now a.boundaries.now a.stop_lines.now a.crosswalks.now a.coordinates.now a.work.now c.requires.0 c.requires.1 c.taken_of-taken.result c.taken_of-taken.ensures c.side_points.result c.side_points.ensures c.redrawn_of-one.result c.redrawn_of-two.result c.redrawn_of-one.ensures c.redrawn_of-two.ensures c.draw.new.work c.draw.ensures c.redraw_boundaries.new.t c.redraw_boundaries.ensures c.redraw_followed.new.t c.redraw_followed.ensures;
+      gatherable = gather-asks a.join a.plan a.next a.reach a.gone.now a.i a.j a.lanes.now a.boundaries.now a.stop_lines.now a.crosswalks.now a.coordinates.now a.work.now c.requires.0 c.requires.1 c.taken_of-taken.result c.taken_of-taken.ensures c.side_points.result c.side_ids.result c.side_points.ensures c.side_ids.ensures c.redrawn_of-one.result c.redrawn_of-two.result c.redrawn_of-one.ensures c.redrawn_of-two.ensures c.draw.new.work c.draw.ensures c.redraw_boundaries.new.t c.redraw_boundaries.ensures c.redraw_followed.new.t c.redraw_followed.ensures;
     }
 
 pub shape_of-work : goal.shape_of-work
@@ -57,4 +62,4 @@ pub returns : goal.returns
 returns c =
     let a = c.args in
     let g = c.lay_out.new in
-    all-relaid a.join a.plan a.next a.reach a.gone.now a.i a.j a.lanes.now a.boundaries.now a.stop_lines.now a.crosswalks.now a.coordinates.now a.work.now c.requires.0 c.requires.1 c.taken_of-taken.result c.taken_of-taken.ensures c.side_points.result c.side_points.ensures c.redrawn_of-one.result c.redrawn_of-two.result c.redrawn_of-one.ensures c.redrawn_of-two.ensures c.draw.new.work c.draw.ensures c.redraw_boundaries.new.t c.redraw_boundaries.ensures c.redraw_followed.new.t c.redraw_followed.ensures (line_tables g.lanes g.boundaries g.stop_lines g.crosswalks g.coordinates) c.lay_out.ensures
+    all-relaid a.join a.plan a.next a.reach a.gone.now a.i a.j a.lanes.now a.boundaries.now a.stop_lines.now a.crosswalks.now a.coordinates.now a.work.now c.requires.0 c.requires.1 c.taken_of-taken.result c.taken_of-taken.ensures c.side_points.result c.side_ids.result c.side_points.ensures c.side_ids.ensures c.redrawn_of-one.result c.redrawn_of-two.result c.redrawn_of-one.ensures c.redrawn_of-two.ensures c.draw.new.work c.draw.ensures c.redraw_boundaries.new.t c.redraw_boundaries.ensures c.redraw_followed.new.t c.redraw_followed.ensures (line_tables g.lanes g.boundaries g.stop_lines g.crosswalks g.coordinates) c.lay_out.ensures

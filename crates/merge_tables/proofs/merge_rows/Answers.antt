@@ -33,12 +33,6 @@ slice_bounds-merge_row-count c = omega arith
 pub merge_row-requires : goal.merge_row-requires
 merge_row-requires c = row-asks c.args.t.now c.args.successors.now c.requires.0 c.requires.1 c.loop-i.i c.loop-i-test.true _ (changed_row 52 (row_merged c.args.first c.args.second c.args.taken c.args.successors.now) c.args.t.now (table-room 1024 52 c.args.t.now c.requires.0.counts) (merged_keeps c.args.t.now c.args.first c.args.second c.args.taken c.args.successors.now c.requires.0 c.requires.1) c.loop-i.t c.loop-i.i c.loop-i.invariant)
 
-pub overflow_add-i : goal.overflow_add-i
-overflow_add-i c = omega (arith, c.loop-i-test.true, table-few 1024 52 c.args.t.now c.requires.0.counts)
-
-pub loop-i-smaller : goal.loop-i-smaller
-loop-i-smaller c = omega (arith, c.loop-i-test.true)
-
 pub loop-i-preserved : goal.loop-i-preserved
 loop-i-preserved c = changed-turn 52 (row_merged c.args.first c.args.second c.args.taken c.args.successors.now) c.args.t.now (table-room 1024 52 c.args.t.now c.requires.0.counts) (merged_keeps c.args.t.now c.args.first c.args.second c.args.taken c.args.successors.now c.requires.0 c.requires.1) c.loop-i.t c.loop-i.i c.loop-i.invariant c.loop-i-test.true c.merge_row.new.row c.merge_row.ensures
 

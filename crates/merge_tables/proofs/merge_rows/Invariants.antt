@@ -11,6 +11,3 @@ use Rattle.merge_tables.proofs.merge_rows.Given as goal
 
 abbrev pub invariant-loop-i : goal.invariant-loop-i
 invariant-loop-i l = Changed 52 (row_merged l.first l.second l.taken l.successors) l.initial.t l.t l.i
-
-abbrev pub decreases-loop-i : goal.decreases-loop-i
-decreases-loop-i l = l.n - l.i

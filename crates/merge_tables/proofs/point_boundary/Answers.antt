@@ -35,12 +35,6 @@ slice_bounds-point_row-count c = omega arith
 pub point_row-requires : goal.point_row-requires
 point_row-requires c = ap length (changed_row 5 (pointed_row c.args.id c.args.start c.args.size) c.args.t.now (table-room 4096 5 c.args.t.now c.requires) (point-keeps c.args.t.now c.args.id c.args.start c.args.size (table-room 4096 5 c.args.t.now c.requires)) c.loop-i.t c.loop-i.i c.loop-i.invariant) ∙ row-long 5 c.args.t.now c.loop-i.i (table-room 4096 5 c.args.t.now c.requires) c.loop-i-test.true
 
-pub overflow_add-i : goal.overflow_add-i
-overflow_add-i c = omega (arith, c.loop-i-test.true, table-few 4096 5 c.args.t.now c.requires)
-
-pub loop-i-smaller : goal.loop-i-smaller
-loop-i-smaller c = omega (arith, c.loop-i-test.true)
-
 pub loop-i-preserved : goal.loop-i-preserved
 loop-i-preserved c = changed-turn 5 (pointed_row c.args.id c.args.start c.args.size) c.args.t.now (table-room 4096 5 c.args.t.now c.requires) (point-keeps c.args.t.now c.args.id c.args.start c.args.size (table-room 4096 5 c.args.t.now c.requires)) c.loop-i.t c.loop-i.i c.loop-i.invariant c.loop-i-test.true c.point_row.new.row c.point_row.ensures
 

@@ -13,6 +13,3 @@ use Rattle.merge_tables.proofs.point_boundary.Given as goal
 
 abbrev pub invariant-loop-i : goal.invariant-loop-i
 invariant-loop-i l = Changed 5 (pointed_row l.id l.start l.size) l.initial.t l.t l.i
-
-abbrev pub decreases-loop-i : goal.decreases-loop-i
-decreases-loop-i l = l.n - l.i

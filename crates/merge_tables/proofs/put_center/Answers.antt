@@ -3,8 +3,8 @@ use borrow.Author.Rules.{rules}
 use Rattle.merge_draw.proofs.Lanes.{center_put, center_off}
 use Rattle.merge_tables.proofs.put_center.Goals as goal
 
-pub returns-then-on : goal.returns-then-on
-returns-then-on c = center_put c.args.row.now c.args.on c.args.start c.args.size c.requires c.if-on.true
+pub returns-in-None : goal.returns-in-None
+returns-in-None c = center_off c.args.row.now c.requires c.args.center c.in-None.is
 
-pub returns-else-on : goal.returns-else-on
-returns-else-on c = center_off c.args.row.now c.args.on c.args.start c.args.size c.requires c.if-on.false
+pub returns-in-Some : goal.returns-in-Some
+returns-in-Some c = center_put c.args.row.now c.requires c.args.center c.in-Some.line c.in-Some.is

@@ -3,11 +3,11 @@ use borrow.Author.Rules.{rules}
 use Rattle.merge_draw.proofs.Lanes.{ref-room, ref-put, ref-off}
 use Rattle.merge_tables.proofs.put_ref.Goals as goal
 
-pub bounds-row-k-then-on : goal.bounds-row-k-then-on
-bounds-row-k-then-on c = ref-room c.args.row.now c.args.k c.args.id c.requires
+pub bounds-row-k-in-Some : goal.bounds-row-k-in-Some
+bounds-row-k-in-Some c = ref-room c.args.row.now c.args.k c.requires c.in-Some.id
 
-pub returns-then-on : goal.returns-then-on
-returns-then-on c = ref-put c.args.row.now c.args.k c.args.id c.requires c.args.on c.if-on.true
+pub returns-in-None : goal.returns-in-None
+returns-in-None c = ref-off c.args.row.now c.args.k c.requires c.args.id c.in-None.is
 
-pub returns-else-on : goal.returns-else-on
-returns-else-on c = ref-off c.args.row.now c.args.k c.args.id c.requires c.args.on c.if-on.false
+pub returns-in-Some : goal.returns-in-Some
+returns-in-Some c = ref-put c.args.row.now c.args.k c.requires c.args.id c.in-Some.id c.in-Some.is

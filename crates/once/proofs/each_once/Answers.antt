@@ -42,12 +42,6 @@ returns-then-contains c =
 pub bounds-seen-mark-in-loop-i : goal.bounds-seen-mark-in-loop-i
 bounds-seen-mark-in-loop-i c = mod-lt (get_or c.args.ids.now c.loop-i.i 0) (omega arith)
 
-pub overflow_add-i : goal.overflow_add-i
-overflow_add-i c = omega arith
-
-pub loop-i-smaller : goal.loop-i-smaller
-loop-i-smaller c = omega arith
-
 pub loop-i-preserved : goal.loop-i-preserved
 loop-i-preserved c =
     let ids = c.args.ids.now in

@@ -1,5 +1,5 @@
--- `once::each_once` meets its contract. The invariant: the ids before i are distinct, and the mark of each is set. An id whose mark is not set
--- is none of those; where it is set, the search among them decides. The measure is how many ids are left. Assumes nothing.
+-- `once::each_once` meets its contract. The invariant: the ids before i are distinct, and the mark of each is set. An id whose mark is not set is none of
+-- those; where it is set, the search among them decides. Assumes nothing.
 use mathlib.Core.Path.{refl, sym, ◌∙◌}
 use mathlib.Core.Bool.{false}
 use mathlib.Core.Logic.{⊎_elim}
@@ -13,6 +13,3 @@ use Rattle.once.proofs.each_once.Given as goal
 
 abbrev pub invariant-loop-i : goal.invariant-loop-i
 invariant-loop-i l = Walked l.ids l.seen l.i
-
-abbrev pub decreases-loop-i : goal.decreases-loop-i
-decreases-loop-i l = length l.ids - l.i

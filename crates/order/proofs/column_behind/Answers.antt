@@ -75,12 +75,6 @@ line_behind-far-requires c =
     let u : all f (lines_from k t n i) ≡ true = all_from k t f n i (omega arith) (rw (from_start k t) at s.requires.1.1.1.1.1) in
     (s.requires.1.1.1.0, all_head f (line_here t (1 + i * a.stride + a.offset)) (lines_from k t n (i + 1)) (rw e at u))
 
-pub overflow_add-i : goal.overflow_add-i
-overflow_add-i c = omega (arith, (counted-facts 4096 c.args.stride c.args.t.now c.requires.1.1.1.1.0).1.0, c.loop-i-test.true)
-
-pub loop-i-smaller : goal.loop-i-smaller
-loop-i-smaller c = omega (arith, c.loop-i-test.true)
-
 pub loop-i-preserved : goal.loop-i-preserved
 loop-i-preserved c =
     let s = c in

@@ -1,5 +1,5 @@
 -- `order::column_behind` meets its contract. The invariant: the point behind all lines is that behind the lines of the rows from i on, from the place as it is.
--- The measure is how many rows are left. Assumes nothing.
+-- Assumes nothing.
 use mathlib.Core.Path.{◌≡◌, ap, ◌∙◌}
 use mathlib.Core.Bool.{true}
 use mathlib.Core.Logic.{⊎_elim}
@@ -19,6 +19,3 @@ use Rattle.order.proofs.column_behind.Given as goal
 
 abbrev pub invariant-loop-i : goal.invariant-loop-i
 invariant-loop-i l = (l.i ≤ l.n) × (behind_all l.reach l.from (column_lines (column_of l.stride l.offset l.marked) l.t) ≡ behind_all l.reach l.far (lines_from (column_of l.stride l.offset l.marked) l.t l.n l.i))
-
-abbrev pub decreases-loop-i : goal.decreases-loop-i
-decreases-loop-i l = l.n - l.i

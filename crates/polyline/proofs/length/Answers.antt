@@ -34,12 +34,6 @@ point-q-requires c = omega arith
 pub finish-sum-requires : goal.finish-sum-requires
 finish-sum-requires c = (c.loop-i.invariant.1.0, c.loop-i.invariant.1.1)
 
-pub overflow_add-i : goal.overflow_add-i
-overflow_add-i c = omega arith
-
-pub loop-i-smaller : goal.loop-i-smaller
-loop-i-smaller c = omega arith
-
 pub loop-i-preserved : goal.loop-i-preserved
 loop-i-preserved c =
     let ps = points c.args.line.now in

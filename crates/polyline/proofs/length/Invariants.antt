@@ -15,6 +15,3 @@ use Rattle.polyline.proofs.length.Given as goal
 abbrev pub invariant-loop-i : goal.invariant-loop-i
 invariant-loop-i l =
     (l.i ≤ l.n) × ((s : Float) × Unfinished s l.segment.a l.segment.top l.segment.guess × (line_length (points l.line) ≡ length_from (l.sum +ᶠ s) l.p (drop l.i (points l.line))))
-
-abbrev pub decreases-loop-i : goal.decreases-loop-i
-decreases-loop-i l = l.n - l.i

@@ -24,12 +24,6 @@ point-p-requires c = omega arith
 pub loop-i-init : goal.loop-i-init
 loop-i-init c = (omega arith, rw c.point-p.ensures (locate-begins (points c.args.line.now) c.args.station (omega arith) c.if-station.false))
 
-pub overflow_add-i : goal.overflow_add-i
-overflow_add-i c = omega arith
-
-pub overflow_add-i-in-loop-i : goal.overflow_add-i-in-loop-i
-overflow_add-i-in-loop-i c = omega arith
-
 pub point-q-requires : goal.point-q-requires
 point-q-requires c = omega arith
 
@@ -40,12 +34,6 @@ returns-then-seg c =
     let t = rw (c.distance-seg.ensures, c.point-q.ensures) at c.if-station-end.true in
     let u = rw (c.distance-seg.ensures, c.point-q.ensures) at c.if-seg.true in
     rw (c.held.ensures, c.distance-seg.ensures, c.point-q.ensures) (sym (l.invariant.1 ∙ locate-found (points c.args.line.now) l.i l.at c.args.station l.p h t u))
-
-pub overflow_add-i-in-loop-i-2 : goal.overflow_add-i-in-loop-i-2
-overflow_add-i-in-loop-i-2 c = omega arith
-
-pub loop-i-smaller : goal.loop-i-smaller
-loop-i-smaller c = omega arith
 
 pub loop-i-preserved : goal.loop-i-preserved
 loop-i-preserved c =
@@ -64,4 +52,5 @@ overflow_sub-result c = omega arith
 pub returns : goal.returns
 returns c =
     let h : length (points c.args.line.now) ≤ c.loop-i.i + 1 = omega arith in
-    sym (c.loop-i.invariant.1 ∙ locate-ends (points c.args.line.now) c.loop-i.i c.loop-i.at c.args.station c.loop-i.p h)
+    let last : c.loop-i.i - 1 ≡ c.count-n.result - 2 = omega arith in
+    rw (← last) (sym (c.loop-i.invariant.1 ∙ locate-ends (points c.args.line.now) c.loop-i.i c.loop-i.at c.args.station c.loop-i.p h))

@@ -11,6 +11,3 @@ use Rattle.polyline.proofs.locate.Given as goal
 
 abbrev pub invariant-loop-i : goal.invariant-loop-i
 invariant-loop-i l = (l.i + 1 ≤ l.n) × (locate (points l.line) l.station ≡ locate_from l.i l.at l.station l.p (drop (l.i + 1) (points l.line)))
-
-abbrev pub decreases-loop-i : goal.decreases-loop-i
-decreases-loop-i l = l.n - l.i

@@ -12,15 +12,15 @@ returns-in_default c = point-at-none (points c.args.line.now) c.args.station (sy
 
 pub overflow_add-i : goal.overflow_add-i
 overflow_add-i c =
-    let e = sym c.locate-place.ensures ∙ c.in-At.is in
+    let e = sym c.locate-place.ensures ∙ c.in-Some.is in
     omega (arith, locate-inside (points c.args.line.now) c.args.station _ _ e, length-points c.args.line.now)
 
 pub returns-then-i-count : goal.returns-then-i-count
 returns-then-i-count c =
-    let e = sym c.locate-place.ensures ∙ c.in-At.is in
+    let e = sym c.locate-place.ensures ∙ c.in-Some.is in
     rw (c.lerp.ensures, c.point-then-i-count.ensures, c.point.ensures) (point-at_in (points c.args.line.now) c.args.station _ _ e (omega (arith, c.count.ensures)))
 
 pub returns : goal.returns
 returns c =
-    let e = sym c.locate-place.ensures ∙ c.in-At.is in
+    let e = sym c.locate-place.ensures ∙ c.in-Some.is in
     c.last.ensures ∙ point-at-last (points c.args.line.now) c.args.station _ _ e (omega (arith, c.count.ensures))

@@ -29,20 +29,11 @@ loop-i-init c = let a = c.args in (omega arith, far-start centerlines a.lanes.no
 pub overflow_mul-i : goal.overflow_mul-i
 overflow_mul-i c = omega (arith, room c.before, c.well_formed)
 
-pub overflow_add-i : goal.overflow_add-i
-overflow_add-i c = omega (arith, room c.before, c.well_formed)
-
 pub center_reach-far-requires : goal.center_reach-far-requires
 center_reach-far-requires c =
     let a = c.args in
     let l = c.loop-i in
     (room c.before, far-fits centerlines a.lanes.now a.most (word 0 a.lanes.now) l.i l.far l.invariant.1 c.loop-i-test.true)
-
-pub overflow_add-i-in-loop-i : goal.overflow_add-i-in-loop-i
-overflow_add-i-in-loop-i c = omega (arith, (counted-facts 1024 52 c.args.lanes.now c.requires.0).1.0, c.loop-i-test.true)
-
-pub loop-i-smaller : goal.loop-i-smaller
-loop-i-smaller c = omega (arith, c.loop-i-test.true)
 
 pub loop-i-preserved : goal.loop-i-preserved
 loop-i-preserved c =

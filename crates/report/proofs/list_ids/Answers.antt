@@ -1,4 +1,4 @@
--- `report::list_ids` meets its contract. The invariant: the words of the first i entities are written from place `at` on. The measure is how many are left.
+-- `report::list_ids` meets its contract. The invariant: the words of the first i entities are written from place `at` on.
 use mathlib.Core.Path.{◌≡◌, refl, sym}
 use Prim.Native.Nat.{◌-◌, ◌*◌, ◌≤◌}
 use native.Mathlib.Omega.{arith}
@@ -8,9 +8,6 @@ use Rattle.lists.specs.Select.{each}
 use Rattle.lists.proofs.Rows.{over-nil}
 use Rattle.report.proofs.Laws.{pairs_of, list-step, list-end}
 use Rattle.report.proofs.list_ids.Goals as goal
-
-pub number-number-requires : goal.number-number-requires
-number-number-requires c = tt
 
 pub loop-i-init : goal.loop-i-init
 unfolding each
@@ -44,17 +41,11 @@ offset_bounds-out-place-in-loop-i c = omega arith
 pub bounds-out-place-in-loop-i : goal.bounds-out-place-in-loop-i
 bounds-out-place-in-loop-i c = simp length-set (omega arith)
 
-pub overflow_add-i : goal.overflow_add-i
-overflow_add-i c = omega arith
-
-pub loop-i-smaller : goal.loop-i-smaller
-loop-i-smaller c = omega arith
-
 pub loop-i-preserved : goal.loop-i-preserved
 loop-i-preserved c =
     let a = c.args in
     let t = c.loop-i in
-    (omega arith, (simp length-set t.invariant.1.0, list-step c.number-number.result a.out.now t.out a.ids.now a.at t.i c.loop-i-test.true c.requires t.invariant.1.1))
+    (omega arith, (simp length-set t.invariant.1.0, list-step c.from-number.result a.out.now t.out a.ids.now a.at t.i c.loop-i-test.true c.requires t.invariant.1.1))
 
 pub overflow_add-result : goal.overflow_add-result
 overflow_add-result c = omega arith
@@ -66,4 +57,4 @@ pub returns : goal.returns
 returns c =
     let a = c.args in
     let t = c.loop-i in
-    list-end a.kind c.number-number.result a.out.now t.out a.ids.now a.at t.i c.number-number.ensures t.invariant.0 (omega arith) t.invariant.1.1
+    (refl, (list-end a.kind c.from-number.result a.out.now t.out a.ids.now a.at t.i c.from-number.ensures t.invariant.0 (omega arith) t.invariant.1.1).1)

@@ -1,4 +1,4 @@
--- `report::list_ids` meets its contract. The invariant: the words of the first i entities are written from place `at` on. The measure is how many are left.
+-- `report::list_ids` meets its contract. The invariant: the words of the first i entities are written from place `at` on.
 -- Assumes nothing.
 use mathlib.Core.Path.{◌≡◌, refl, sym}
 use Prim.Native.Nat.{◌-◌, ◌*◌, ◌≤◌}
@@ -12,6 +12,3 @@ use Rattle.report.proofs.list_ids.Given as goal
 
 abbrev pub invariant-loop-i : goal.invariant-loop-i
 invariant-loop-i l = (l.i ≤ length l.ids) × ((length l.out ≡ length l.initial.out) × (l.out ≡ over l.initial.out (l.at * 2) (pairs_of l.number (take l.i l.ids))))
-
-abbrev pub decreases-loop-i : goal.decreases-loop-i
-decreases-loop-i l = length l.ids - l.i

@@ -1,4 +1,4 @@
--- `report::list_up` meets its contract. The invariant: the words of the first i entities are written from place `at` on. The measure is how many are left.
+-- `report::list_up` meets its contract. The invariant: the words of the first i entities are written from place `at` on.
 use mathlib.Core.Path.{◌≡◌, refl}
 use Prim.Native.Nat.{◌-◌, ◌*◌, ◌≤◌}
 use native.Mathlib.Omega.{arith}
@@ -8,13 +8,10 @@ use Rattle.rules.specs.Edit.{up_from}
 use Rattle.report.proofs.Laws.{pairs_of, up_none, up_step, up-end}
 use Rattle.report.proofs.list_up.Goals as goal
 
-pub number-number-requires : goal.number-number-requires
-number-number-requires c = tt
-
 pub loop-i-init : goal.loop-i-init
 loop-i-init c =
     let a = c.args in
-    (omega arith, (refl, up_none c.number-number.result a.out.now a.at a.from))
+    (omega arith, (refl, up_none c.from-number.result a.out.now a.at a.from))
 
 pub overflow_add-place : goal.overflow_add-place
 overflow_add-place c = omega arith
@@ -40,17 +37,11 @@ offset_bounds-out-place-in-loop-i c = omega arith
 pub bounds-out-place-in-loop-i : goal.bounds-out-place-in-loop-i
 bounds-out-place-in-loop-i c = simp length-set (omega arith)
 
-pub overflow_add-i : goal.overflow_add-i
-overflow_add-i c = omega arith
-
-pub loop-i-smaller : goal.loop-i-smaller
-loop-i-smaller c = omega arith
-
 pub loop-i-preserved : goal.loop-i-preserved
 loop-i-preserved c =
     let a = c.args in
     let t = c.loop-i in
-    (omega arith, (simp length-set t.invariant.1.0, up_step c.number-number.result a.out.now a.at a.from t.out t.i (omega arith) t.invariant.1.1))
+    (omega arith, (simp length-set t.invariant.1.0, up_step c.from-number.result a.out.now a.at a.from t.out t.i (omega arith) t.invariant.1.1))
 
 pub overflow_add-result : goal.overflow_add-result
 overflow_add-result c = omega arith
@@ -62,4 +53,4 @@ pub returns : goal.returns
 returns c =
     let a = c.args in
     let t = c.loop-i in
-    up-end c.number-number.result a.out.now a.at a.from a.kind t.out a.n t.i c.number-number.ensures t.invariant.0 (omega arith) t.invariant.1.1
+    (refl, (up-end c.from-number.result a.out.now a.at a.from a.kind t.out a.n t.i c.from-number.ensures t.invariant.0 (omega arith) t.invariant.1.1).1)

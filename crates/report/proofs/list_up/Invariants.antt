@@ -1,4 +1,4 @@
--- `report::list_up` meets its contract. The invariant: the words of the first i entities are written from place `at` on. The measure is how many are left.
+-- `report::list_up` meets its contract. The invariant: the words of the first i entities are written from place `at` on.
 -- Assumes nothing.
 use mathlib.Core.Path.{◌≡◌, refl}
 use Prim.Native.Nat.{◌-◌, ◌*◌, ◌≤◌}
@@ -11,6 +11,3 @@ use Rattle.report.proofs.list_up.Given as goal
 
 abbrev pub invariant-loop-i : goal.invariant-loop-i
 invariant-loop-i l = (l.i ≤ l.n) × ((length l.out ≡ length l.initial.out) × (l.out ≡ over l.initial.out (l.at * 2) (pairs_of l.number (up_from l.from l.i))))
-
-abbrev pub decreases-loop-i : goal.decreases-loop-i
-decreases-loop-i l = l.n - l.i

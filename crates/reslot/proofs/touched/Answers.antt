@@ -5,7 +5,6 @@ use native.Mathlib.Omega.{arith}
 use lib.ListN.{length, take}
 use Rattle.lists.specs.Select.{place}
 use Rattle.report.proofs.Laws.{named-front}
-use Rattle.entities.specs.Types.{neighbor_option}
 use Rattle.relink.proofs.Reported.{nothing-up}
 use Rattle.reslot.proofs.Reslot.{Named, first-named, next-named, named-few, named-up, all_named}
 use Rattle.reslot.proofs.touched.Goals as goal
@@ -35,12 +34,12 @@ one c =
 two : (c : AtAfterNamedSlotB) → Named 2 c.named_slot-b.result c.named_slot-b.new.ids
 two c =
     let p = c.before.before.before.before in
-    next-named 1 p.named-a.result c.named_slot-b.result c.named_slot-b.new.ids p.named-a.new.ids (neighbor_option c.args.old) (one p) c.named_slot-b.ensures
+    next-named 1 p.named-a.result c.named_slot-b.result c.named_slot-b.new.ids p.named-a.new.ids c.args.old (one p) c.named_slot-b.ensures
 
 three : (c : AtAfterNamedSlotC) → Named 3 c.named_slot-c.result c.named_slot-c.new.ids
 three c =
     let p = c.before.before.before.before in
-    next-named 2 p.named_slot-b.result c.named_slot-c.result c.named_slot-c.new.ids p.named_slot-b.new.ids (neighbor_option c.args.new) (two p) c.named_slot-c.ensures
+    next-named 2 p.named_slot-b.result c.named_slot-c.result c.named_slot-c.new.ids p.named_slot-b.new.ids c.args.new (two p) c.named_slot-c.ensures
 
 pub named-a-requires : goal.named-a-requires
 named-a-requires c = (omega (arith, c.requires), nothing-up)
@@ -70,5 +69,5 @@ returns c =
     let m2 = c.named_slot-b in
     let m3 = c.named_slot-c in
     let m4 = c.named_slot in
-    all_named a.skip a.lane (neighbor_option a.old) (neighbor_option a.new) (neighbor_option a.other) m1.result m2.result m3.result m4.result a.ids.now m1.new.ids m2.new.ids m3.new.ids m4.new.ids
+    all_named a.skip a.lane a.old a.new a.other m1.result m2.result m3.result m4.result a.ids.now m1.new.ids m2.new.ids m3.new.ids m4.new.ids
     c.if-skip.false (front c.before.before.before.before.before.before.before.before.before.before.before.before.before.before.before).0 m2.ensures.0 m3.ensures.0 m4.ensures

@@ -1,11 +1,10 @@
 -- `slots::free_slot` meets its contract. Assumes nothing.
+use Rattle.std.specs.Prelude.{None}
 use borrow.Author.Rules.{rules}
 use Prim.Native.Nat.{◌+◌, ◌*◌, ◌≤◌}
 use native.Mathlib.Omega.{arith}
-use mathlib.Core.Option.{none}
 use lib.ListN.{length, get_or}
 use Rattle.row_tests.proofs.Lanes.{lane_room}
-use Rattle.entities.specs.Types.{neighbor_option}
 use Rattle.reslot.proofs.Reslot.{ids_few, FreeEnds, free-ends}
 use Rattle.reslot_edits.proofs.free_slot.Goals as goal
 use Rattle.reslot_edits.proofs.free_slot.Lts as lts
@@ -51,7 +50,7 @@ pub slice_bounds-ids-end : goal.slice_bounds-ids-end
 slice_bounds-ids-end c =
     let a = c.args in
     let m = c.touched-n in
-    omega (arith, m.auto.ids, ids_few c.is_free-free.result (get_or a.lanes.now (1 + a.i * 52) 0) (neighbor_option c.neighbor-old.result) none none m.result m.ensures.1)
+    omega (arith, m.auto.ids, ids_few c.is_free-free.result (get_or a.lanes.now (1 + a.i * 52) 0) c.neighbor-old.result None None m.result m.ensures.1)
 
 pub slice_bounds-report-end : goal.slice_bounds-report-end
 slice_bounds-report-end c = (ends c.before.before).counted

@@ -1,11 +1,10 @@
 -- `slots::set_slot` meets its contract. Assumes nothing.
+use Rattle.std.specs.Prelude.{Some}
 use borrow.Author.Rules.{rules}
 use Prim.Native.Nat.{◌+◌, ◌*◌, ◌≤◌}
 use native.Mathlib.Omega.{arith}
-use mathlib.Core.Option.{some}
 use lib.ListN.{length, get_or}
 use Rattle.row_tests.proofs.Lanes.{lane_room}
-use Rattle.entities.specs.Types.{neighbor_option}
 use Rattle.reslot.proofs.Reslot.{ids_few, SetEnds, set-ends}
 use Rattle.reslot_edits.proofs.set_slot.Goals as goal
 use Rattle.reslot_edits.proofs.set_slot.Lts as lts
@@ -70,7 +69,7 @@ pub slice_bounds-ids-end : goal.slice_bounds-ids-end
 slice_bounds-ids-end c =
     let a = c.args in
     let m = c.touched-n in
-    omega (arith, m.auto.ids, ids_few c.holds-set.result (get_or a.lanes.now (1 + a.i * 52) 0) (neighbor_option c.neighbor-old.result) (some (record { lane = get_or a.lanes.now (1 + a.j * 52) 0; direction = a.direction })) (neighbor_option c.neighbor-other.result) m.result m.ensures.1)
+    omega (arith, m.auto.ids, ids_few c.holds-set.result (get_or a.lanes.now (1 + a.i * 52) 0) c.neighbor-old.result (Some (record { lane = get_or a.lanes.now (1 + a.j * 52) 0; direction = a.direction })) c.neighbor-other.result m.result m.ensures.1)
 
 pub slice_bounds-report-end : goal.slice_bounds-report-end
 slice_bounds-report-end c = (ends c.before.before).counted

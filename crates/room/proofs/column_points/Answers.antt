@@ -1,4 +1,4 @@
--- `room::column_points` meets its contract. The invariant: what is counted are the points of the rows before i. The measure is how many rows are left. Assumes nothing.
+-- `room::column_points` meets its contract. The invariant: what is counted are the points of the rows before i. Assumes nothing.
 use Prim.Native.Nat.{◌+◌, ◌-◌, ◌*◌, ◌≤◌, ◌<◌}
 use native.Mathlib.Omega.{arith}
 use lib.ListN.{length, get_or}
@@ -58,12 +58,6 @@ bounds-t-i c = omega (arith, row c.before.before, c.well_formed)
 
 pub overflow_add-points-in-loop-i-3 : goal.overflow_add-points-in-loop-i-3
 overflow_add-points-in-loop-i-3 c = omega (arith, size c.before.before, few c.before.before, c.loop-i.invariant.few)
-
-pub overflow_add-i : goal.overflow_add-i
-overflow_add-i c = omega (arith, few c.before.before)
-
-pub loop-i-smaller : goal.loop-i-smaller
-loop-i-smaller c = omega (arith, c.loop-i-test.true)
 
 pub loop-i-preserved : goal.loop-i-preserved
 loop-i-preserved c =

@@ -1,4 +1,4 @@
--- `room::column_points` meets its contract. The invariant: what is counted are the points of the rows before i. The measure is how many rows are left. Assumes nothing.
+-- `room::column_points` meets its contract. The invariant: what is counted are the points of the rows before i. Assumes nothing.
 use Prim.Native.Nat.{◌+◌, ◌-◌, ◌*◌, ◌≤◌, ◌<◌}
 use native.Mathlib.Omega.{arith}
 use lib.ListN.{length, get_or}
@@ -10,6 +10,3 @@ use Rattle.room.proofs.column_points.Given as goal
 
 abbrev pub invariant-loop-i : goal.invariant-loop-i
 invariant-loop-i l = Summed l.stride (word (l.offset + 1)) l.t 256 l.i l.points
-
-abbrev pub decreases-loop-i : goal.decreases-loop-i
-decreases-loop-i l = l.n - l.i

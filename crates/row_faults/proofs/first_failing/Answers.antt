@@ -1,9 +1,11 @@
 -- `row_faults::first_failing` meets its contract. The invariant: the first row that fails is the first from i on. The measure is how many rows are left. Assumes nothing.
-use mathlib.Core.Path.{◌≡◌, sym, ◌∙◌}
+use mathlib.Core.Bool.{not}
+use borrow.Author.Tests.{not-true, not-false}
+use mathlib.Core.Path.{◌≡◌, sym, ◌∙◌, ap}
 use Prim.Native.Nat.{◌+◌, ◌-◌, ◌≤◌}
 use native.Mathlib.Omega.{arith}
 use lib.ListN.{drop}
-use Rattle.tables.specs.View.{rows}
+use Rattle.tables.specs.View.{rows, word}
 use Rattle.row_tests.proofs.Tables.{table-some, row_room, row-length}
 use Rattle.row_faults.specs.First.{first_false}
 use Rattle.row_faults.specs.Passes.{row_passes}
@@ -40,23 +42,18 @@ slice_bounds-row_passes-end c = omega (arith, row_room c.args.limit c.args.row c
 pub row_passes-requires : goal.row_passes-requires
 row_passes-requires c = row-length c.args.limit c.args.row c.args.t.now c.requires.1 c.loop-i.i c.loop-i-test.true ∙ c.requires.0
 
-pub overflow_add-i : goal.overflow_add-i
-overflow_add-i c = omega (arith, c.shared_slice_known-1.given 0)
-
-pub loop-i-smaller : goal.loop-i-smaller
-loop-i-smaller c = omega arith
-
 pub loop-i-preserved : goal.loop-i-preserved
 loop-i-preserved c =
     let p = (row_passes c.args.clause c.args.table c.args.most c.args.coordinates.now) in
-    (omega arith, first-goes-on (rows c.args.row (row_passes c.args.clause c.args.table c.args.most c.args.coordinates.now) c.args.t.now) c.loop-i.i c.loop-i.invariant.1 (rw (tests-length c.args.row p c.args.t.now) c.loop-i-test.true) (test_at c.args.row p c.args.t.now c.loop-i.i c.loop-i-test.true ∙ (sym c.row_passes.ensures ∙ c.if-row_passes.true)))
+    (omega arith, first-goes-on (rows c.args.row (row_passes c.args.clause c.args.table c.args.most c.args.coordinates.now) c.args.t.now) c.loop-i.i c.loop-i.invariant.1 (rw (tests-length c.args.row p c.args.t.now) c.loop-i-test.true) (test_at c.args.row p c.args.t.now c.loop-i.i c.loop-i-test.true ∙ (sym c.row_passes.ensures ∙ (not-false c.row_passes.result (ap not c.if-not-row_passes.false)))))
 
-pub returns-else-row_passes : goal.returns-else-row_passes
-returns-else-row_passes c =
+pub returns-then-not-row_passes : goal.returns-then-not-row_passes
+returns-then-not-row_passes c =
     let p = (row_passes c.args.clause c.args.table c.args.most c.args.coordinates.now) in
-    first_stops (rows c.args.row (row_passes c.args.clause c.args.table c.args.most c.args.coordinates.now) c.args.t.now) c.loop-i.i c.loop-i.invariant.1 (rw (tests-length c.args.row p c.args.t.now) c.loop-i-test.true) (test_at c.args.row p c.args.t.now c.loop-i.i c.loop-i-test.true ∙ (sym c.row_passes.ensures ∙ c.if-row_passes.false))
+    first_stops (rows c.args.row (row_passes c.args.clause c.args.table c.args.most c.args.coordinates.now) c.args.t.now) c.loop-i.i c.loop-i.invariant.1 (rw (tests-length c.args.row p c.args.t.now) c.loop-i-test.true) (test_at c.args.row p c.args.t.now c.loop-i.i c.loop-i-test.true ∙ (sym c.row_passes.ensures ∙ (not-true c.row_passes.result (ap not c.if-not-row_passes.true))))
 
 pub returns : goal.returns
 returns c =
     let p = (row_passes c.args.clause c.args.table c.args.most c.args.coordinates.now) in
-    first_ends (rows c.args.row (row_passes c.args.clause c.args.table c.args.most c.args.coordinates.now) c.args.t.now) c.loop-i.i c.loop-i.invariant.1 (rw (tests-length c.args.row p c.args.t.now) c.loop-i-test.false)
+    let last : word 0 c.args.t.now ≡ c.loop-i.i = omega (arith, c.loop-i.invariant.0, c.loop-i-test.false) in
+    last ∙ first_ends (rows c.args.row (row_passes c.args.clause c.args.table c.args.most c.args.coordinates.now) c.args.t.now) c.loop-i.i c.loop-i.invariant.1 (rw (tests-length c.args.row p c.args.t.now) c.loop-i-test.false)

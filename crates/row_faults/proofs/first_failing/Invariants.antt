@@ -12,6 +12,3 @@ use Rattle.row_faults.proofs.first_failing.Given as goal
 
 abbrev pub invariant-loop-i : goal.invariant-loop-i
 invariant-loop-i l = (l.i ≤ l.n) × (first_false (rows l.row (row_passes l.clause l.table l.most l.coordinates) l.t) ≡ l.i + first_false (drop l.i (rows l.row (row_passes l.clause l.table l.most l.coordinates) l.t)))
-
-abbrev pub decreases-loop-i : goal.decreases-loop-i
-decreases-loop-i l = l.n - l.i

@@ -1,5 +1,7 @@
 -- `row_faults::first_fallen` meets its contract. The invariant: the first row that fails is the first from i on. The measure is how many rows are left. Assumes nothing.
-use mathlib.Core.Path.{◌≡◌, sym, ◌∙◌}
+use mathlib.Core.Bool.{not}
+use borrow.Author.Tests.{not-true, not-false}
+use mathlib.Core.Path.{◌≡◌, sym, ◌∙◌, ap}
 use Prim.Native.Nat.{◌+◌, ◌-◌, ◌≤◌}
 use native.Mathlib.Omega.{arith}
 use lib.ListN.{drop}
@@ -19,17 +21,13 @@ loop-i-init c = (omega arith, first-begins (rises (keys c.args.row (word 0 c.arg
 pub rises_at-requires : goal.rises_at-requires
 rises_at-requires c = (c.requires.0, (c.requires.1, c.loop-i-test.true))
 
-pub overflow_add-i : goal.overflow_add-i
-overflow_add-i c = omega (arith, c.shared_slice_known-1.given 0)
-
-pub loop-i-smaller : goal.loop-i-smaller
-loop-i-smaller c = omega arith
-
 pub loop-i-preserved : goal.loop-i-preserved
-loop-i-preserved c = (omega arith, first-goes-on (rises (keys c.args.row (word 0 c.args.t.now) (drop 1 c.args.t.now))) c.loop-i.i c.loop-i.invariant.1 (rw (ids-length c.args.row c.args.t.now c.requires.0) c.loop-i-test.true) (sym c.rises_at.ensures ∙ c.if-rises_at.true))
+loop-i-preserved c = (omega arith, first-goes-on (rises (keys c.args.row (word 0 c.args.t.now) (drop 1 c.args.t.now))) c.loop-i.i c.loop-i.invariant.1 (rw (ids-length c.args.row c.args.t.now c.requires.0) c.loop-i-test.true) (sym c.rises_at.ensures ∙ (not-false c.rises_at.result (ap not c.if-not-rises_at.false))))
 
-pub returns-else-rises_at : goal.returns-else-rises_at
-returns-else-rises_at c = first_stops (rises (keys c.args.row (word 0 c.args.t.now) (drop 1 c.args.t.now))) c.loop-i.i c.loop-i.invariant.1 (rw (ids-length c.args.row c.args.t.now c.requires.0) c.loop-i-test.true) (sym c.rises_at.ensures ∙ c.if-rises_at.false)
+pub returns-then-not-rises_at : goal.returns-then-not-rises_at
+returns-then-not-rises_at c = first_stops (rises (keys c.args.row (word 0 c.args.t.now) (drop 1 c.args.t.now))) c.loop-i.i c.loop-i.invariant.1 (rw (ids-length c.args.row c.args.t.now c.requires.0) c.loop-i-test.true) (sym c.rises_at.ensures ∙ (not-true c.rises_at.result (ap not c.if-not-rises_at.true)))
 
 pub returns : goal.returns
-returns c = first_ends (rises (keys c.args.row (word 0 c.args.t.now) (drop 1 c.args.t.now))) c.loop-i.i c.loop-i.invariant.1 (rw (ids-length c.args.row c.args.t.now c.requires.0) c.loop-i-test.false)
+returns c =
+    let last : word 0 c.args.t.now ≡ c.loop-i.i = omega (arith, c.loop-i.invariant.0, c.loop-i-test.false) in
+    last ∙ first_ends (rises (keys c.args.row (word 0 c.args.t.now) (drop 1 c.args.t.now))) c.loop-i.i c.loop-i.invariant.1 (rw (ids-length c.args.row c.args.t.now c.requires.0) c.loop-i-test.false)

@@ -12,6 +12,3 @@ use Rattle.row_faults.proofs.first_fallen.Given as goal
 
 abbrev pub invariant-loop-i : goal.invariant-loop-i
 invariant-loop-i l = (l.i ≤ l.n) × (first_false (rises (keys l.row (word 0 l.t) (drop 1 l.t))) ≡ l.i + first_false (drop l.i (rises (keys l.row (word 0 l.t) (drop 1 l.t)))))
-
-abbrev pub decreases-loop-i : goal.decreases-loop-i
-decreases-loop-i l = l.n - l.i

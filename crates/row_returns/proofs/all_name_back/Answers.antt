@@ -1,5 +1,7 @@
--- `row_returns::all_name_back` meets its contract. The invariant: every id passes where those from i on do. The measure is how many are left. Assumes nothing.
-use mathlib.Core.Path.{◌≡◌, refl, sym, ◌∙◌}
+-- `row_returns::all_name_back` meets its contract. The invariant: every id passes where those from i on do. Assumes nothing.
+use mathlib.Core.Bool.{not}
+use borrow.Author.Tests.{not-true, not-false}
+use mathlib.Core.Path.{◌≡◌, refl, sym, ◌∙◌, ap}
 use Prim.Native.Nat.{◌-◌, ◌≤◌}
 use native.Mathlib.Omega.{arith}
 use lib.ListN.{length, drop}
@@ -20,17 +22,11 @@ bounds-ids-i c = omega arith
 pub names_back-requires : goal.names_back-requires
 names_back-requires c = c.requires
 
-pub overflow_add-i : goal.overflow_add-i
-overflow_add-i c = omega arith
-
-pub loop-i-smaller : goal.loop-i-smaller
-loop-i-smaller c = omega arith
-
 pub loop-i-preserved : goal.loop-i-preserved
-loop-i-preserved c = (omega arith, c.loop-i.invariant.1 ∙ all-step (names_back c.args.t.now c.args.k c.args.id) c.args.ids.now c.loop-i.i 0 c.loop-i-test.true ∙ rw (← c.names_back.ensures, c.if-names_back.true))
+loop-i-preserved c = (omega arith, c.loop-i.invariant.1 ∙ all-step (names_back c.args.t.now c.args.k c.args.id) c.args.ids.now c.loop-i.i 0 c.loop-i-test.true ∙ rw (← c.names_back.ensures, (not-false c.names_back.result (ap not c.if-not-names_back.false))))
 
-pub returns-else-names_back : goal.returns-else-names_back
-returns-else-names_back c = sym (c.loop-i.invariant.1 ∙ all-step (names_back c.args.t.now c.args.k c.args.id) c.args.ids.now c.loop-i.i 0 c.loop-i-test.true ∙ rw (← c.names_back.ensures, c.if-names_back.false))
+pub returns-then-not-names_back : goal.returns-then-not-names_back
+returns-then-not-names_back c = sym (c.loop-i.invariant.1 ∙ all-step (names_back c.args.t.now c.args.k c.args.id) c.args.ids.now c.loop-i.i 0 c.loop-i-test.true ∙ rw (← c.names_back.ensures, (not-true c.names_back.result (ap not c.if-not-names_back.true))))
 
 pub returns : goal.returns
 returns c = sym (c.loop-i.invariant.1 ∙ all_end (names_back c.args.t.now c.args.k c.args.id) c.args.ids.now c.loop-i.i c.loop-i-test.false)

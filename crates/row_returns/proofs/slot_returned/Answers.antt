@@ -1,15 +1,15 @@
 -- `row_returns::slot_returned` meets its contract. By the three ways out: the slot is empty, its lane is absent, its lane is there. Assumes nothing.
+use Rattle.std.specs.Prelude.{Some}
 use mathlib.Core.Path.{◌≡◌, ◌∙◌}
 use Prim.Native.Nat.{◌+◌, ◌*◌, ◌≤◌}
 use native.Mathlib.Omega.{arith}
 use lib.ListN.{length, drop, get_or}
 use borrow.Author.Rules.{rules}
 use Rattle.lists.specs.Rows.{keys, row_with}
-use Rattle.lists.specs.declared.Found.TheVariants.{At}
 use Rattle.tables.specs.View.{word}
 use Rattle.row_tests.proofs.Lanes.{lanes-some, search-may, search-gives, lane-found, lane_room, slot-within, answer-within, slot-none, slot-absent, slot-there}
 use Rattle.row_returns.proofs.slot_returned.Goals as goal
-use Rattle.row_returns.proofs.slot_returned.Goals.{In-At}
+use Rattle.row_returns.proofs.slot_returned.Goals.{In-Some}
 use Rattle.row_returns.proofs.slot_returned.Lts as lts
 use Rattle.row_returns.proofs.slot_returned.Reads as reads
 use Rattle.row_returns.proofs.slot_returned.Tie as tie
@@ -28,11 +28,11 @@ slot : (c : AtStart) → c.args.k + 2 ≤ 52
 slot c = slot-within c.args.k c.requires.1.0
 
 -- the row that is found is one of the rows, and the answering slot lies in it
-at : (c : In-At) → row_with (get_or c.args.t.now (1 + c.args.i * 52 + c.args.k + 1) 0) (keys 52 (word 0 c.args.t.now) (drop 1 c.args.t.now)) ≡ At c.in-At.j
-at c = search-gives c.args.t.now c.requires.0 (get_or c.args.t.now (1 + c.args.i * 52 + c.args.k + 1) 0) c.find_row-found.result c.find_row-found.ensures ∙ c.in-At.is
+at : (c : In-Some) → row_with (get_or c.args.t.now (1 + c.args.i * 52 + c.args.k + 1) 0) (keys 52 (word 0 c.args.t.now) (drop 1 c.args.t.now)) ≡ Some c.in-Some.j
+at c = search-gives c.args.t.now c.requires.0 (get_or c.args.t.now (1 + c.args.i * 52 + c.args.k + 1) 0) c.find_row-found.result c.find_row-found.ensures ∙ c.in-Some.is
 
-there : (c : In-At) → 1 + c.in-At.j * 52 + 52 ≤ length c.args.t.now
-there c = lane_room c.args.t.now c.requires.0 c.in-At.j (lane-found c.args.t.now c.requires.0 (get_or c.args.t.now (1 + c.args.i * 52 + c.args.k + 1) 0) c.in-At.j (at c))
+there : (c : In-Some) → 1 + c.in-Some.j * 52 + 52 ≤ length c.args.t.now
+there c = lane_room c.args.t.now c.requires.0 c.in-Some.j (lane-found c.args.t.now c.requires.0 (get_or c.args.t.now (1 + c.args.i * 52 + c.args.k + 1) 0) c.in-Some.j (at c))
 
 answer : (c : AtAfterAnswerPlace) → c.answer_place.result + 2 ≤ 52
 answer c = rw c.answer_place.ensures (answer-within c.args.k (get_or c.args.t.now (1 + c.args.i * 52 + c.args.k) 0) c.requires.1.0)
@@ -89,22 +89,22 @@ pub overflow_add-answer : goal.overflow_add-answer
 overflow_add-answer c = omega (arith, there c)
 
 pub overflow_add-answer-2 : goal.overflow_add-answer-2
-overflow_add-answer-2 c = omega (arith, there (goal.at.overflow_add-answer-2 c).In-At, answer c.before)
+overflow_add-answer-2 c = omega (arith, there (goal.at.overflow_add-answer-2 c).In-Some, answer c.before)
 
 pub offset_bounds-t-answer : goal.offset_bounds-t-answer
-offset_bounds-t-answer c = omega (arith, there (goal.at.offset_bounds-t-answer c).In-At, answer c.before)
+offset_bounds-t-answer c = omega (arith, there (goal.at.offset_bounds-t-answer c).In-Some, answer c.before)
 
 pub bounds-t-answer : goal.bounds-t-answer
-bounds-t-answer c = omega (arith, there (goal.at.bounds-t-answer c).In-At, answer c.before.before)
+bounds-t-answer c = omega (arith, there (goal.at.bounds-t-answer c).In-Some, answer c.before.before)
 
 pub overflow_add-answer-3 : goal.overflow_add-answer-3
-overflow_add-answer-3 c = omega (arith, there (goal.at.overflow_add-answer-3 c).In-At, answer c.before.before)
+overflow_add-answer-3 c = omega (arith, there (goal.at.overflow_add-answer-3 c).In-Some, answer c.before.before)
 
 pub offset_bounds-t-answer-2 : goal.offset_bounds-t-answer-2
-offset_bounds-t-answer-2 c = omega (arith, there (goal.at.offset_bounds-t-answer-2 c).In-At, answer c.before.before)
+offset_bounds-t-answer-2 c = omega (arith, there (goal.at.offset_bounds-t-answer-2 c).In-Some, answer c.before.before)
 
 pub bounds-t-answer-2 : goal.bounds-t-answer-2
-bounds-t-answer-2 c = omega (arith, there (goal.at.bounds-t-answer-2 c).In-At, answer c.before.before.before)
+bounds-t-answer-2 c = omega (arith, there (goal.at.bounds-t-answer-2 c).In-Some, answer c.before.before.before)
 
 pub offset_bounds-t-at-3 : goal.offset_bounds-t-at-3
 offset_bounds-t-at-3 c = omega (arith, room c.before.before.before.before.before.before.before.before.before.before.before.before)
@@ -113,4 +113,4 @@ pub bounds-t-at-3 : goal.bounds-t-at-3
 bounds-t-at-3 c = omega (arith, room c.before.before.before.before.before.before.before.before.before.before.before.before.before)
 
 pub returns : goal.returns
-returns c = c.both.ensures ∙ slot-there c.args.t.now c.args.i c.args.k (slot c.before.before.before.before.before.before.before.before.before.before.before.before.before.before) c.if-mark-eq0.false c.in-At.j c.answer_place.result (answer c.before.before.before.before.before) (at (goal.at.returns c).In-At) c.answer_place.ensures
+returns c = c.both.ensures ∙ slot-there c.args.t.now c.args.i c.args.k (slot c.before.before.before.before.before.before.before.before.before.before.before.before.before.before) c.if-mark-eq0.false c.in-Some.j c.answer_place.result (answer c.before.before.before.before.before) (at (goal.at.returns c).In-Some) c.answer_place.ensures

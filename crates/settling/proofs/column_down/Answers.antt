@@ -105,12 +105,6 @@ overflow_add-place c =
     let l = c.loop-i in
     omega (arith, down-room (column s) a.t.now a.reach a.coordinates.now a.at (word 0 a.t.now) l.i l.coordinates l.place l.invariant.1 (line c.before.before.before.before.before.before.before.before.before.before) (next c.before.before.before.before.before.before.before.before c.if-has_line.true), s.requires.1.room, s.well_formed)
 
-pub overflow_add-i : goal.overflow_add-i
-overflow_add-i c = omega (arith, (counted-facts 4096 c.args.stride c.args.t.now c.requires.0.counts).1.0, c.loop-i-test.true)
-
-pub loop-i-smaller : goal.loop-i-smaller
-loop-i-smaller c = omega (arith, c.loop-i-test.true)
-
 pub loop-i-preserved : goal.loop-i-preserved
 loop-i-preserved c =
     let s = c.before.before.before.before.before.before.before.before in

@@ -1,5 +1,5 @@
--- `settling::column_down` meets its contract. The invariant: what becomes of the column's lines is what becomes of those of the rows from i on, from the place as it is.
--- The measure is how many rows are left. Assumes nothing.
+-- `settling::column_down` meets its contract. The invariant: what becomes of the column's lines is what becomes of those of the rows from i on, from the place
+-- as it is. Assumes nothing.
 use mathlib.Core.Path.{◌≡◌, ap, ◌∙◌}
 use mathlib.Core.Bool.{true}
 use mathlib.Core.Logic.{⊎_elim}
@@ -21,6 +21,3 @@ use Rattle.settling.proofs.column_down.Given as goal
 
 abbrev pub invariant-loop-i : goal.invariant-loop-i
 invariant-loop-i l = (l.i ≤ l.n) × Down (column_of l.stride l.offset l.marked) l.t l.reach l.initial.coordinates l.at l.n l.i l.coordinates l.place
-
-abbrev pub decreases-loop-i : goal.decreases-loop-i
-decreases-loop-i l = l.n - l.i

@@ -70,12 +70,6 @@ overflow_add-place c =
     let b = c.has_line in
     omega (arith, line-fits a.stride a.offset a.marked a.t.now a.at (word 0 a.t.now) l.i l.t l.place l.invariant.1 c.loop-i-test.true s.requires.0 s.requires.1.0 b.result b.ensures c.if-has_line.true, s.requires.1.1.1.1)
 
-pub overflow_add-i : goal.overflow_add-i
-overflow_add-i c = omega (arith, (counted-facts 4096 c.args.stride c.args.t.now c.requires.1.1.1.0).1.0, c.loop-i-test.true)
-
-pub loop-i-smaller : goal.loop-i-smaller
-loop-i-smaller c = omega (arith, c.loop-i-test.true)
-
 pub loop-i-preserved : goal.loop-i-preserved
 loop-i-preserved c =
     let s = c in

@@ -1,5 +1,5 @@
 -- `settling::column_starts` meets its contract. The invariant: what becomes of the table is what becomes of its rows from i on, from the place as it is.
--- The measure is how many rows are left. Assumes nothing.
+-- Assumes nothing.
 use mathlib.Core.Logic.{⊎_elim}
 use native.Mathlib.Omega.{arith}
 use Prim.Native.Nat.{◌+◌, ◌-◌, ◌*◌, ◌≤◌}
@@ -13,6 +13,3 @@ use Rattle.settling.proofs.column_starts.Given as goal
 
 abbrev pub invariant-loop-i : goal.invariant-loop-i
 invariant-loop-i l = (l.i ≤ l.n) × Starts (column_of l.stride l.offset l.marked) l.initial.t l.at (l.n - l.i) (1 + l.i * l.stride) l.t l.place
-
-abbrev pub decreases-loop-i : goal.decreases-loop-i
-decreases-loop-i l = l.n - l.i

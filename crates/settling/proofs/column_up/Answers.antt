@@ -1,4 +1,4 @@
--- `settling::column_up` meets its contract. The invariant: the lines of the rows from i on are at their places, which begin at the place as it is. The measure is i. Assumes nothing.
+-- `settling::column_up` meets its contract. The invariant: the lines of the rows from i on are at their places, which begin at the place as it is. Assumes nothing.
 use mathlib.Core.Path.{◌≡◌, refl, ap}
 use mathlib.Core.Bool.{true}
 use mathlib.Core.List.{List, ◌∷◌}
@@ -75,9 +75,6 @@ bounds-t-0 c = let f = counted-facts 4096 c.args.stride c.args.t.now c.requires.
 pub loop-i-init : goal.loop-i-init
 loop-i-init c = let a = c.args in (omega arith, up-begin (column_of a.stride a.offset a.marked) a.t.now a.drawn.now a.reach a.coordinates.now a.end (word 0 a.t.now))
 
-pub overflow_sub-i : goal.overflow_sub-i
-overflow_sub-i c = omega (arith, c.loop-i-test.true)
-
 pub overflow_mul-row : goal.overflow_mul-row
 overflow_mul-row c = omega (arith, room c.before, c.well_formed)
 
@@ -125,9 +122,6 @@ line_up-requires c =
       },
     )
 
-pub loop-i-smaller-then-has_line : goal.loop-i-smaller-then-has_line
-loop-i-smaller-then-has_line c = omega (arith, c.loop-i-test.true)
-
 pub loop-i-preserved-then-has_line : goal.loop-i-preserved-then-has_line
 loop-i-preserved-then-has_line c =
     let s = c.before.before.before.before.before.before.before.before.before.before.before.before.before.before.before in
@@ -136,9 +130,6 @@ loop-i-preserved-then-has_line c =
     let g = c.line_up in
     let h = c.if-has_line.true in
     (omega (arith, l.invariant.0), up-with (column s) a.t.now a.drawn.now a.reach a.coordinates.now a.end (word 0 a.t.now) l.i (l.i - 1) l.coordinates l.place l.invariant.1 (before-i c.before.before.before.before.before.before.before.before.before) (line c.before.before.before.before.before.before.before.before.before.before) (next c.before.before.before.before.before.before.before.before h) g.new.coordinates (l.place - (line c.before.before.before.before.before.before.before.before.before.before).size) g.auto.coordinates g.ensures (omega (arith, fits c.before.before.before.before.before.before.before.before h)))
-
-pub loop-i-smaller : goal.loop-i-smaller
-loop-i-smaller c = omega (arith, c.loop-i-test.true)
 
 pub loop-i-preserved : goal.loop-i-preserved
 loop-i-preserved c =

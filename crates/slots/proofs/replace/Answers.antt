@@ -27,12 +27,6 @@ offset_bounds-ids-i-then-ids-i c = omega arith
 pub bounds-ids-i-then-ids-i : goal.bounds-ids-i-then-ids-i
 bounds-ids-i-then-ids-i c = omega arith
 
-pub overflow_add-i : goal.overflow_add-i
-overflow_add-i c = omega arith
-
-pub loop-i-smaller : goal.loop-i-smaller
-loop-i-smaller c = omega arith
-
 pub loop-i-preserved : goal.loop-i-preserved
 loop-i-preserved c =
     let a = c.args in

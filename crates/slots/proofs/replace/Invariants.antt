@@ -1,5 +1,4 @@
--- `slots::replace` meets its contract. The invariant: the ids before i are replaced, and the others are as at entry.
--- The measure is how many are left. Assumes nothing.
+-- `slots::replace` meets its contract. The invariant: the ids before i are replaced, and the others are as at entry. Assumes nothing.
 use mathlib.Core.Path.{◌≡◌, refl, ap, ◌∙◌}
 use mathlib.Core.Bool.{cond}
 use mathlib.Core.Logic.{⊎_elim}
@@ -15,6 +14,3 @@ use Rattle.slots.proofs.replace.Given as goal
 
 abbrev pub invariant-loop-i : goal.invariant-loop-i
 invariant-loop-i l = (l.i ≤ length l.initial.ids) × ((length l.ids ≡ length l.initial.ids) × (l.ids ≡ map (λ x. cond (eqb x l.from) l.to x) (take l.i l.initial.ids) ++ drop l.i l.initial.ids))
-
-abbrev pub decreases-loop-i : goal.decreases-loop-i
-decreases-loop-i l = length l.initial.ids - l.i

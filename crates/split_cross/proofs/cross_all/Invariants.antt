@@ -1,11 +1,11 @@
--- `split_cross::cross_all` meets its contract. The invariant: the boundaries of the marked lanes before row j cross the cut. The measure is how
--- many rows are left. Assumes nothing.
+-- `split_cross::cross_all` meets its contract. The invariant: the boundaries of the marked lanes before row j cross the cut. Assumes nothing.
+use Rattle.std.specs.Prelude.{Ok}
 use mathlib.Core.Path.{◌≡◌, sym, ◌∙◌}
 use mathlib.Core.Logic.{⊎_elim}
 use Prim.Native.Nat.{◌-◌, ◌≤◌}
 use native.Mathlib.Omega.{arith}
 use borrow.Author.Rules.{rules}
-use Rattle.rules.specs.Edit.{yield, passed}
+use Rattle.rules.specs.Edit.{passed}
 use Rattle.tables.specs.View.{word}
 use Rattle.lookup.proofs.Laws.{sorted-room}
 use Rattle.split_plan.specs.Placing.{row_crosses, all_pass}
@@ -13,7 +13,4 @@ use Rattle.split_plan.proofs.Turns.{first_rows, cross-begins, cross-none, cross-
 use Rattle.split_cross.proofs.cross_all.Given as goal
 
 abbrev pub invariant-loop-j : goal.invariant-loop-j
-invariant-loop-j l = (l.j ≤ word 0 l.lanes) × (all_pass (row_crosses l.coordinates l.boundaries l.point) (first_rows l.seen l.lanes l.j) ≡ yield passed)
-
-abbrev pub decreases-loop-j : goal.decreases-loop-j
-decreases-loop-j l = word 0 l.lanes - l.j
+invariant-loop-j l = (l.j ≤ word 0 l.lanes) × (all_pass (row_crosses l.coordinates l.boundaries l.point) (first_rows l.seen l.lanes l.j) ≡ Ok passed)

@@ -33,12 +33,6 @@ slice_bounds-cut_row-count c = omega arith
 pub cut_row-requires : goal.cut_row-requires
 cut_row-requires c = let a = c.args in let l = c.loop-i in row-asks a.pieces.now a.m a.cut.now a.next a.centers.now a.t.now c.requires.0 c.requires.1.1 l.i c.loop-i-test.true (row_of 52 l.t l.i) (changed_row 52 (lane_cut a.pieces.now a.m a.cut.now a.next a.centers.now) a.t.now (table-room 1024 52 a.t.now c.requires.1.0) (cut_keeps a.pieces.now a.m a.cut.now a.next a.centers.now a.t.now c.requires.0 c.requires.1.1) l.t l.i l.invariant)
 
-pub overflow_add-i : goal.overflow_add-i
-overflow_add-i c = let a = c.args in let l = c.loop-i in omega (arith, c.loop-i-test.true, table-few 1024 52 a.t.now c.requires.1.0)
-
-pub loop-i-smaller : goal.loop-i-smaller
-loop-i-smaller c = omega (arith, c.loop-i-test.true)
-
 pub loop-i-preserved : goal.loop-i-preserved
 loop-i-preserved c = let a = c.args in let l = c.loop-i in changed-turn 52 (lane_cut a.pieces.now a.m a.cut.now a.next a.centers.now) a.t.now (table-room 1024 52 a.t.now c.requires.1.0) (cut_keeps a.pieces.now a.m a.cut.now a.next a.centers.now a.t.now c.requires.0 c.requires.1.1) l.t l.i l.invariant c.loop-i-test.true c.cut_row.new.row c.cut_row.ensures
 

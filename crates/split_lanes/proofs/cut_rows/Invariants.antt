@@ -11,6 +11,3 @@ use Rattle.split_lanes.proofs.cut_rows.Given as goal
 
 abbrev pub invariant-loop-i : goal.invariant-loop-i
 invariant-loop-i l = Changed 52 (lane_cut l.pieces l.m l.cut l.next l.centers) l.initial.t l.t l.i
-
-abbrev pub decreases-loop-i : goal.decreases-loop-i
-decreases-loop-i l = l.n - l.i

@@ -26,12 +26,6 @@ put_half-requires c = let a = c.args in let l = c.loop-i in halving_asks a.piece
 pub overflow_add-rank : goal.overflow_add-rank
 overflow_add-rank c = let a = c.args in let l = c.loop-i in omega (arith, halving_few a.pieces.now a.m a.cut.now a.next a.centers.now a.seen.now a.t.now c.requires l.t l.rank l.i l.invariant c.loop-i-test.true c.if-seen-i.true, c.requires.room)
 
-pub overflow_add-i : goal.overflow_add-i
-overflow_add-i c = let a = c.args in let l = c.loop-i in omega (arith, c.loop-i-test.true, table-few 1024 52 a.t.now c.requires.counts)
-
-pub loop-i-smaller : goal.loop-i-smaller
-loop-i-smaller c = omega (arith, c.loop-i-test.true)
-
 pub loop-i-preserved : goal.loop-i-preserved
 loop-i-preserved c = let a = c.args in let l = c.loop-i in ⊎_elim (λ x. halving_turn a.pieces.now a.m a.cut.now a.next a.centers.now a.seen.now a.t.now c.requires l.t l.rank l.i l.invariant c.loop-i-test.true x.if-seen-i.true c.if-seen-i.t c.if-seen-i.rank (ap length x.t-is ∙ x.put_half.auto.t) x.rank-is (x.t-is ∙ x.put_half.ensures)) (λ x. halving_skip a.pieces.now a.m a.cut.now a.next a.centers.now a.seen.now a.t.now c.requires l.t l.rank l.i l.invariant c.loop-i-test.true x.if-seen-i.false c.if-seen-i.t c.if-seen-i.rank x.t-is x.rank-is) c.if-seen-i.branch-raw
 

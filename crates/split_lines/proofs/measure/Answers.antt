@@ -1,4 +1,4 @@
--- `split_lines::measure` meets its contract. The invariant: the lines of the chosen rows before row i are measured. The measure is how many rows are left. Assumes nothing.
+-- `split_lines::measure` meets its contract. The invariant: the lines of the chosen rows before row i are measured. Assumes nothing.
 use mathlib.Core.Logic.{⊎_elim}
 use Prim.Native.Nat.{◌-◌, ◌≤◌}
 use native.Mathlib.Omega.{arith}
@@ -18,9 +18,6 @@ bounds-chosen-i c = let a = c.args in let p = c.requires in let t = c.loop-i in 
 pub overflow_mul-i : goal.overflow_mul-i
 overflow_mul-i c = let a = c.args in let p = c.requires in let t = c.loop-i in let l = c.loop-i-test.true in omega (arith, row_small a.coordinates.now a.stride a.offset a.marked a.chosen.now a.t.now p.table t.i l)
 
-pub overflow_add-i : goal.overflow_add-i
-overflow_add-i c = let a = c.args in let p = c.requires in let t = c.loop-i in let l = c.loop-i-test.true in omega (arith, row_small a.coordinates.now a.stride a.offset a.marked a.chosen.now a.t.now p.table t.i l)
-
 pub row_sizes-s-requires : goal.row_sizes-s-requires
 row_sizes-s-requires c = let a = c.args in let p = c.requires in let t = c.loop-i in let l = c.loop-i-test.true in stored_here a.coordinates.now a.stride a.offset a.marked a.chosen.now a.t.now p.table t.i l
 
@@ -29,12 +26,6 @@ put_measure-at-requires c = let a = c.args in let p = c.requires in let t = c.lo
 
 pub overflow_add-m : goal.overflow_add-m
 overflow_add-m c = let a = c.args in let p = c.requires in let t = c.loop-i in let l = c.loop-i-test.true in omega (arith, t.invariant.1.few, table-small a.coordinates.now a.stride a.offset a.marked a.chosen.now a.t.now p.table, l)
-
-pub overflow_add-i-in-loop-i : goal.overflow_add-i-in-loop-i
-overflow_add-i-in-loop-i c = let a = c.args in let p = c.requires in let t = c.loop-i in let l = c.loop-i-test.true in omega (arith, table-small a.coordinates.now a.stride a.offset a.marked a.chosen.now a.t.now p.table, l)
-
-pub loop-i-smaller : goal.loop-i-smaller
-loop-i-smaller c = omega (arith, c.loop-i-test.true)
 
 pub loop-i-preserved : goal.loop-i-preserved
 loop-i-preserved c =

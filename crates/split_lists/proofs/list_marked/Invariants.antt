@@ -1,4 +1,4 @@
--- `split_lists::list_marked` meets its contract. The invariant: the ids of the marked rows before row i are listed. The measure is how many rows are left. Assumes nothing.
+-- `split_lists::list_marked` meets its contract. The invariant: the ids of the marked rows before row i are listed. Assumes nothing.
 use mathlib.Core.Logic.{⊎_elim}
 use Prim.Native.Nat.{◌-◌}
 use native.Mathlib.Omega.{arith}
@@ -8,6 +8,3 @@ use Rattle.split_lists.proofs.list_marked.Given as goal
 
 abbrev pub invariant-loop-i : goal.invariant-loop-i
 invariant-loop-i l = Listing l.s l.marks l.t l.number l.at l.initial.out l.i l.place l.out
-
-abbrev pub decreases-loop-i : goal.decreases-loop-i
-decreases-loop-i l = l.n - l.i

@@ -12,8 +12,8 @@ returns-then-lanes-at-eq-NONE c = slot-free c.args.cut.now c.args.lanes.now c.ar
 pub find_row-found-requires : goal.find_row-found-requires
 find_row-found-requires c = (omega arith, (omega arith, rw keys-one c.requires.0))
 
-pub returns-in-At : goal.returns-in-At
-returns-in-At c = slot-cut c.args.cut.now c.args.lanes.now c.args.next c.args.second c.args.at c.if-lanes-at-eq-NONE.false c.find_row-found.result c.find_row-found.ensures (ap there c.in-At.is)
+pub returns-in-Some : goal.returns-in-Some
+returns-in-Some c = slot-cut c.args.cut.now c.args.lanes.now c.args.next c.args.second c.args.at c.if-lanes-at-eq-NONE.false c.find_row-found.result c.find_row-found.ensures (ap there c.in-Some.is)
 
-pub returns-in-Nothing : goal.returns-in-Nothing
-returns-in-Nothing c = slot-uncut c.args.cut.now c.args.lanes.now c.args.next c.args.second c.args.at c.if-lanes-at-eq-NONE.false c.find_row-found.result c.find_row-found.ensures (ap there c.in-Nothing.is)
+pub returns-in-None : goal.returns-in-None
+returns-in-None c = slot-uncut c.args.cut.now c.args.lanes.now c.args.next c.args.second c.args.at c.if-lanes-at-eq-NONE.false c.find_row-found.result c.find_row-found.ensures (ap there c.in-None.is)

@@ -1,4 +1,5 @@
--- `split_lists::warn_dropped` meets its contract. The invariant: the warnings of the marked rows before row i stand from row `from` on, and `second` is the next one's second half. The measure is how many rows are left. Assumes nothing.
+-- `split_lists::warn_dropped` meets its contract. The invariant: the warnings of the marked rows before row i stand from row `from` on, and `second` is the
+-- next one's second half. Assumes nothing.
 use mathlib.Core.Logic.{⊎_elim}
 use Prim.Native.Nat.{◌-◌}
 use native.Mathlib.Omega.{arith}
@@ -19,12 +20,6 @@ warn_row-at-requires c = (c.requires.0.ascend, (beside-room c.args.cut.now c.arg
 
 pub overflow_add-second : goal.overflow_add-second
 overflow_add-second c = omega (arith, number-below c.args.cut.now c.args.next c.args.seen.now c.args.lanes.now c.requires.0 c.loop-i.i c.loop-i.second c.loop-i.invariant.0 c.loop-i-test.true c.if-seen-i.true)
-
-pub overflow_add-i : goal.overflow_add-i
-overflow_add-i c = omega (arith, beside-few c.args.cut.now c.args.next c.args.seen.now c.args.lanes.now c.requires.0 c.loop-i.i c.loop-i.second c.loop-i.invariant.0 c.loop-i-test.true)
-
-pub loop-i-smaller : goal.loop-i-smaller
-loop-i-smaller c = omega (arith, c.loop-i-test.true)
 
 pub loop-i-preserved : goal.loop-i-preserved
 loop-i-preserved c =

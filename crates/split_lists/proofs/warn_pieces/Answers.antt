@@ -1,4 +1,4 @@
--- `split_lists::warn_pieces` meets its contract. The invariant: the warnings of the first j pieces stand in the first rows. The measure is how many pieces are left. Assumes nothing.
+-- `split_lists::warn_pieces` meets its contract. The invariant: the warnings of the first j pieces stand in the first rows. Assumes nothing.
 use Prim.Native.Nat.{◌-◌, ◌≤◌}
 use native.Mathlib.Omega.{arith}
 use Rattle.split_lists.specs.Changes.{pieces_issues}
@@ -14,12 +14,6 @@ piece_notice-requires c = piece-at c.args.m c.loop-j.j c.loop-j-test.true (omega
 
 pub note-at-requires : goal.note-at-requires
 note-at-requires c = piece-room c.args.pieces.now c.args.warnings.now c.args.m c.requires.1 c.loop-j.j c.loop-j.warnings c.loop-j.at c.loop-j.invariant.1 c.loop-j-test.true c.piece_notice.result c.piece_notice.ensures
-
-pub overflow_add-j : goal.overflow_add-j
-overflow_add-j c = omega (arith, c.loop-j-test.true)
-
-pub loop-j-smaller : goal.loop-j-smaller
-loop-j-smaller c = omega (arith, c.loop-j-test.true)
 
 pub loop-j-preserved : goal.loop-j-preserved
 loop-j-preserved c = (omega (arith, c.loop-j-test.true), piece-noted c.args.pieces.now c.args.warnings.now c.args.m c.requires.1 c.loop-j.j c.loop-j.warnings c.loop-j.at c.loop-j.invariant.1 c.loop-j-test.true c.piece_notice.result c.piece_notice.ensures c.note-at.result c.note-at.new.warnings c.note-at.ensures.0 c.note-at.ensures.1)

@@ -1,4 +1,3 @@
-use borrow.Author.Rules.{rules}
 use Rattle.split_made.proofs.Parts.{counted}
 use Rattle.split_made.specs.Made.{cutting_of}
 use Rattle.tables.specs.View.{tables_of}

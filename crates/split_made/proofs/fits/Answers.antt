@@ -1,4 +1,3 @@
-use borrow.Author.Rules.{rules}
 use Rattle.split_made.proofs.Parts.{all_fit}
 use Rattle.split_made.specs.Made.{cutting_of}
 use Rattle.tables.specs.View.{tables_of}
@@ -30,4 +29,4 @@ rules_fit-rules_fit-requires c = c.requires.rules
 
 -- src/lib.rt:85:1
 pub returns : goal.returns
-returns c = let s = c in all_fit (cutting_of s.args.drawn s.args.seen.now s.args.cut.now s.args.marks.now s.args.pieces.now s.args.lines.now s.args.centers.now) s.args.anchored.now (tables_of s.args.lanes.now s.args.boundaries.now s.args.roads.now s.args.junctions.now s.args.rules.now s.args.stop_lines.now s.args.crosswalks.now s.args.coordinates.now) c.points_after-points.result c.pieces_fit.result c.pieces_fit-2.result c.both-pieces_fit.result c.points_fit.result c.both-lines_fit.result c.lists_fit-roads_fit.result c.lists_fit-junctions_fit.result c.rules_fit-rules_fit.result c.both.result c.both-2.result c.both-3.result c.points_after-points.ensures c.pieces_fit.ensures c.pieces_fit-2.ensures c.both-pieces_fit.ensures c.points_fit.ensures c.both-lines_fit.ensures c.lists_fit-roads_fit.ensures c.lists_fit-junctions_fit.ensures c.rules_fit-rules_fit.ensures c.both.ensures c.both-2.ensures c.both-3.ensures
+returns c = let s = c in all_fit (cutting_of s.args.drawn s.args.seen.now s.args.cut.now s.args.marks.now s.args.pieces.now s.args.lines.now s.args.centers.now) s.args.anchored.now (tables_of s.args.map.lanes.now s.args.map.boundaries.now s.args.map.roads.now s.args.map.junctions.now s.args.map.rules.now s.args.map.stop_lines.now s.args.map.crosswalks.now s.args.map.coordinates.now) c.points_after-points.result c.pieces_fit.result c.pieces_fit-2.result c.both-pieces_fit.result c.points_fit.result c.both-lines_fit.result c.lists_fit-roads_fit.result c.lists_fit-junctions_fit.result c.rules_fit-rules_fit.result c.both.result c.both-2.result c.both-3.result c.points_after-points.ensures c.pieces_fit.ensures c.pieces_fit-2.ensures c.both-pieces_fit.ensures c.points_fit.ensures c.both-lines_fit.ensures c.lists_fit-roads_fit.ensures c.lists_fit-junctions_fit.ensures c.rules_fit-rules_fit.ensures c.both.ensures c.both-2.ensures c.both-3.ensures

@@ -1,4 +1,3 @@
-use borrow.Author.Rules.{rules}
 use Rattle.split_made.proofs.Parts.{measured-both}
 use Rattle.split_lines.specs.Cut.{chosen_lines}
 use Rattle.order.specs.Order.{column_of}

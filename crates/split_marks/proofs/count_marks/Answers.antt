@@ -1,4 +1,4 @@
--- `split_marks::count_marks` meets its contract. The invariant: the count is that of the marks before i. The measure is how many are left. Assumes nothing.
+-- `split_marks::count_marks` meets its contract. The invariant: the count is that of the marks before i. Assumes nothing.
 use mathlib.Core.Path.{◌≡◌, sym, ◌∙◌}
 use mathlib.Core.Logic.{⊎_elim}
 use Prim.Native.Nat.{◌-◌, ◌≤◌, ◌<◌}
@@ -16,12 +16,6 @@ bounds-marks-i c = omega arith
 
 pub overflow_add-count : goal.overflow_add-count
 overflow_add-count c = omega arith
-
-pub overflow_add-i : goal.overflow_add-i
-overflow_add-i c = omega arith
-
-pub loop-i-smaller : goal.loop-i-smaller
-loop-i-smaller c = omega arith
 
 pub loop-i-preserved : goal.loop-i-preserved
 loop-i-preserved c =

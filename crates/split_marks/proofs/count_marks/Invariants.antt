@@ -1,4 +1,4 @@
--- `split_marks::count_marks` meets its contract. The invariant: the count is that of the marks before i. The measure is how many are left. Assumes nothing.
+-- `split_marks::count_marks` meets its contract. The invariant: the count is that of the marks before i. Assumes nothing.
 use mathlib.Core.Path.{◌≡◌, sym, ◌∙◌}
 use mathlib.Core.Logic.{⊎_elim}
 use Prim.Native.Nat.{◌-◌, ◌≤◌, ◌<◌}
@@ -10,6 +10,3 @@ use Rattle.split_marks.proofs.count_marks.Given as goal
 
 abbrev pub invariant-loop-i : goal.invariant-loop-i
 invariant-loop-i l = (l.i ≤ l.n) × ((l.count ≤ l.i) × (l.count ≡ marked (take l.i l.marks)))
-
-abbrev pub decreases-loop-i : goal.decreases-loop-i
-decreases-loop-i l = l.n - l.i

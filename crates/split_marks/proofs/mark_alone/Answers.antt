@@ -1,4 +1,4 @@
--- `split_marks::mark_alone` meets its contract. The invariant: the marks before row i are written. The measure is how many rows are left. Assumes nothing.
+-- `split_marks::mark_alone` meets its contract. The invariant: the marks before row i are written. Assumes nothing.
 use mathlib.Core.Path.{◌≡◌}
 use mathlib.Core.Logic.{⊎_elim}
 use Prim.Native.Nat.{◌-◌, ◌≤◌}
@@ -38,12 +38,6 @@ overflow_add-j c = let a = c.args in let t = c.loop-i in omega (arith, t.invaria
 
 pub bounds-marks-i-else-cut-i : goal.bounds-marks-i-else-cut-i
 bounds-marks-i-else-cut-i c = let a = c.args in let t = c.loop-i in omega (arith, t.invariant.1.same)
-
-pub overflow_add-i : goal.overflow_add-i
-overflow_add-i c = omega arith
-
-pub loop-i-smaller : goal.loop-i-smaller
-loop-i-smaller c = omega arith
 
 pub loop-i-preserved : goal.loop-i-preserved
 loop-i-preserved c =

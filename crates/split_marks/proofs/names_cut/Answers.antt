@@ -1,4 +1,4 @@
--- `split_marks::names_cut` meets its contract. The invariant: the list names a cut lane if those from i on do. The measure is how many are left. Assumes nothing.
+-- `split_marks::names_cut` meets its contract. The invariant: the list names a cut lane if those from i on do. Assumes nothing.
 use mathlib.Core.Path.{◌≡◌, refl, sym, ◌∙◌}
 use Prim.Native.Nat.{◌-◌, ◌≤◌}
 use native.Mathlib.Omega.{arith}
@@ -21,17 +21,11 @@ bounds-ids-i c = omega arith
 pub rank-found-requires : goal.rank-found-requires
 rank-found-requires c = rw keys-one c.requires.1
 
-pub returns-in-At : goal.returns-in-At
-returns-in-At c = let a = c.args in let t = c.loop-i in sym (t.invariant.1 ∙ names-found a.cut.now a.ids.now a.n c.requires.0 t.i c.loop-i-test.true c.rank-found.result c.rank-found.ensures c.in-At.field-0 c.in-At.is)
-
-pub overflow_add-i : goal.overflow_add-i
-overflow_add-i c = omega arith
-
-pub loop-i-smaller : goal.loop-i-smaller
-loop-i-smaller c = omega arith
+pub returns-in-Some : goal.returns-in-Some
+returns-in-Some c = let a = c.args in let t = c.loop-i in sym (t.invariant.1 ∙ names-found a.cut.now a.ids.now a.n c.requires.0 t.i c.loop-i-test.true c.rank-found.result c.rank-found.ensures c.in-Some.field-0 c.in-Some.is)
 
 pub loop-i-preserved : goal.loop-i-preserved
-loop-i-preserved c = let a = c.args in let t = c.loop-i in (omega arith, t.invariant.1 ∙ names-other a.cut.now a.ids.now a.n c.requires.0 t.i c.loop-i-test.true c.rank-found.result c.rank-found.ensures c.in-Nothing.is)
+loop-i-preserved c = let a = c.args in let t = c.loop-i in (omega arith, t.invariant.1 ∙ names-other a.cut.now a.ids.now a.n c.requires.0 t.i c.loop-i-test.true c.rank-found.result c.rank-found.ensures c.in-None.is)
 
 pub returns : goal.returns
 returns c = let a = c.args in let t = c.loop-i in sym (t.invariant.1 ∙ names-end a.cut.now a.ids.now a.n c.requires.0 t.i c.loop-i-test.false)

@@ -1,4 +1,4 @@
--- `split_marks::names_cut` meets its contract. The invariant: the list names a cut lane if those from i on do. The measure is how many are left. Assumes nothing.
+-- `split_marks::names_cut` meets its contract. The invariant: the list names a cut lane if those from i on do. Assumes nothing.
 use mathlib.Core.Path.{◌≡◌, refl, sym, ◌∙◌}
 use Prim.Native.Nat.{◌-◌, ◌≤◌}
 use native.Mathlib.Omega.{arith}
@@ -11,6 +11,3 @@ use Rattle.split_marks.proofs.names_cut.Given as goal
 
 abbrev pub invariant-loop-i : goal.invariant-loop-i
 invariant-loop-i l = (l.i ≤ l.n) × (any (λ k. has k l.cut) (take l.n l.ids) ≡ any (λ k. has k l.cut) (drop l.i (take l.n l.ids)))
-
-abbrev pub decreases-loop-i : goal.decreases-loop-i
-decreases-loop-i l = l.n - l.i

@@ -1,4 +1,4 @@
--- `split_pieces::count_ids` meets its contract. The invariant: the ids of the marked boundaries before row x are counted. The measure is how
+-- `split_pieces::count_ids` meets its contract. The invariant: the ids of the marked boundaries before row x are counted.
 use mathlib.Core.Logic.{⊎_elim}
 use Prim.Native.Nat.{◌-◌, ◌≤◌}
 use native.Mathlib.Omega.{arith}
@@ -39,12 +39,6 @@ overflow_add-ids c =
     let t = c.loop-x in
     let f = count-one a.seen.now a.lanes.now a.boundaries.now a.marks.now t.x t.ids t.invariant.1 c.loop-x-test.true c.requires.0.1.1 c.if-marks-x.true c.ids_for-ids.result c.ids_for-ids.ensures in
     omega (arith, f.few, c.loop-x-test.true, sorted-few 4096 5 a.boundaries.now c.requires.0.1.0)
-
-pub overflow_add-x-in-loop-x : goal.overflow_add-x-in-loop-x
-overflow_add-x-in-loop-x c = omega (arith, c.loop-x-test.true, sorted-few 4096 5 c.args.boundaries.now c.requires.0.1.0)
-
-pub loop-x-smaller : goal.loop-x-smaller
-loop-x-smaller c = omega (arith, c.loop-x-test.true)
 
 pub loop-x-preserved : goal.loop-x-preserved
 loop-x-preserved c =

@@ -1,5 +1,4 @@
--- `split_pieces::count_ids` meets its contract. The invariant: the ids of the marked boundaries before row x are counted. The measure is how
--- many rows are left. Assumes nothing.
+-- `split_pieces::count_ids` meets its contract. The invariant: the ids of the marked boundaries before row x are counted. Assumes nothing.
 use mathlib.Core.Logic.{⊎_elim}
 use Prim.Native.Nat.{◌-◌, ◌≤◌}
 use native.Mathlib.Omega.{arith}
@@ -10,6 +9,3 @@ use Rattle.split_pieces.proofs.count_ids.Given as goal
 
 abbrev pub invariant-loop-x : goal.invariant-loop-x
 invariant-loop-x l = (l.x ≤ word 0 l.boundaries) × Counted l.seen l.lanes l.boundaries l.marks l.x l.ids
-
-abbrev pub decreases-loop-x : goal.decreases-loop-x
-decreases-loop-x l = word 0 l.boundaries - l.x

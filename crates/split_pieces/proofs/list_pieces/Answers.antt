@@ -1,4 +1,4 @@
--- `split_pieces::list_pieces` meets its contract. The invariant: the pieces of the marked boundaries before row x are written. The measure is how
+-- `split_pieces::list_pieces` meets its contract. The invariant: the pieces of the marked boundaries before row x are written.
 use mathlib.Core.Logic.{⊎_elim}
 use Prim.Native.Nat.{◌-◌, ◌≤◌}
 use native.Mathlib.Omega.{arith}
@@ -45,12 +45,6 @@ put_piece-id-requires c =
 
 pub overflow_add-m : goal.overflow_add-m
 overflow_add-m c = omega (arith, c.loop-x.invariant.1.few, c.loop-x-test.true, sorted-few 4096 5 c.args.boundaries.now c.requires.0.0.1.0)
-
-pub overflow_add-x : goal.overflow_add-x
-overflow_add-x c = omega (arith, c.loop-x-test.true, sorted-few 4096 5 c.args.boundaries.now c.requires.0.0.1.0)
-
-pub loop-x-smaller : goal.loop-x-smaller
-loop-x-smaller c = omega (arith, c.loop-x-test.true)
 
 pub loop-x-preserved : goal.loop-x-preserved
 loop-x-preserved c =

@@ -1,5 +1,4 @@
--- `split_pieces::list_pieces` meets its contract. The invariant: the pieces of the marked boundaries before row x are written. The measure is how
--- many rows are left. Assumes nothing.
+-- `split_pieces::list_pieces` meets its contract. The invariant: the pieces of the marked boundaries before row x are written. Assumes nothing.
 use mathlib.Core.Logic.{⊎_elim}
 use Prim.Native.Nat.{◌-◌, ◌≤◌}
 use native.Mathlib.Omega.{arith}
@@ -10,6 +9,3 @@ use Rattle.split_pieces.proofs.list_pieces.Given as goal
 
 abbrev pub invariant-loop-x : goal.invariant-loop-x
 invariant-loop-x l = (l.x ≤ word 0 l.boundaries) × Listed l.seen l.lanes l.boundaries l.marks l.next l.initial.pieces l.x l.m l.id l.pieces
-
-abbrev pub decreases-loop-x : goal.decreases-loop-x
-decreases-loop-x l = word 0 l.boundaries - l.x

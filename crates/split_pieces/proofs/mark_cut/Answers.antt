@@ -1,4 +1,4 @@
--- `split_pieces::mark_cut` meets its contract. The invariant: the boundaries of the marked lanes before row j are marked. The measure is how
+-- `split_pieces::mark_cut` meets its contract. The invariant: the boundaries of the marked lanes before row j are marked.
 use mathlib.Core.Path.{◌≡◌, refl, ap, ◌∙◌}
 use mathlib.Core.Logic.{⊎_elim}
 use Prim.Native.Nat.{◌-◌, ◌≤◌}
@@ -33,12 +33,6 @@ mark_side-requires-then-seen-j c =
     let t = c.loop-j in
     let e = side-length a.lanes.now t.j Left a.boundaries.now t.marks c.mark_side.new.marks c.mark_side.ensures in
     ((u.0, (u.1.0, omega (arith, u.1.1, t.invariant.1.0, e))), c.loop-j-test.true)
-
-pub overflow_add-j : goal.overflow_add-j
-overflow_add-j c = omega (arith, c.loop-j-test.true, sorted-few 1024 52 c.args.lanes.now c.requires.0.0)
-
-pub loop-j-smaller : goal.loop-j-smaller
-loop-j-smaller c = omega (arith, c.loop-j-test.true)
 
 pub loop-j-preserved : goal.loop-j-preserved
 loop-j-preserved c =

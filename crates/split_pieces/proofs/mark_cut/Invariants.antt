@@ -1,5 +1,4 @@
--- `split_pieces::mark_cut` meets its contract. The invariant: the boundaries of the marked lanes before row j are marked. The measure is how
--- many rows are left. Assumes nothing.
+-- `split_pieces::mark_cut` meets its contract. The invariant: the boundaries of the marked lanes before row j are marked. Assumes nothing.
 use mathlib.Core.Path.{◌≡◌, refl, ap, ◌∙◌}
 use mathlib.Core.Logic.{⊎_elim}
 use Prim.Native.Nat.{◌-◌, ◌≤◌}
@@ -13,6 +12,3 @@ use Rattle.split_pieces.proofs.mark_cut.Given as goal
 
 abbrev pub invariant-loop-j : goal.invariant-loop-j
 invariant-loop-j l = (l.j ≤ word 0 l.lanes) × ((length l.marks ≡ length l.initial.marks) × Marked l.seen l.lanes l.boundaries l.initial.marks l.marks l.j)
-
-abbrev pub decreases-loop-j : goal.decreases-loop-j
-decreases-loop-j l = word 0 l.lanes - l.j

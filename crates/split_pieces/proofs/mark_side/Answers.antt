@@ -6,14 +6,14 @@ use Rattle.split_pieces.proofs.mark_side.Goals as goal
 pub bounds-marks-x : goal.bounds-marks-x
 bounds-marks-x c =
     let u = c.args in
-    side-room u.lanes.now u.j u.side u.boundaries.now u.marks.now c.boundary_ref-id.result c.boundary_ref-id.ensures c.boundary-found.result c.boundary-found.ensures c.requires.0.1.1 c.in-At.x c.in-At.is
+    side-room u.lanes.now u.j u.side u.boundaries.now u.marks.now c.boundary_ref-id.result c.boundary_ref-id.ensures c.boundary-found.result c.boundary-found.ensures c.requires.0.1.1 c.in-Some.x c.in-Some.is
 
-pub returns-in-At : goal.returns-in-At
-returns-in-At c =
+pub returns-in-Some : goal.returns-in-Some
+returns-in-Some c =
     let u = c.args in
-    side-found u.lanes.now u.j u.side u.boundaries.now u.marks.now c.boundary_ref-id.result c.boundary_ref-id.ensures c.boundary-found.result c.boundary-found.ensures c.in-At.x c.in-At.is
+    side-found u.lanes.now u.j u.side u.boundaries.now u.marks.now c.boundary_ref-id.result c.boundary_ref-id.ensures c.boundary-found.result c.boundary-found.ensures c.in-Some.x c.in-Some.is
 
-pub returns-in-Nothing : goal.returns-in-Nothing
-returns-in-Nothing c =
+pub returns-in-None : goal.returns-in-None
+returns-in-None c =
     let u = c.args in
-    side-none u.lanes.now u.j u.side u.boundaries.now u.marks.now c.boundary_ref-id.result c.boundary_ref-id.ensures c.boundary-found.result c.boundary-found.ensures c.in-Nothing.is
+    side-none u.lanes.now u.j u.side u.boundaries.now u.marks.now c.boundary_ref-id.result c.boundary_ref-id.ensures c.boundary-found.result c.boundary-found.ensures c.in-None.is

@@ -1,4 +1,4 @@
--- `split_pieces::used_beyond` meets its contract. The invariant: no lane before row j that is not marked uses the boundary. The measure is how
+-- `split_pieces::used_beyond` meets its contract. The invariant: no lane before row j that is not marked uses the boundary.
 use mathlib.Core.Bool.{not}
 use mathlib.Core.Path.{ap}
 use mathlib.Core.Logic.{⊎_elim}
@@ -23,12 +23,6 @@ row_uses-requires c = (c.requires.0, c.loop-j-test.true)
 
 pub returns-then-row_uses : goal.returns-then-row_uses
 returns-then-row_uses c = beyond-stops c.args.seen.now c.args.lanes.now c.args.id c.loop-j.j c.loop-j.invariant.1 c.loop-j-test.true c.requires.1 (ap not c.if-not-seen-j.true) c.row_uses.result c.row_uses.ensures c.if-row_uses.true
-
-pub overflow_add-j : goal.overflow_add-j
-overflow_add-j c = omega (arith, c.loop-j-test.true, sorted-few 1024 52 c.args.lanes.now c.requires.0)
-
-pub loop-j-smaller : goal.loop-j-smaller
-loop-j-smaller c = omega (arith, c.loop-j-test.true)
 
 pub loop-j-preserved : goal.loop-j-preserved
 loop-j-preserved c =

@@ -1,5 +1,4 @@
--- `split_pieces::used_beyond` meets its contract. The invariant: no lane before row j that is not marked uses the boundary. The measure is how
--- many rows are left. Assumes nothing.
+-- `split_pieces::used_beyond` meets its contract. The invariant: no lane before row j that is not marked uses the boundary. Assumes nothing.
 use mathlib.Core.Logic.{⊎_elim}
 use Prim.Native.Nat.{◌-◌, ◌≤◌}
 use native.Mathlib.Omega.{arith}
@@ -10,6 +9,3 @@ use Rattle.split_pieces.proofs.used_beyond.Given as goal
 
 abbrev pub invariant-loop-j : goal.invariant-loop-j
 invariant-loop-j l = (l.j ≤ word 0 l.lanes) × Unused l.seen l.lanes l.id l.j
-
-abbrev pub decreases-loop-j : goal.decreases-loop-j
-decreases-loop-j l = word 0 l.lanes - l.j

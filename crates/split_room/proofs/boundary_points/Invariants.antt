@@ -1,4 +1,5 @@
--- `split_room::boundary_points` meets its contract. The invariant: the points of the boundaries before number i, of which j are marked, and of those from there on are the whole. The measure is how many are left. Assumes nothing.
+-- `split_room::boundary_points` meets its contract. The invariant: the points of the boundaries before number i, of which j are marked, and of those from there
+-- on are the whole. Assumes nothing.
 use mathlib.Core.Logic.{⊎_elim}
 use Prim.Native.Nat.{◌+◌, ◌*◌, ◌-◌, ◌≤◌}
 use native.Mathlib.Omega.{arith}
@@ -7,6 +8,3 @@ use Rattle.split_room.proofs.boundary_points.Given as goal
 
 abbrev pub invariant-loop-i : goal.invariant-loop-i
 invariant-loop-i l = Bounds l.pieces l.lines l.marks l.boundaries l.i l.j l.points
-
-abbrev pub decreases-loop-i : goal.decreases-loop-i
-decreases-loop-i l = l.n - l.i

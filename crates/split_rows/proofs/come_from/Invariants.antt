@@ -13,6 +13,3 @@ use Rattle.split_rows.proofs.come_from.Given as goal
 
 abbrev pub invariant-loop-i : goal.invariant-loop-i
 invariant-loop-i l = (Coming l.cut l.next l.initial.row l.initial.seconds l.row l.seconds l.left l.came l.i) × (l.n ≡ word 18 l.initial.row)
-
-abbrev pub decreases-loop-i : goal.decreases-loop-i
-decreases-loop-i l = l.n - l.i

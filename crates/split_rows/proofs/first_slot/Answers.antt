@@ -10,10 +10,10 @@ pub find_row-found-requires : goal.find_row-found-requires
 find_row-found-requires c = cut-asks c.args.cut.now c.args.next c.requires.0
 
 pub overflow_add-row : goal.overflow_add-row
-overflow_add-row c = record { fits = second_fits c.args.cut.now c.args.next c.requires.0 _ c.find_row-found.result c.find_row-found.ensures c.in-At.r c.in-At.is }
+overflow_add-row c = record { fits = second_fits c.args.cut.now c.args.next c.requires.0 _ c.find_row-found.result c.find_row-found.ensures c.in-Some.r c.in-Some.is }
 
-pub returns-in-At : goal.returns-in-At
-returns-in-At c = let a = c.args in first_found a.row.now a.k a.cut.now a.next c.requires.1.0 c.if-row-k-ne-OPPOSITE.false c.find_row-found.result c.find_row-found.ensures c.in-At.r c.in-At.is
+pub returns-in-Some : goal.returns-in-Some
+returns-in-Some c = let a = c.args in first_found a.row.now a.k a.cut.now a.next c.requires.1.0 c.if-row-k-ne-OPPOSITE.false c.find_row-found.result c.find_row-found.ensures c.in-Some.r c.in-Some.is
 
-pub returns-in-Nothing : goal.returns-in-Nothing
-returns-in-Nothing c = let a = c.args in first_absent a.row.now a.k a.cut.now a.next c.requires.1.0 c.if-row-k-ne-OPPOSITE.false c.find_row-found.result c.find_row-found.ensures c.in-Nothing.is
+pub returns-in-None : goal.returns-in-None
+returns-in-None c = let a = c.args in first_absent a.row.now a.k a.cut.now a.next c.requires.1.0 c.if-row-k-ne-OPPOSITE.false c.find_row-found.result c.find_row-found.ensures c.in-None.is

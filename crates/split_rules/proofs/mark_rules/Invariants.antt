@@ -1,4 +1,4 @@
--- `split_rules::mark_rules` meets its contract. The invariant: the first i rules are marked. The measure is how many are left. Assumes nothing.
+-- `split_rules::mark_rules` meets its contract. The invariant: the first i rules are marked. Assumes nothing.
 use Prim.Native.Nat.{◌-◌}
 use native.Mathlib.Omega.{arith}
 use Rattle.tables.specs.View.{word}
@@ -7,6 +7,3 @@ use Rattle.split_rules.proofs.mark_rules.Given as goal
 
 abbrev pub invariant-loop-i : goal.invariant-loop-i
 invariant-loop-i l = Done l.join l.coordinates l.lanes l.boundaries l.point l.cut l.stations l.rules l.stop_lines l.crosswalks l.initial.anchored l.initial.past l.i l.anchored l.past
-
-abbrev pub decreases-loop-i : goal.decreases-loop-i
-decreases-loop-i l = word 0 l.rules - l.i

@@ -1,4 +1,4 @@
--- `split_stations::plan_lanes` meets its contract. The invariant: each marked lane before row j has a station, and ids and stations are written. The
+-- `split_stations::plan_lanes` meets its contract. The invariant: each marked lane before row j has a station, and ids and stations are written.
 use mathlib.Core.Path.{◌≡◌, refl, sym, ap, ◌∙◌}
 use mathlib.Core.Logic.{⊎_elim}
 use Prim.Native.Nat.{◌-◌, ◌≤◌, ◌<◌}
@@ -21,17 +21,19 @@ loop-j-init c = (omega arith, (omega arith, (refl, (refl, written_none (row_stat
 pub bounds-seen-j : goal.bounds-seen-j
 bounds-seen-j c = omega arith
 
-pub lane_station-planned-requires : goal.lane_station-planned-requires
-lane_station-planned-requires c = (c.requires.0, c.loop-j-test.true)
+pub lane_station-requires : goal.lane_station-requires
+lane_station-requires c = (c.requires.0, c.loop-j-test.true)
 
-pub shape_of-cut-in-Refused : goal.shape_of-cut-in-Refused
-shape_of-cut-in-Refused c = c.loop-j.invariant.1.1.0
+pub shape_of-cut-in_err-station : goal.shape_of-cut-in_err-station
+shape_of-cut-in_err-station c = c.loop-j.invariant.1.1.0
 
-pub shape_of-stations-in-Refused : goal.shape_of-stations-in-Refused
-shape_of-stations-in-Refused c = c.loop-j.invariant.1.1.1.0
+pub shape_of-stations-in_err-station : goal.shape_of-stations-in_err-station
+shape_of-stations-in_err-station c = c.loop-j.invariant.1.1.1.0
 
-pub returns-in-Refused : goal.returns-in-Refused
-returns-in-Refused c = turn-stops (row_station c.args.piece c.args.coordinates.now c.args.boundaries.now c.args.own c.args.place) c.args.seen.now c.args.lanes.now c.args.cut.now c.args.stations.now c.loop-j.cut c.loop-j.stations c.loop-j.count c.loop-j.j c.loop-j.invariant.1.1.1.1 c.loop-j-test.true c.requires.1.0 c.if-seen-j.true c.in-Refused.refusal (refused-told (row_station c.args.piece c.args.coordinates.now c.args.boundaries.now c.args.own c.args.place (row_at 52 c.args.lanes.now c.loop-j.j)) c.in-Refused.refusal (sym c.in-Refused.is ∙ c.lane_station-planned.ensures))
+pub returns-in_err-station : goal.returns-in_err-station
+returns-in_err-station c =
+    let stops = turn-stops (row_station c.args.piece c.args.coordinates.now c.args.boundaries.now c.args.own c.args.place) c.args.seen.now c.args.lanes.now c.args.cut.now c.args.stations.now c.loop-j.cut c.loop-j.stations c.loop-j.count c.loop-j.j c.loop-j.invariant.1.1.1.1 c.loop-j-test.true c.requires.1.0 c.if-seen-j.true _ (refused-told (row_station c.args.piece c.args.coordinates.now c.args.boundaries.now c.args.own c.args.place (row_at 52 c.args.lanes.now c.loop-j.j)) _ (sym c.in_err-station.was ∙ c.lane_station.ensures)) in
+    search rules
 
 pub overflow_mul-cut : goal.overflow_mul-cut
 overflow_mul-cut c = omega (arith, sorted-row 1024 52 c.args.lanes.now c.requires.0.lanes_are_sorted c.loop-j.j c.loop-j-test.true)
@@ -60,19 +62,13 @@ bounds-stations-count c = omega arith
 pub overflow_add-count : goal.overflow_add-count
 overflow_add-count c = omega arith
 
-pub overflow_add-j : goal.overflow_add-j
-overflow_add-j c = omega arith
-
-pub loop-j-smaller : goal.loop-j-smaller
-loop-j-smaller c = omega arith
-
 pub loop-j-preserved : goal.loop-j-preserved
 loop-j-preserved c =
     ⊎_elim
     (λ s.
     let d : c.loop-j.count < length c.args.cut.now = omega arith in
     let e : c.loop-j.count < length c.args.stations.now = omega arith in
-    let w = turn_one (row_station c.args.piece c.args.coordinates.now c.args.boundaries.now c.args.own c.args.place) c.args.seen.now c.args.lanes.now c.args.cut.now c.args.stations.now c.loop-j.cut c.loop-j.stations c.loop-j.count c.loop-j.j c.loop-j.invariant.1.1.1.1 c.loop-j-test.true c.requires.1.0 s.if-seen-j.true d e s.in-At.station (at_told (row_station c.args.piece c.args.coordinates.now c.args.boundaries.now c.args.own c.args.place (row_at 52 c.args.lanes.now c.loop-j.j)) s.in-At.station (sym s.in-At.is ∙ s.lane_station-planned.ensures)) in
+    let w = turn_one (row_station c.args.piece c.args.coordinates.now c.args.boundaries.now c.args.own c.args.place) c.args.seen.now c.args.lanes.now c.args.cut.now c.args.stations.now c.loop-j.cut c.loop-j.stations c.loop-j.count c.loop-j.j c.loop-j.invariant.1.1.1.1 c.loop-j-test.true c.requires.1.0 s.if-seen-j.true d e _ (at_told (row_station c.args.piece c.args.coordinates.now c.args.boundaries.now c.args.own c.args.place (row_at 52 c.args.lanes.now c.loop-j.j)) _ (sym s.in_ok-station.was ∙ s.lane_station.ensures)) in
     (omega arith, (omega arith, (ap length s.cut-is ∙ simp length-set c.loop-j.invariant.1.1.0, (ap length s.stations-is ∙ simp length-set c.loop-j.invariant.1.1.1.0, rw (s.cut-is, s.stations-is, s.count-is) w)))))
     (λ s.
     let w = turn-none (row_station c.args.piece c.args.coordinates.now c.args.boundaries.now c.args.own c.args.place) c.args.seen.now c.args.lanes.now c.args.cut.now c.args.stations.now c.loop-j.cut c.loop-j.stations c.loop-j.count c.loop-j.j c.loop-j.invariant.1.1.1.1 c.loop-j-test.true c.requires.1.0 s.if-seen-j.false in

@@ -1,5 +1,5 @@
--- `split_stations::plan_lanes` meets its contract. The invariant: each marked lane before row j has a station, and ids and stations are written. The
--- measure is how many rows are left. Assumes nothing.
+-- `split_stations::plan_lanes` meets its contract. The invariant: each marked lane before row j has a station, and ids and stations are written. Assumes
+-- nothing.
 use mathlib.Core.Path.{◌≡◌, refl, sym, ap, ◌∙◌}
 use mathlib.Core.Logic.{⊎_elim}
 use Prim.Native.Nat.{◌-◌, ◌≤◌, ◌<◌}
@@ -15,6 +15,3 @@ use Rattle.split_stations.proofs.plan_lanes.Given as goal
 
 abbrev pub invariant-loop-j : goal.invariant-loop-j
 invariant-loop-j l = (l.j ≤ word 0 l.lanes) × ((l.count ≤ l.j) × ((length l.cut ≡ length l.initial.cut) × ((length l.stations ≡ length l.initial.stations) × Written (row_station l.piece l.coordinates l.boundaries l.own l.place) l.seen l.lanes l.initial.cut l.initial.stations l.cut l.stations l.count l.j)))
-
-abbrev pub decreases-loop-j : goal.decreases-loop-j
-decreases-loop-j l = word 0 l.lanes - l.j

@@ -23,12 +23,6 @@ add_row-requires c = let a = c.args in let l = c.loop-x in added-asks a.pieces.n
 pub overflow_add-j : goal.overflow_add-j
 overflow_add-j c = let a = c.args in let l = c.loop-x in omega (arith, added-few a.pieces.now a.m a.lines.now a.marks.now a.t.now c.requires l.t l.j l.x l.invariant c.loop-x-test.true c.if-marks-x.true, c.requires.pieces_room)
 
-pub overflow_add-x : goal.overflow_add-x
-overflow_add-x c = let a = c.args in let l = c.loop-x in omega (arith, c.loop-x-test.true, table-few 4096 5 a.t.now c.requires.counts)
-
-pub loop-x-smaller : goal.loop-x-smaller
-loop-x-smaller c = omega (arith, c.loop-x-test.true)
-
 pub loop-x-preserved : goal.loop-x-preserved
 loop-x-preserved c = let a = c.args in let l = c.loop-x in ⊎_elim (λ x. added-turn a.pieces.now a.m a.lines.now a.marks.now a.t.now c.requires l.t l.j l.x l.invariant c.loop-x-test.true x.if-marks-x.true c.if-marks-x.t c.if-marks-x.j (ap length x.t-is ∙ x.add_row.auto.t) x.j-is (x.t-is ∙ x.add_row.ensures)) (λ x. added-skip a.pieces.now a.m a.lines.now a.marks.now a.t.now c.requires l.t l.j l.x l.invariant c.loop-x-test.true x.if-marks-x.false c.if-marks-x.t c.if-marks-x.j x.t-is x.j-is) c.if-marks-x.branch-raw
 

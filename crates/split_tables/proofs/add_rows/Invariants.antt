@@ -10,6 +10,3 @@ use Rattle.split_tables.proofs.add_rows.Given as goal
 
 abbrev pub invariant-loop-x : goal.invariant-loop-x
 invariant-loop-x l = Added l.pieces l.lines l.marks l.initial.t l.t l.j l.x
-
-abbrev pub decreases-loop-x : goal.decreases-loop-x
-decreases-loop-x l = l.n - l.x

@@ -36,12 +36,6 @@ slice_bounds-point_row-count c = omega arith
 pub point_row-requires : goal.point_row-requires
 point_row-requires c = let a = c.args in (ap length (changed_row 5 (pointed_piece a.pieces.now a.m a.lines.now) a.t.now (table-room 4096 5 a.t.now c.requires.0) (point-keeps a.t.now a.pieces.now a.m a.lines.now (table-room 4096 5 a.t.now c.requires.0)) c.loop-i.t c.loop-i.i c.loop-i.invariant) ∙ row-long 5 a.t.now c.loop-i.i (table-room 4096 5 a.t.now c.requires.0) c.loop-i-test.true, c.requires.1)
 
-pub overflow_add-i : goal.overflow_add-i
-overflow_add-i c = let a = c.args in omega (arith, c.loop-i-test.true, table-few 4096 5 a.t.now c.requires.0)
-
-pub loop-i-smaller : goal.loop-i-smaller
-loop-i-smaller c = omega (arith, c.loop-i-test.true)
-
 pub loop-i-preserved : goal.loop-i-preserved
 loop-i-preserved c = let a = c.args in changed-turn 5 (pointed_piece a.pieces.now a.m a.lines.now) a.t.now (table-room 4096 5 a.t.now c.requires.0) (point-keeps a.t.now a.pieces.now a.m a.lines.now (table-room 4096 5 a.t.now c.requires.0)) c.loop-i.t c.loop-i.i c.loop-i.invariant c.loop-i-test.true c.point_row.new.row c.point_row.ensures
 

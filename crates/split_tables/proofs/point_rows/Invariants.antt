@@ -14,6 +14,3 @@ use Rattle.split_tables.proofs.point_rows.Given as goal
 
 abbrev pub invariant-loop-i : goal.invariant-loop-i
 invariant-loop-i l = Changed 5 (pointed_piece l.pieces l.m l.lines) l.initial.t l.t l.i
-
-abbrev pub decreases-loop-i : goal.decreases-loop-i
-decreases-loop-i l = l.n - l.i

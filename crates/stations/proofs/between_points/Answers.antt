@@ -24,12 +24,6 @@ point-q-requires c = omega (arith, c.count-n.ensures, c.loop-i-test.true)
 pub overflow_add-found : goal.overflow_add-found
 overflow_add-found c = omega (arith, c.count-n.type_inv, c.loop-i-test.true, c.loop-i.invariant.1.0)
 
-pub overflow_add-i : goal.overflow_add-i
-overflow_add-i c = omega (arith, c.count-n.type_inv, c.loop-i-test.true)
-
-pub loop-i-smaller : goal.loop-i-smaller
-loop-i-smaller c = omega (arith, c.loop-i-test.true)
-
 pub loop-i-preserved : goal.loop-i-preserved
 loop-i-preserved c =
     let ps = points c.args.line.now in

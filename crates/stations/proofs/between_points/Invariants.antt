@@ -11,6 +11,3 @@ use Rattle.stations.proofs.between_points.Given as goal
 
 abbrev pub invariant-loop-i : goal.invariant-loop-i
 invariant-loop-i l = (l.i ≤ l.n) × ((l.found < l.i) × (length (between l.from l.to (points l.line)) ≡ l.found + length (inner l.from l.to l.at l.p (drop l.i (points l.line)))))
-
-abbrev pub decreases-loop-i : goal.decreases-loop-i
-decreases-loop-i l = l.n - l.i

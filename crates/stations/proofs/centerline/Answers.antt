@@ -1,4 +1,5 @@
 -- `stations::centerline` meets its contract: what is left, written behind what was written, makes the whole. Assumes nothing.
+use Rattle.std.specs.Prelude.{Option}
 use Prim.Native.Nat.{◌+◌, ◌*◌, ◌-◌, ◌≤◌, ◌<◌}
 use mathlib.Core.Path.{refl, sym, ap, ◌∙◌}
 use mathlib.Core.List.{List, ◌++◌}
@@ -10,7 +11,6 @@ use Rattle.polyline.proofs.Points.{over_none}
 use Rattle.polyline.proofs.Walk.{no-point}
 use Rattle.polyline.proofs.Lines.{Left, begins, fits_more, goes_on, ends, point-at-one, middle-one, halved, halved-goes, halved-ends, centerline-some, centerline-begins, length-centerline}
 use Rattle.geometry.specs.declared.Point3.{Point3}
-use Rattle.polyline.specs.declared.OptionPoint3.{OptionPoint3}
 use Rattle.stations.proofs.centerline.Goals as goal
 use Rattle.stations.proofs.centerline.Lts as lts
 use Rattle.stations.proofs.centerline.Reads as reads
@@ -26,7 +26,7 @@ left-of c = points c.args.left.now
 abbrev right_of : AtInLoopI → List Point3
 right_of c = points c.args.right.now
 
-abbrev point-of : AtInLoopI → List Point3 → OptionPoint3
+abbrev point-of : AtInLoopI → List Point3 → Option Point3
 point-of c ps = point_at ps (share (line_length ps) c.loop-i.i (c.centerline_points-n.result - 1))
 
 abbrev piece : AtInLoopI → List Point3
@@ -74,12 +74,6 @@ pub put_optional-requires : goal.put_optional-requires
 put_optional-requires c =
     rw (c.middle.ensures, c.point_at.ensures, c.point_at-in-loop-i.ensures, c.share.ensures, c.share-in-loop-i.ensures, c.length-l.ensures, c.length-r.ensures)
     (fits_more _ _ _ _ (centerline (left-of c.before.before.before.before.before.before.before) (right_of c.before.before.before.before.before.before.before)) (piece c.before.before.before.before.before.before.before) (rest c.before.before.before.before.before.before.before) (room c.before.before.before.before.before.before.before) (next c.before.before.before.before.before.before.before))
-
-pub overflow_add-i : goal.overflow_add-i
-overflow_add-i c = omega (arith, c.loop-i-test.true, c.centerline_points-n.type_inv)
-
-pub loop-i-smaller : goal.loop-i-smaller
-loop-i-smaller c = omega (arith, c.loop-i-test.true)
 
 pub loop-i-preserved : goal.loop-i-preserved
 loop-i-preserved c =

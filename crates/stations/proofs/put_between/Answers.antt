@@ -72,12 +72,6 @@ overflow_add-found c =
     let e = rw (c.inside.ensures, c.distance-at.ensures, c.point-q.ensures) at c.put_if-found.ensures in
     omega (arith, r, e.0, c.loop-i.invariant.1.same, c.well_formed.1.1.1.0.0)
 
-pub overflow_add-i : goal.overflow_add-i
-overflow_add-i c = omega (arith, c.count-n.type_inv, c.loop-i-test.true)
-
-pub loop-i-smaller : goal.loop-i-smaller
-loop-i-smaller c = omega (arith, c.loop-i-test.true)
-
 pub loop-i-preserved : goal.loop-i-preserved
 loop-i-preserved c =
     let e = rw (c.inside.ensures, c.distance-at.ensures, c.point-q.ensures) at c.put_if-found.ensures in (

@@ -18,6 +18,3 @@ use Rattle.stations.proofs.put_between.Given as goal
 
 abbrev pub invariant-loop-i : goal.invariant-loop-i
 invariant-loop-i l = (l.i ≤ l.n) × Left l.initial.out l.out l.k (l.k + l.found) (between l.from l.to (points l.line)) (inner l.from l.to l.at l.p (drop l.i (points l.line)))
-
-abbrev pub decreases-loop-i : goal.decreases-loop-i
-decreases-loop-i l = l.n - l.i

@@ -54,12 +54,6 @@ share-requires c = omega (arith, c.loop-i-test.true, c.at_least_two-wanted.ensur
 pub put_optional-requires : goal.put_optional-requires
 put_optional-requires c = rw (c.point_at.ensures, c.share.ensures, c.length-len.ensures) (fits_more _ _ _ _ (whole c.before.before.before.before) (piece c.before.before.before.before) (rest c.before.before.before.before) (room c.before.before.before.before) (next c.before.before.before.before))
 
-pub overflow_add-i : goal.overflow_add-i
-overflow_add-i c = omega (arith, c.loop-i-test.true, c.at_least_two-wanted.type_inv)
-
-pub loop-i-smaller : goal.loop-i-smaller
-loop-i-smaller c = omega (arith, c.loop-i-test.true)
-
 pub loop-i-preserved : goal.loop-i-preserved
 loop-i-preserved c =
     let some : 0 < length (line_of c.before.before.before.before.before.before.before) = omega (arith, c.count.ensures, c.if-count-eq0.false) in (

@@ -13,6 +13,3 @@ use Rattle.stations.proofs.resample_count.Given as goal
 
 abbrev pub invariant-loop-i : goal.invariant-loop-i
 invariant-loop-i l = (l.i ≤ l.wanted) × Left l.initial.out l.out 0 l.i (resample_count (points l.line) l.n) (resample_from (points l.line) (l.wanted - 1) l.i (l.wanted - l.i))
-
-abbrev pub decreases-loop-i : goal.decreases-loop-i
-decreases-loop-i l = l.wanted - l.i

@@ -38,12 +38,6 @@ keep_row-kept-requires c =
     let l = c.loop-i in
     (c.requires.0, (next-inside a.s (λ i. not (has i c.args.gone.now)) a.t.now c.requires.1 l.t l.i l.kept l.invariant c.loop-i-test.true, moved-few a.s (λ i. not (has i c.args.gone.now)) a.t.now c.requires.1 l.t l.i l.kept l.invariant))
 
-pub overflow_add-i : goal.overflow_add-i
-overflow_add-i c = omega (arith, c.loop-i-test.true, at_least (word 0 c.args.t.now) c.args.s c.requires.0, c.requires.1)
-
-pub loop-i-smaller : goal.loop-i-smaller
-loop-i-smaller c = omega (arith, c.loop-i-test.true)
-
 pub loop-i-preserved : goal.loop-i-preserved
 loop-i-preserved c =
     let a = c.args in

@@ -13,6 +13,3 @@ use Rattle.store.proofs.drop_rows.Given as goal
 
 abbrev pub invariant-loop-i : goal.invariant-loop-i
 invariant-loop-i l = Moved l.s (λ i. not (has i l.gone)) l.initial.t l.t l.i l.kept
-
-abbrev pub decreases-loop-i : goal.decreases-loop-i
-decreases-loop-i l = l.n - l.i

@@ -12,6 +12,3 @@ use Rattle.store.proofs.keep_rows.Given as goal
 
 abbrev pub invariant-loop-i : goal.invariant-loop-i
 invariant-loop-i l = Moved l.s (stays l.a l.b) l.initial.t l.t l.i l.kept
-
-abbrev pub decreases-loop-i : goal.decreases-loop-i
-decreases-loop-i l = l.n - l.i

@@ -1,29 +1,42 @@
-use mathlib.Core.Path.{refl, ap, ◌∙◌}
+use mathlib.Core.Path.{refl}
 use native.Mathlib.Omega.{arith}
-use Prim.Native.Nat.{◌≤◌}
 use lib.ListN.{length, length-set}
-use Rattle.stream.specs.declared.Taken.{Taken}
+use Rattle.stream.specs.Numbers.{read_by, behind_all}
 use Rattle.stream.proofs.Tables.{begins, begins-behind, turn, turn-behind, ends, ends-behind}
 use Rattle.stream.proofs.fill.Goals as goal
 
--- src/lib.rt:84:5
-pub loop-i-init : goal.loop-i-init
-loop-i-init c = (omega arith, (refl, (begins (λ n. n) _ c.args.table.now _ _, begins-behind (λ n. n) _ _ _)))
+pub loop-place-init : goal.loop-place-init
+loop-place-init g c =
+    let f = g.T.Item.of_word in
+    (omega arith, (refl, (begins f _ c.args.table.now _ _, begins-behind f _ _ _)))
 
--- src/lib.rt:84:5
-pub loop-i-smaller : goal.loop-i-smaller
-loop-i-smaller c = simp length-set (omega arith)
+pub loop-place-preserved : goal.loop-place-preserved
+loop-place-preserved g c =
+    let f = g.T.Item.of_word in
+    let s = c.args.s.now in
+    let n = length c.args.table.now in
+    let l = c.loop-place in
+    let r = c.number-n in
+    let h = c.loop-place-test.true in
+    let whole = read_by f n s c.args.from in
+    let end = behind_all n s c.args.from in (
+      omega arith,
+      (
+        simp length-set l.invariant.1.0,
+        (
+          turn f s n l.place-index l.at r.result h r.ensures l.place-items whole c.of_word.result l.invariant.1.0 c.of_word.ensures l.invariant.1.1.0,
+          turn-behind f s n l.place-index l.at r.result h r.ensures end l.invariant.1.1.1,
+        ),
+      ),
+    )
 
--- src/lib.rt:84:5
-pub loop-i-preserved : goal.loop-i-preserved
-loop-i-preserved c =
-    let e = ap (λ (r : Taken). r.next) c.number-n.ensures in
-    let i = c.loop-i.invariant in
-    (simp length-set (omega arith), (simp length-set i.1.0, (turn (λ n. n) _ _ _ _ _ (omega arith) e _ _ c.loop-i-test.true (ap (λ (r : Taken). r.value) c.number-n.ensures) ∙ i.1.1.0, turn-behind (λ n. n) _ _ _ _ _ (omega arith) e ∙ i.1.1.1)))
-
--- src/lib.rt:79:1
 pub returns : goal.returns
-returns c =
-    let i = c.loop-i.invariant in
-    let h : length c.args.table.now ≤ c.loop-i.i = omega arith in
-    (ends (λ n. n) _ _ _ _ h _ i.1.0 ∙ i.1.1.0, ends-behind (λ n. n) _ _ _ _ h ∙ i.1.1.1)
+returns g c =
+    let f = g.T.Item.of_word in
+    let s = c.args.s.now in
+    let n = length c.args.table.now in
+    let l = c.loop-place in
+    let h = c.loop-place-test.false in
+    let whole = read_by f n s c.args.from in
+    let end = behind_all n s c.args.from in
+    (ends f s n l.place-index l.at h l.place-items whole l.invariant.1.0 l.invariant.1.1.0, ends-behind f s n l.place-index l.at h end l.invariant.1.1.1)

@@ -18,19 +18,19 @@ pub returns-in_default-found : goal.returns-in_default-found
 returns-in_default-found c = freed-lost c.args.lanes.now c.requires c.args.side c.args.held c.in-Some.n c.in-Some.is (sym c.lane-found.ensures ∙ c.in_default-found.is)
 
 pub overflow_mul-lanes : goal.overflow_mul-lanes
-overflow_mul-lanes c = omega (arith, lane_room c.args.lanes.now c.requires c.in-At.j (found-row c.args.lanes.now c.requires c.args.side c.args.held c.in-Some.n c.in-Some.is c.in-At.j (sym c.lane-found.ensures ∙ c.in-At.is)))
+overflow_mul-lanes c = omega (arith, lane_room c.args.lanes.now c.requires c.in-Some-found.j (found-row c.args.lanes.now c.requires c.args.side c.args.held c.in-Some.n c.in-Some.is c.in-Some-found.j (sym c.lane-found.ensures ∙ c.in-Some-found.is)))
 
 pub overflow_add-lanes : goal.overflow_add-lanes
-overflow_add-lanes c = omega (arith, lane_room c.args.lanes.now c.requires c.in-At.j (found-row c.args.lanes.now c.requires c.args.side c.args.held c.in-Some.n c.in-Some.is c.in-At.j (sym c.lane-found.ensures ∙ c.in-At.is)))
+overflow_add-lanes c = omega (arith, lane_room c.args.lanes.now c.requires c.in-Some-found.j (found-row c.args.lanes.now c.requires c.args.side c.args.held c.in-Some.n c.in-Some.is c.in-Some-found.j (sym c.lane-found.ensures ∙ c.in-Some-found.is)))
 
 pub overflow_add-lanes-2 : goal.overflow_add-lanes-2
-overflow_add-lanes-2 c = omega (arith, slot-room c.args.lanes.now c.requires c.in-At.j (found-row c.args.lanes.now c.requires c.args.side c.args.held c.in-Some.n c.in-Some.is c.in-At.j (sym c.lane-found.ensures ∙ c.in-At.is)) c.reciprocal_side.result c.slot_place-answer.result c.slot_place-answer.ensures)
+overflow_add-lanes-2 c = omega (arith, slot-room c.args.lanes.now c.requires c.in-Some-found.j (found-row c.args.lanes.now c.requires c.args.side c.args.held c.in-Some.n c.in-Some.is c.in-Some-found.j (sym c.lane-found.ensures ∙ c.in-Some-found.is)) c.reciprocal_side.result c.slot_place-answer.result c.slot_place-answer.ensures)
 
 pub offset_bounds-lanes-j : goal.offset_bounds-lanes-j
-offset_bounds-lanes-j c = omega (arith, slot-room c.args.lanes.now c.requires c.in-At.j (found-row c.args.lanes.now c.requires c.args.side c.args.held c.in-Some.n c.in-Some.is c.in-At.j (sym c.lane-found.ensures ∙ c.in-At.is)) c.reciprocal_side.result c.slot_place-answer.result c.slot_place-answer.ensures)
+offset_bounds-lanes-j c = omega (arith, slot-room c.args.lanes.now c.requires c.in-Some-found.j (found-row c.args.lanes.now c.requires c.args.side c.args.held c.in-Some.n c.in-Some.is c.in-Some-found.j (sym c.lane-found.ensures ∙ c.in-Some-found.is)) c.reciprocal_side.result c.slot_place-answer.result c.slot_place-answer.ensures)
 
 pub bounds-lanes-j : goal.bounds-lanes-j
-bounds-lanes-j c = omega (arith, slot-room c.args.lanes.now c.requires c.in-At.j (found-row c.args.lanes.now c.requires c.args.side c.args.held c.in-Some.n c.in-Some.is c.in-At.j (sym c.lane-found.ensures ∙ c.in-At.is)) c.reciprocal_side.result c.slot_place-answer.result c.slot_place-answer.ensures)
+bounds-lanes-j c = omega (arith, slot-room c.args.lanes.now c.requires c.in-Some-found.j (found-row c.args.lanes.now c.requires c.args.side c.args.held c.in-Some.n c.in-Some.is c.in-Some-found.j (sym c.lane-found.ensures ∙ c.in-Some-found.is)) c.reciprocal_side.result c.slot_place-answer.result c.slot_place-answer.ensures)
 
 pub returns : goal.returns
-returns c = freed-at c.args.lanes.now c.requires c.args.side c.args.held c.in-Some.n c.in-Some.is c.in-At.j (sym c.lane-found.ensures ∙ c.in-At.is) c.slot_place-answer.result (c.slot_place-answer.ensures ∙ ap slot_place c.reciprocal_side.ensures)
+returns c = freed-at c.args.lanes.now c.requires c.args.side c.args.held c.in-Some.n c.in-Some.is c.in-Some-found.j (sym c.lane-found.ensures ∙ c.in-Some-found.is) c.slot_place-answer.result (c.slot_place-answer.ensures ∙ ap slot_place c.reciprocal_side.ensures)

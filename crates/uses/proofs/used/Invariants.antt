@@ -8,6 +8,3 @@ use Rattle.uses.proofs.used.Given as goal
 
 abbrev pub invariant-loop-i : goal.invariant-loop-i
 invariant-loop-i l = (l.i ≤ l.n) × (any_row 52 (row_uses l.boundary) l.lanes ≡ any_from 52 (row_uses l.boundary) l.lanes l.i)
-
-abbrev pub decreases-loop-i : goal.decreases-loop-i
-decreases-loop-i l = l.n - l.i

@@ -18,12 +18,6 @@ row_uses_outside-requires c = (c.requires, c.loop-i-test.true)
 pub returns-then-row_uses_outside : goal.returns-then-row_uses_outside
 returns-then-row_uses_outside c = any-stops 52 (uses_outside c.args.boundary c.args.one c.args.other) c.args.lanes.now c.loop-i.i c.loop-i.invariant.1 c.row_uses_outside.result c.loop-i-test.true c.row_uses_outside.ensures c.if-row_uses_outside.true
 
-pub overflow_add-i : goal.overflow_add-i
-overflow_add-i c = omega (arith, c.loop-i-test.true, sorted-few 1024 52 c.args.lanes.now c.requires)
-
-pub loop-i-smaller : goal.loop-i-smaller
-loop-i-smaller c = omega (arith, c.loop-i-test.true)
-
 pub loop-i-preserved : goal.loop-i-preserved
 loop-i-preserved c = (omega (arith, c.loop-i-test.true), any-goes-on 52 (uses_outside c.args.boundary c.args.one c.args.other) c.args.lanes.now c.loop-i.i c.loop-i.invariant.1 c.row_uses_outside.result c.loop-i-test.true c.row_uses_outside.ensures c.if-row_uses_outside.false)
 

@@ -23,12 +23,6 @@ row_uses-requires c = (c.requires, c.loop-i-test.true)
 pub overflow_add-count : goal.overflow_add-count
 overflow_add-count c = omega (arith, c.loop-i-test.true, sorted-few 1024 52 c.args.lanes.now c.requires)
 
-pub overflow_add-i : goal.overflow_add-i
-overflow_add-i c = omega (arith, c.loop-i-test.true, sorted-few 1024 52 c.args.lanes.now c.requires)
-
-pub loop-i-smaller : goal.loop-i-smaller
-loop-i-smaller c = omega (arith, c.loop-i-test.true)
-
 pub loop-i-preserved : goal.loop-i-preserved
 loop-i-preserved c =
     let a = c.args in

@@ -12,6 +12,3 @@ use Rattle.uses.proofs.users.Given as goal
 
 abbrev pub invariant-loop-i : goal.invariant-loop-i
 invariant-loop-i l = (l.i ≤ l.n) × ((l.count ≤ l.i) × (l.count ≡ length (keep (row_uses l.boundary) (take l.i (rows 52 (λ w. w) l.lanes)))))
-
-abbrev pub decreases-loop-i : goal.decreases-loop-i
-decreases-loop-i l = l.n - l.i

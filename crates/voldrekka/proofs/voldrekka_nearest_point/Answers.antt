@@ -1,4 +1,5 @@
 -- `voldrekka::voldrekka_nearest_point` meets its contract: a point and two floats behind it are the five floats of the answer. Assumes nothing.
+use Rattle.std.specs.Prelude.{Option, None, Some}
 use borrow.Author.Rules.{rules}
 use mathlib.Core.Path.{◌≡◌, refl, sym, ap, ◌∙◌}
 use mathlib.Core.List.{List, [], ◌∷◌, ◌++◌}
@@ -10,16 +11,14 @@ use Rattle.lists.specs.Rows.{over}
 use Rattle.lists.proofs.Rows.{over-nil, store-behind}
 use Rattle.polyline.specs.Polyline.{flat}
 use Rattle.polyline.specs.declared.NearestPoint.{NearestPoint}
-use Rattle.polyline.specs.declared.OptionNearest.{OptionNearest}
-use Rattle.polyline.specs.declared.OptionNearest.TheVariants as N
 use Rattle.voldrekka.specs.Nearest.{floats, segment_of}
 use borrow.Author.Tests.{le-leb, lt-leb}
 use Rattle.voldrekka.proofs.voldrekka_nearest_point.Goals as goal
 
-none : (w : List Float) (o : OptionNearest) → o ≡ N.None → (◌≡◌ {A = ℕ} 0 (segment_of o)) × (w ≡ over w 0 (floats o))
+none : (w : List Float) (o : Option NearestPoint) → o ≡ None → (◌≡◌ {A = ℕ} 0 (segment_of o)) × (w ≡ over w 0 (floats o))
 none w o e = rw e (refl, sym (over-nil w 0))
 
-some : (w v : List Float) (o : OptionNearest) (n : NearestPoint) → o ≡ N.Some n → 5 ≤ length w → v ≡ over w 0 (flat (n.point ∷ []))
+some : (w v : List Float) (o : Option NearestPoint) (n : NearestPoint) → o ≡ Some n → 5 ≤ length w → v ≡ over w 0 (flat (n.point ∷ []))
     → (n.segment ≡ segment_of o) × (set (set v 3 n.distance) 4 n.station ≡ over w 0 (floats o))
 unfolding flat
 some w v o n e h p =

@@ -32,4 +32,4 @@ shape_of-warnings c = simp length-set
 pub returns : goal.returns
 returns c =
     let a = c.args in
-    pair_put a.warnings.now a.at a.code a.lane a.other c.number.result c.number-2.result c.number-3.result c.number-4.result c.requires c.number.ensures c.number-2.ensures c.number-3.ensures c.number-4.ensures
+    pair_put a.warnings.now a.at a.code a.lane a.other c.from.result c.from-2.result c.from-3.result c.from-4.result c.requires c.from.ensures c.from-2.ensures c.from-3.ensures c.from-4.ensures

@@ -38,4 +38,4 @@ shape_of-warnings c = simp length-set
 pub returns : goal.returns
 returns c =
     let a = c.args in
-    pieces-put a.warnings.now a.at a.boundary a.first a.second c.number.result c.number-2.result c.number-kind.result c.requires c.number.ensures c.number-2.ensures c.number-kind.ensures
+    pieces-put a.warnings.now a.at a.boundary a.first a.second c.from.result c.from-2.result c.from-kind.result c.requires c.from.ensures c.from-2.ensures c.from-kind.ensures

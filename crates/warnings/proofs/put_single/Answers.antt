@@ -23,4 +23,4 @@ bounds-warnings-row-6 c = simp length-set (omega arith)
 pub returns : goal.returns
 returns c =
     let a = c.args in
-    single-put a.warnings.now a.at a.severity a.code a.kind a.id a.fix c.number.result c.number-2.result c.number-3.result c.fix_mark.result c.requires c.number.ensures c.number-2.ensures c.number-3.ensures c.fix_mark.ensures
+    single-put a.warnings.now a.at a.severity a.code a.kind a.id a.fix c.from.result c.from-2.result c.from-3.result c.fix_mark.result c.requires c.from.ensures c.from-2.ensures c.from-3.ensures c.fix_mark.ensures

@@ -9,8 +9,8 @@ use Rattle.words.proofs.kind_word.Goals as goal
 
 -- src/lib.rt:147:13
 pub overflow_add-result : goal.overflow_add-result
-overflow_add-result c = omega (arith, c.number.ensures, kind-small c.in-Some.e.kind)
+overflow_add-result c = omega (arith, c.from.ensures, kind-small c.in-Some.e.kind)
 
 -- src/lib.rt:140:1
 pub returns-in-Some : goal.returns-in-Some
-returns-in-Some c = (add-one c.number.result ∙ ap suc c.number.ensures) ∙ sym (ap kind_word c.in-Some.is)
+returns-in-Some c = (add-one c.from.result ∙ ap suc c.from.ensures) ∙ sym (ap kind_word c.in-Some.is)

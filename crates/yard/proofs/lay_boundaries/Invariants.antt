@@ -4,6 +4,3 @@ use Rattle.yard.proofs.lay_boundaries.Given as goal
 
 abbrev pub invariant-loop-i : goal.invariant-loop-i
 invariant-loop-i l = (l.i ≤ l.n) × ((l.n ≤ 10) × ((l.first ≤ 101) × (length l.boundaries ≡ length l.initial.boundaries)))
-
-abbrev pub decreases-loop-i : goal.decreases-loop-i
-decreases-loop-i l = l.n - l.i

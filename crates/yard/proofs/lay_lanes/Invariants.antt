@@ -4,6 +4,3 @@ use Rattle.yard.proofs.lay_lanes.Given as goal
 
 abbrev pub invariant-loop-i : goal.invariant-loop-i
 invariant-loop-i l = (l.i ≤ l.n) × ((l.n ≤ 8) × (length l.lanes ≡ length l.initial.lanes))
-
-abbrev pub decreases-loop-i : goal.decreases-loop-i
-decreases-loop-i l = l.n - l.i

@@ -4,6 +4,3 @@ use Rattle.yard.proofs.lay_lines.Given as goal
 
 abbrev pub invariant-loop-i : goal.invariant-loop-i
 invariant-loop-i l = (l.i ≤ 10) × (length l.coordinates ≡ length l.initial.coordinates)
-
-abbrev pub decreases-loop-i : goal.decreases-loop-i
-decreases-loop-i l = 10 - l.i

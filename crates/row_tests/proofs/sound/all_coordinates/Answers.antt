@@ -1,4 +1,4 @@
--- `row_tests::sound::all_coordinates` meets its contract. The invariant: all are within reach where those before i are and those from i on are. The measure is how many
+-- `row_tests::sound::all_coordinates` meets its contract. The invariant: all are within reach where those before i are and those from i on are.
 use borrow.Author.Rules.{rules}
 use mathlib.Core.Path.{◌≡◌, refl}
 use mathlib.Core.Bool.{◌&&◌}
@@ -18,12 +18,6 @@ offset_bounds-line-i c = omega arith
 
 pub bounds-line-i : goal.bounds-line-i
 bounds-line-i c = omega arith
-
-pub overflow_add-i : goal.overflow_add-i
-overflow_add-i c = omega arith
-
-pub loop-i-smaller : goal.loop-i-smaller
-loop-i-smaller c = omega arith
 
 pub loop-i-preserved : goal.loop-i-preserved
 loop-i-preserved c =

@@ -1,5 +1,5 @@
--- `row_tests::sound::all_coordinates` meets its contract. The invariant: all are within reach where those before i are and those from i on are. The measure is how many
--- are left. Assumes nothing.
+-- `row_tests::sound::all_coordinates` meets its contract. The invariant: all are within reach where those before i are and those from i on are. Assumes
+-- nothing.
 use borrow.Author.Rules.{rules}
 use mathlib.Core.Path.{◌≡◌, refl}
 use mathlib.Core.Bool.{◌&&◌}
@@ -13,6 +13,3 @@ use Rattle.row_tests.proofs.sound.all_coordinates.Given as goal
 
 abbrev pub invariant-loop-i : goal.invariant-loop-i
 invariant-loop-i l = (l.i ≤ l.n) × (all coordinate (take l.n l.line) ≡ (l.good && all coordinate (drop l.i (take l.n l.line))))
-
-abbrev pub decreases-loop-i : goal.decreases-loop-i
-decreases-loop-i l = l.n - l.i

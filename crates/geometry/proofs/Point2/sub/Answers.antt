@@ -1,8 +1,0 @@
--- `geometry::Point2::sub` meets its contract. Assumes nothing.
-use Rattle.geometry.specs.Point.{sub2}
-use mathlib.Core.Path.{refl}
-use Rattle.geometry.proofs.Point2.sub.Goals as goal
-
-pub returns : goal.returns
-unfolding sub2
-returns c = refl

@@ -1,0 +1,46 @@
+-- What the slices of a map and of a call's lists hold, and that a call leaves each slice where it is and as long as it was.
+use Rattle.std.specs.Prelude.{◌≡◌, ℕ, length}
+use Rattle.tables.specs.View.{Tables, tables_of}
+use Rattle.step.specs.Step.{Lent, lent_of}
+use Rattle.lent.specs.declared.MapView.{MapView}
+use Rattle.lent.specs.declared.Map.{Map}
+use Rattle.lent.specs.declared.Lists.{Lists}
+
+abbrev pub view_tables : MapView → Tables
+view_tables m = tables_of m.lanes.now m.boundaries.now m.roads.now m.junctions.now m.rules.now m.stop_lines.now m.crosswalks.now m.coordinates.now
+
+abbrev pub map_tables : Map → Tables
+map_tables m = tables_of m.lanes.now m.boundaries.now m.roads.now m.junctions.now m.rules.now m.stop_lines.now m.crosswalks.now m.coordinates.now
+
+-- all that a call is lent, with the counter that it is given
+abbrev pub given : ℕ → Map → Lists → Lent
+given counter m l = lent_of counter m.lanes.now m.boundaries.now m.roads.now m.junctions.now m.rules.now m.stop_lines.now m.crosswalks.now m.coordinates.now l.created.now l.modified.now l.deleted.now l.warnings.now
+
+-- n's fields are the slices of m, each as long as it was
+pub record SameSlices (m n : Map) : Type 0 where
+  pub lanes : n.lanes.ghost_name ≡ m.lanes.ghost_name
+  pub boundaries : n.boundaries.ghost_name ≡ m.boundaries.ghost_name
+  pub roads : n.roads.ghost_name ≡ m.roads.ghost_name
+  pub junctions : n.junctions.ghost_name ≡ m.junctions.ghost_name
+  pub rules : n.rules.ghost_name ≡ m.rules.ghost_name
+  pub stop_lines : n.stop_lines.ghost_name ≡ m.stop_lines.ghost_name
+  pub crosswalks : n.crosswalks.ghost_name ≡ m.crosswalks.ghost_name
+  pub coordinates : n.coordinates.ghost_name ≡ m.coordinates.ghost_name
+  pub lanes_length : length n.lanes.now ≡ length m.lanes.now
+  pub boundaries_length : length n.boundaries.now ≡ length m.boundaries.now
+  pub roads_length : length n.roads.now ≡ length m.roads.now
+  pub junctions_length : length n.junctions.now ≡ length m.junctions.now
+  pub rules_length : length n.rules.now ≡ length m.rules.now
+  pub stop_lines_length : length n.stop_lines.now ≡ length m.stop_lines.now
+  pub crosswalks_length : length n.crosswalks.now ≡ length m.crosswalks.now
+  pub coordinates_length : length n.coordinates.now ≡ length m.coordinates.now
+
+pub record SameLists (m n : Lists) : Type 0 where
+  pub created : n.created.ghost_name ≡ m.created.ghost_name
+  pub modified : n.modified.ghost_name ≡ m.modified.ghost_name
+  pub deleted : n.deleted.ghost_name ≡ m.deleted.ghost_name
+  pub warnings : n.warnings.ghost_name ≡ m.warnings.ghost_name
+  pub created_length : length n.created.now ≡ length m.created.now
+  pub modified_length : length n.modified.now ≡ length m.modified.now
+  pub deleted_length : length n.deleted.now ≡ length m.deleted.now
+  pub warnings_length : length n.warnings.now ≡ length m.warnings.now

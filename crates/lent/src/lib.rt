@@ -1,0 +1,57 @@
+// What a call is lent, as one value each: the eight slices of a map, and the four lists of an answer.
+#![tactic(auto)]
+
+ghost use Rattle.std.specs.Prelude.{◌≡◌};
+ghost use Rattle.lent.specs.Lent.{map_tables, view_tables};
+
+// A map in lent memory, for reading.
+#[derive(Clone, Copy)]
+pub struct MapView<'a> {
+    pub lanes: &'a [u64],
+    pub boundaries: &'a [u64],
+    pub roads: &'a [u64],
+    pub junctions: &'a [u64],
+    pub rules: &'a [u64],
+    pub stop_lines: &'a [u64],
+    pub crosswalks: &'a [u64],
+    pub coordinates: &'a [f64],
+}
+
+// A map in lent memory.
+#[derive(Drop)]
+pub struct Map<'a> {
+    pub lanes: &'a mut [u64],
+    pub boundaries: &'a mut [u64],
+    pub roads: &'a mut [u64],
+    pub junctions: &'a mut [u64],
+    pub rules: &'a mut [u64],
+    pub stop_lines: &'a mut [u64],
+    pub crosswalks: &'a mut [u64],
+    pub coordinates: &'a mut [f64],
+}
+
+impl<'a> Map<'a> {
+    pub fn view(&self) -> MapView<'_>
+        ensures { view_tables result ≡ map_tables self.now }
+    {
+        MapView {
+            lanes: self.lanes,
+            boundaries: self.boundaries,
+            roads: self.roads,
+            junctions: self.junctions,
+            rules: self.rules,
+            stop_lines: self.stop_lines,
+            crosswalks: self.crosswalks,
+            coordinates: self.coordinates,
+        }
+    }
+}
+
+// The lists that an accepted call fills.
+#[derive(Drop)]
+pub struct Lists<'a> {
+    pub created: &'a mut [u64],
+    pub modified: &'a mut [u64],
+    pub deleted: &'a mut [u64],
+    pub warnings: &'a mut [u64],
+}
