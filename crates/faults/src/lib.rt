@@ -11,8 +11,10 @@ ghost use Rattle.row_faults.specs.Passes as R;
 ghost use Rattle.row_returns.specs.Returns.{named_back};
 ghost use Rattle.apart.specs.Marks.{takeable, line_spans};
 ghost use Rattle.soundness.specs.Parts.{all_counted};
+ghost use Rattle.lent.specs.Lent.{view_tables};
 ghost use Rattle.faults.specs.Faults as F;
 
+use lent::MapView;
 use row_faults::{Clause, Table};
 use tables::{
     BOUNDARIES, BOUNDARY, CROSSWALK, CROSSWALKS, JUNCTION, JUNCTIONS, LANE, LANES, ROAD, ROADS,
@@ -54,25 +56,16 @@ fn count_fault(table: Table, t: &[u64], limit: u64, row: usize) -> Option<Fault>
     told(Clause::Counts, table, 0, 1)
 }
 
-fn counts_fault(
-    lanes: &[u64],
-    boundaries: &[u64],
-    roads: &[u64],
-    junctions: &[u64],
-    rules: &[u64],
-    stop_lines: &[u64],
-    crosswalks: &[u64],
-    coordinates: &[f64],
-) -> Option<Fault>
-    ensures { result ≡ F.counts_fault (tables_of lanes.now boundaries.now roads.now junctions.now rules.now stop_lines.now crosswalks.now coordinates.now) }
+fn counts_fault(map: MapView) -> Option<Fault>
+    ensures { result ≡ F.counts_fault (view_tables map.entry) }
 {
-    count_fault(Table::Lane, lanes, LANES, LANE)
-        .or(count_fault(Table::Boundary, boundaries, BOUNDARIES, BOUNDARY))
-        .or(count_fault(Table::Road, roads, ROADS, ROAD))
-        .or(count_fault(Table::Junction, junctions, JUNCTIONS, JUNCTION))
-        .or(count_fault(Table::Rule, rules, RULES, RULE))
-        .or(count_fault(Table::StopLine, stop_lines, STOP_LINES, STOP_LINE))
-        .or(count_fault(Table::Crosswalk, crosswalks, CROSSWALKS, CROSSWALK))
+    count_fault(Table::Lane, map.lanes, LANES, LANE)
+        .or(count_fault(Table::Boundary, map.boundaries, BOUNDARIES, BOUNDARY))
+        .or(count_fault(Table::Road, map.roads, ROADS, ROAD))
+        .or(count_fault(Table::Junction, map.junctions, JUNCTIONS, JUNCTION))
+        .or(count_fault(Table::Rule, map.rules, RULES, RULE))
+        .or(count_fault(Table::StopLine, map.stop_lines, STOP_LINES, STOP_LINE))
+        .or(count_fault(Table::Crosswalk, map.crosswalks, CROSSWALKS, CROSSWALK))
 }
 
 // ---- rows and ids
@@ -94,91 +87,82 @@ fn row_fault(
 }
 
 // One clause, of the rows of the last four tables.
-fn later_rows_fault(
-    clause: Clause,
-    most: u64,
-    lanes: &[u64],
-    boundaries: &[u64],
-    roads: &[u64],
-    junctions: &[u64],
-    rules: &[u64],
-    stop_lines: &[u64],
-    crosswalks: &[u64],
-    coordinates: &[f64],
-) -> Option<Fault>
-    requires { all_counted (tables_of lanes.now boundaries.now roads.now junctions.now rules.now stop_lines.now crosswalks.now coordinates.now) ≡ true }
-    ensures { result ≡ F.later_rows_fault clause most (tables_of lanes.now boundaries.now roads.now junctions.now rules.now stop_lines.now crosswalks.now coordinates.now) }
+fn later_rows_fault(clause: Clause, most: u64, map: MapView) -> Option<Fault>
+    requires { all_counted (view_tables map) ≡ true }
+    ensures { result ≡ F.later_rows_fault clause most (view_tables map.entry) }
 {
     row_fault(
         clause,
         Table::Junction,
-        junctions,
+        map.junctions,
         JUNCTIONS,
         JUNCTION,
         most,
-        coordinates,
+        map.coordinates,
     )
-    .or(row_fault(clause, Table::Rule, rules, RULES, RULE, most, coordinates))
+    .or(row_fault(
+        clause,
+        Table::Rule,
+        map.rules,
+        RULES,
+        RULE,
+        most,
+        map.coordinates,
+    ))
     .or(row_fault(
         clause,
         Table::StopLine,
-        stop_lines,
+        map.stop_lines,
         STOP_LINES,
         STOP_LINE,
         most,
-        coordinates,
+        map.coordinates,
     ))
     .or(row_fault(
         clause,
         Table::Crosswalk,
-        crosswalks,
+        map.crosswalks,
         CROSSWALKS,
         CROSSWALK,
         most,
-        coordinates,
+        map.coordinates,
     ))
 }
 
 // One clause, of the rows of every table.
-fn rows_fault(
-    clause: Clause,
-    most: u64,
-    lanes: &[u64],
-    boundaries: &[u64],
-    roads: &[u64],
-    junctions: &[u64],
-    rules: &[u64],
-    stop_lines: &[u64],
-    crosswalks: &[u64],
-    coordinates: &[f64],
-) -> Option<Fault>
-    requires { all_counted (tables_of lanes.now boundaries.now roads.now junctions.now rules.now stop_lines.now crosswalks.now coordinates.now) ≡ true }
-    ensures { result ≡ F.rows_fault clause most (tables_of lanes.now boundaries.now roads.now junctions.now rules.now stop_lines.now crosswalks.now coordinates.now) }
+fn rows_fault(clause: Clause, most: u64, map: MapView) -> Option<Fault>
+    requires { all_counted (view_tables map) ≡ true }
+    ensures { result ≡ F.rows_fault clause most (view_tables map.entry) }
 {
-    let later = later_rows_fault(
+    let later = later_rows_fault(clause, most, map);
+    row_fault(
         clause,
+        Table::Lane,
+        map.lanes,
+        LANES,
+        LANE,
         most,
-        lanes,
-        boundaries,
-        roads,
-        junctions,
-        rules,
-        stop_lines,
-        crosswalks,
-        coordinates,
-    );
-    row_fault(clause, Table::Lane, lanes, LANES, LANE, most, coordinates)
-        .or(row_fault(
-            clause,
-            Table::Boundary,
-            boundaries,
-            BOUNDARIES,
-            BOUNDARY,
-            most,
-            coordinates,
-        ))
-        .or(row_fault(clause, Table::Road, roads, ROADS, ROAD, most, coordinates))
-        .or(later)
+        map.coordinates,
+    )
+    .or(row_fault(
+        clause,
+        Table::Boundary,
+        map.boundaries,
+        BOUNDARIES,
+        BOUNDARY,
+        most,
+        map.coordinates,
+    ))
+    .or(row_fault(
+        clause,
+        Table::Road,
+        map.roads,
+        ROADS,
+        ROAD,
+        most,
+        map.coordinates,
+    ))
+    .or(later)
 }
 
 fn id_fault(table: Table, t: &[u64], limit: u64, row: usize) -> Option<Fault>
@@ -189,183 +173,49 @@ fn id_fault(table: Table, t: &[u64], limit: u64, row: usize) -> Option<Fault>
     told(Clause::Ids, table, first, t[0] as usize)
 }
 
-fn ids_fault(
-    lanes: &[u64],
-    boundaries: &[u64],
-    roads: &[u64],
-    junctions: &[u64],
-    rules: &[u64],
-    stop_lines: &[u64],
-    crosswalks: &[u64],
-    coordinates: &[f64],
-) -> Option<Fault>
-    requires { all_counted (tables_of lanes.now boundaries.now roads.now junctions.now rules.now stop_lines.now crosswalks.now coordinates.now) ≡ true }
-    ensures { result ≡ F.ids_fault (tables_of lanes.now boundaries.now roads.now junctions.now rules.now stop_lines.now crosswalks.now coordinates.now) }
+fn ids_fault(map: MapView) -> Option<Fault>
+    requires { all_counted (view_tables map) ≡ true }
+    ensures { result ≡ F.ids_fault (view_tables map.entry) }
 {
-    id_fault(Table::Lane, lanes, LANES, LANE)
-        .or(id_fault(Table::Boundary, boundaries, BOUNDARIES, BOUNDARY))
-        .or(id_fault(Table::Road, roads, ROADS, ROAD))
-        .or(id_fault(Table::Junction, junctions, JUNCTIONS, JUNCTION))
-        .or(id_fault(Table::Rule, rules, RULES, RULE))
-        .or(id_fault(Table::StopLine, stop_lines, STOP_LINES, STOP_LINE))
-        .or(id_fault(Table::Crosswalk, crosswalks, CROSSWALKS, CROSSWALK))
+    id_fault(Table::Lane, map.lanes, LANES, LANE)
+        .or(id_fault(Table::Boundary, map.boundaries, BOUNDARIES, BOUNDARY))
+        .or(id_fault(Table::Road, map.roads, ROADS, ROAD))
+        .or(id_fault(Table::Junction, map.junctions, JUNCTIONS, JUNCTION))
+        .or(id_fault(Table::Rule, map.rules, RULES, RULE))
+        .or(id_fault(Table::StopLine, map.stop_lines, STOP_LINES, STOP_LINE))
+        .or(id_fault(Table::Crosswalk, map.crosswalks, CROSSWALKS, CROSSWALK))
 }
 
 // Links that ascend, lines, and lanes that stand once in a list.
-fn link_faults(
-    most: u64,
-    lanes: &[u64],
-    boundaries: &[u64],
-    roads: &[u64],
-    junctions: &[u64],
-    rules: &[u64],
-    stop_lines: &[u64],
-    crosswalks: &[u64],
-    coordinates: &[f64],
-) -> Option<Fault>
-    requires { all_counted (tables_of lanes.now boundaries.now roads.now junctions.now rules.now stop_lines.now crosswalks.now coordinates.now) ≡ true }
-    ensures { result ≡ F.link_faults most (tables_of lanes.now boundaries.now roads.now junctions.now rules.now stop_lines.now crosswalks.now coordinates.now) }
+fn link_faults(most: u64, map: MapView) -> Option<Fault>
+    requires { all_counted (view_tables map) ≡ true }
+    ensures { result ≡ F.link_faults most (view_tables map.entry) }
 {
-    let links = rows_fault(
-        Clause::Links,
-        most,
-        lanes,
-        boundaries,
-        roads,
-        junctions,
-        rules,
-        stop_lines,
-        crosswalks,
-        coordinates,
-    );
-    let lines = rows_fault(
-        Clause::Lines,
-        most,
-        lanes,
-        boundaries,
-        roads,
-        junctions,
-        rules,
-        stop_lines,
-        crosswalks,
-        coordinates,
-    );
-    let repeats = rows_fault(
-        Clause::Repeats,
-        most,
-        lanes,
-        boundaries,
-        roads,
-        junctions,
-        rules,
-        stop_lines,
-        crosswalks,
-        coordinates,
-    );
+    let links = rows_fault(Clause::Links, most, map);
+    let lines = rows_fault(Clause::Lines, most, map);
+    let repeats = rows_fault(Clause::Repeats, most, map);
     links.or(lines).or(repeats)
 }
 
 // The clauses of ids, and those behind them.
-fn id_faults(
-    most: u64,
-    lanes: &[u64],
-    boundaries: &[u64],
-    roads: &[u64],
-    junctions: &[u64],
-    rules: &[u64],
-    stop_lines: &[u64],
-    crosswalks: &[u64],
-    coordinates: &[f64],
-) -> Option<Fault>
-    requires { all_counted (tables_of lanes.now boundaries.now roads.now junctions.now rules.now stop_lines.now crosswalks.now coordinates.now) ≡ true }
-    ensures { result ≡ F.id_faults most (tables_of lanes.now boundaries.now roads.now junctions.now rules.now stop_lines.now crosswalks.now coordinates.now) }
+fn id_faults(most: u64, map: MapView) -> Option<Fault>
+    requires { all_counted (view_tables map) ≡ true }
+    ensures { result ≡ F.id_faults most (view_tables map.entry) }
 {
-    let ids = ids_fault(
-        lanes,
-        boundaries,
-        roads,
-        junctions,
-        rules,
-        stop_lines,
-        crosswalks,
-        coordinates,
-    );
-    let names = rows_fault(
-        Clause::Names,
-        most,
-        lanes,
-        boundaries,
-        roads,
-        junctions,
-        rules,
-        stop_lines,
-        crosswalks,
-        coordinates,
-    );
-    let links = link_faults(
-        most,
-        lanes,
-        boundaries,
-        roads,
-        junctions,
-        rules,
-        stop_lines,
-        crosswalks,
-        coordinates,
-    );
+    let ids = ids_fault(map);
+    let names = rows_fault(Clause::Names, most, map);
+    let links = link_faults(most, map);
     ids.or(names).or(links)
 }
 
 // The clauses that are asked of rows and ids, in their order.
-fn form_faults(
-    most: u64,
-    lanes: &[u64],
-    boundaries: &[u64],
-    roads: &[u64],
-    junctions: &[u64],
-    rules: &[u64],
-    stop_lines: &[u64],
-    crosswalks: &[u64],
-    coordinates: &[f64],
-) -> Option<Fault>
-    requires { all_counted (tables_of lanes.now boundaries.now roads.now junctions.now rules.now stop_lines.now crosswalks.now coordinates.now) ≡ true }
-    ensures { result ≡ F.row_faults most (tables_of lanes.now boundaries.now roads.now junctions.now rules.now stop_lines.now crosswalks.now coordinates.now) }
+fn form_faults(most: u64, map: MapView) -> Option<Fault>
+    requires { all_counted (view_tables map) ≡ true }
+    ensures { result ≡ F.row_faults most (view_tables map.entry) }
 {
-    let marks = rows_fault(
-        Clause::Marks,
-        most,
-        lanes,
-        boundaries,
-        roads,
-        junctions,
-        rules,
-        stop_lines,
-        crosswalks,
-        coordinates,
-    );
-    let kinds = rows_fault(
-        Clause::Kinds,
-        most,
-        lanes,
-        boundaries,
-        roads,
-        junctions,
-        rules,
-        stop_lines,
-        crosswalks,
-        coordinates,
-    );
-    let ids = id_faults(
-        most,
-        lanes,
-        boundaries,
-        roads,
-        junctions,
-        rules,
-        stop_lines,
-        crosswalks,
-        coordinates,
-    );
+    let marks = rows_fault(Clause::Marks, most, map);
+    let kinds = rows_fault(Clause::Kinds, most, map);
+    let ids = id_faults(most, map);
     marks.or(kinds).or(ids)
 }
 
@@ -408,7 +258,7 @@ fn found(
 ) -> Option<Fault>
     ensures { result ≡ F.found counter (tables_of lanes.now boundaries.now roads.now junctions.now rules.now stop_lines.now crosswalks.now coordinates.now) }
 {
-    let counts = counts_fault(
+    let map = MapView {
         lanes,
         boundaries,
         roads,
@@ -417,21 +267,12 @@ fn found(
         stop_lines,
         crosswalks,
         coordinates,
-    );
+    };
+    let counts = counts_fault(map);
     if counts.is_some() {
         return counts;
     }
-    let rows = form_faults(
-        row_tests::sound::largest_id(counter),
-        lanes,
-        boundaries,
-        roads,
-        junctions,
-        rules,
-        stop_lines,
-        crosswalks,
-        coordinates,
-    );
+    let rows = form_faults(row_tests::sound::largest_id(counter), map);
     if rows.is_some() {
         return rows;
     }

@@ -7,25 +7,25 @@ use Rattle.faults.proofs.Laws.{seven}
 use Rattle.faults.proofs.ids_fault.Goals as goal
 
 pub id_fault-requires : goal.id_fault-requires
-id_fault-requires c = (omega arith, (counts (tables_of c.args.lanes.now c.args.boundaries.now c.args.roads.now c.args.junctions.now c.args.rules.now c.args.stop_lines.now c.args.crosswalks.now c.args.coordinates.now) c.requires).lanes)
+id_fault-requires c = (omega arith, (counts (tables_of c.args.map.lanes.now c.args.map.boundaries.now c.args.map.roads.now c.args.map.junctions.now c.args.map.rules.now c.args.map.stop_lines.now c.args.map.crosswalks.now c.args.map.coordinates.now) c.requires).lanes)
 
 pub id_fault-requires-2 : goal.id_fault-requires-2
-id_fault-requires-2 c = (omega arith, (counts (tables_of c.args.lanes.now c.args.boundaries.now c.args.roads.now c.args.junctions.now c.args.rules.now c.args.stop_lines.now c.args.crosswalks.now c.args.coordinates.now) c.requires).boundaries)
+id_fault-requires-2 c = (omega arith, (counts (tables_of c.args.map.lanes.now c.args.map.boundaries.now c.args.map.roads.now c.args.map.junctions.now c.args.map.rules.now c.args.map.stop_lines.now c.args.map.crosswalks.now c.args.map.coordinates.now) c.requires).boundaries)
 
 pub id_fault-requires-3 : goal.id_fault-requires-3
-id_fault-requires-3 c = (omega arith, (counts (tables_of c.args.lanes.now c.args.boundaries.now c.args.roads.now c.args.junctions.now c.args.rules.now c.args.stop_lines.now c.args.crosswalks.now c.args.coordinates.now) c.requires).roads)
+id_fault-requires-3 c = (omega arith, (counts (tables_of c.args.map.lanes.now c.args.map.boundaries.now c.args.map.roads.now c.args.map.junctions.now c.args.map.rules.now c.args.map.stop_lines.now c.args.map.crosswalks.now c.args.map.coordinates.now) c.requires).roads)
 
 pub id_fault-requires-4 : goal.id_fault-requires-4
-id_fault-requires-4 c = (omega arith, (counts (tables_of c.args.lanes.now c.args.boundaries.now c.args.roads.now c.args.junctions.now c.args.rules.now c.args.stop_lines.now c.args.crosswalks.now c.args.coordinates.now) c.requires).junctions)
+id_fault-requires-4 c = (omega arith, (counts (tables_of c.args.map.lanes.now c.args.map.boundaries.now c.args.map.roads.now c.args.map.junctions.now c.args.map.rules.now c.args.map.stop_lines.now c.args.map.crosswalks.now c.args.map.coordinates.now) c.requires).junctions)
 
 pub id_fault-requires-5 : goal.id_fault-requires-5
-id_fault-requires-5 c = (omega arith, (counts (tables_of c.args.lanes.now c.args.boundaries.now c.args.roads.now c.args.junctions.now c.args.rules.now c.args.stop_lines.now c.args.crosswalks.now c.args.coordinates.now) c.requires).rules)
+id_fault-requires-5 c = (omega arith, (counts (tables_of c.args.map.lanes.now c.args.map.boundaries.now c.args.map.roads.now c.args.map.junctions.now c.args.map.rules.now c.args.map.stop_lines.now c.args.map.crosswalks.now c.args.map.coordinates.now) c.requires).rules)
 
 pub id_fault-requires-6 : goal.id_fault-requires-6
-id_fault-requires-6 c = (omega arith, (counts (tables_of c.args.lanes.now c.args.boundaries.now c.args.roads.now c.args.junctions.now c.args.rules.now c.args.stop_lines.now c.args.crosswalks.now c.args.coordinates.now) c.requires).stop_lines)
+id_fault-requires-6 c = (omega arith, (counts (tables_of c.args.map.lanes.now c.args.map.boundaries.now c.args.map.roads.now c.args.map.junctions.now c.args.map.rules.now c.args.map.stop_lines.now c.args.map.crosswalks.now c.args.map.coordinates.now) c.requires).stop_lines)
 
 pub id_fault-requires-7 : goal.id_fault-requires-7
-id_fault-requires-7 c = (omega arith, (counts (tables_of c.args.lanes.now c.args.boundaries.now c.args.roads.now c.args.junctions.now c.args.rules.now c.args.stop_lines.now c.args.crosswalks.now c.args.coordinates.now) c.requires).crosswalks)
+id_fault-requires-7 c = (omega arith, (counts (tables_of c.args.map.lanes.now c.args.map.boundaries.now c.args.map.roads.now c.args.map.junctions.now c.args.map.rules.now c.args.map.stop_lines.now c.args.map.crosswalks.now c.args.map.coordinates.now) c.requires).crosswalks)
 
 pub returns : goal.returns
 unfolding ids_fault

@@ -8,19 +8,19 @@ use Rattle.faults.proofs.later_rows_fault.Goals as goal
 
 pub row_fault-requires : goal.row_fault-requires
 unfolding row_words
-row_fault-requires c = (refl, (counts (tables_of c.args.lanes.now c.args.boundaries.now c.args.roads.now c.args.junctions.now c.args.rules.now c.args.stop_lines.now c.args.crosswalks.now c.args.coordinates.now) c.requires).junctions)
+row_fault-requires c = (refl, (counts (tables_of c.args.map.lanes.now c.args.map.boundaries.now c.args.map.roads.now c.args.map.junctions.now c.args.map.rules.now c.args.map.stop_lines.now c.args.map.crosswalks.now c.args.map.coordinates.now) c.requires).junctions)
 
 pub row_fault-requires-2 : goal.row_fault-requires-2
 unfolding row_words
-row_fault-requires-2 c = (refl, (counts (tables_of c.args.lanes.now c.args.boundaries.now c.args.roads.now c.args.junctions.now c.args.rules.now c.args.stop_lines.now c.args.crosswalks.now c.args.coordinates.now) c.requires).rules)
+row_fault-requires-2 c = (refl, (counts (tables_of c.args.map.lanes.now c.args.map.boundaries.now c.args.map.roads.now c.args.map.junctions.now c.args.map.rules.now c.args.map.stop_lines.now c.args.map.crosswalks.now c.args.map.coordinates.now) c.requires).rules)
 
 pub row_fault-requires-3 : goal.row_fault-requires-3
 unfolding row_words
-row_fault-requires-3 c = (refl, (counts (tables_of c.args.lanes.now c.args.boundaries.now c.args.roads.now c.args.junctions.now c.args.rules.now c.args.stop_lines.now c.args.crosswalks.now c.args.coordinates.now) c.requires).stop_lines)
+row_fault-requires-3 c = (refl, (counts (tables_of c.args.map.lanes.now c.args.map.boundaries.now c.args.map.roads.now c.args.map.junctions.now c.args.map.rules.now c.args.map.stop_lines.now c.args.map.crosswalks.now c.args.map.coordinates.now) c.requires).stop_lines)
 
 pub row_fault-requires-4 : goal.row_fault-requires-4
 unfolding row_words
-row_fault-requires-4 c = (refl, (counts (tables_of c.args.lanes.now c.args.boundaries.now c.args.roads.now c.args.junctions.now c.args.rules.now c.args.stop_lines.now c.args.crosswalks.now c.args.coordinates.now) c.requires).crosswalks)
+row_fault-requires-4 c = (refl, (counts (tables_of c.args.map.lanes.now c.args.map.boundaries.now c.args.map.roads.now c.args.map.junctions.now c.args.map.rules.now c.args.map.stop_lines.now c.args.map.crosswalks.now c.args.map.coordinates.now) c.requires).crosswalks)
 
 pub returns : goal.returns
 returns c = four c.row_fault.ensures c.row_fault-2.ensures c.row_fault-3.ensures c.row_fault-4.ensures c.or.ensures c.or-2.ensures c.or-3.ensures

@@ -9,15 +9,15 @@ use Rattle.faults.proofs.rows_fault.Goals as goal
 
 pub row_fault-requires : goal.row_fault-requires
 unfolding row_words
-row_fault-requires c = (refl, (counts (tables_of c.args.lanes.now c.args.boundaries.now c.args.roads.now c.args.junctions.now c.args.rules.now c.args.stop_lines.now c.args.crosswalks.now c.args.coordinates.now) c.requires).lanes)
+row_fault-requires c = (refl, (counts (tables_of c.args.map.lanes.now c.args.map.boundaries.now c.args.map.roads.now c.args.map.junctions.now c.args.map.rules.now c.args.map.stop_lines.now c.args.map.crosswalks.now c.args.map.coordinates.now) c.requires).lanes)
 
 pub row_fault-requires-2 : goal.row_fault-requires-2
 unfolding row_words
-row_fault-requires-2 c = (refl, (counts (tables_of c.args.lanes.now c.args.boundaries.now c.args.roads.now c.args.junctions.now c.args.rules.now c.args.stop_lines.now c.args.crosswalks.now c.args.coordinates.now) c.requires).boundaries)
+row_fault-requires-2 c = (refl, (counts (tables_of c.args.map.lanes.now c.args.map.boundaries.now c.args.map.roads.now c.args.map.junctions.now c.args.map.rules.now c.args.map.stop_lines.now c.args.map.crosswalks.now c.args.map.coordinates.now) c.requires).boundaries)
 
 pub row_fault-requires-3 : goal.row_fault-requires-3
 unfolding row_words
-row_fault-requires-3 c = (refl, (counts (tables_of c.args.lanes.now c.args.boundaries.now c.args.roads.now c.args.junctions.now c.args.rules.now c.args.stop_lines.now c.args.crosswalks.now c.args.coordinates.now) c.requires).roads)
+row_fault-requires-3 c = (refl, (counts (tables_of c.args.map.lanes.now c.args.map.boundaries.now c.args.map.roads.now c.args.map.junctions.now c.args.map.rules.now c.args.map.stop_lines.now c.args.map.crosswalks.now c.args.map.coordinates.now) c.requires).roads)
 
 pub returns : goal.returns
 unfolding rows_fault
