@@ -8,7 +8,7 @@ use advance::Advanced;
 use entities::{Command, Counter, Tolerance};
 use report::Answer;
 
-// The call by value.
+// The call by value, on slices, as `ops::apply` takes them.
 fn applied(
     counter: Counter,
     tolerance: Tolerance,
@@ -48,7 +48,7 @@ fn applied(
     advance::advance(counter, answer)
 }
 
-// `ops::apply` with the counter lent: the counter is read, the call made, and the counter stored as the last act. A refused call leaves it.
+// `ops::apply` with the counter lent: the counter is read, the call made, and the counter stored as the last act. A refused call leaves it. Slices, as hosts lend them (README).
 pub fn apply(
     counter: &mut Counter,
     tolerance: Tolerance,

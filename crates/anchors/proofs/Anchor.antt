@@ -16,7 +16,6 @@ use Rattle.geometry.specs.Point.{xy, lerp2}
 use Rattle.polyline.specs.Polyline.{points, point_at_fraction}
 use Rattle.entities.specs.Records.{Line, Rule, Map}
 use Rattle.rules.specs.Names.{Point2, Point3}
-use Rattle.rules.specs.Names as Names
 use Rattle.rules.specs.Map.{mid, half_way, stop_anchor, cross_anchor, crosswalk_in, stop_line, crosswalk, anchor_by, rule_anchor}
 use Rattle.tables.specs.View.{word, part, rows, rule_of, stop_line_of, crosswalk_of}
 use Rattle.tables.specs.Formed.{counted}

@@ -2,82 +2,58 @@
 #![tactic(auto)]
 
 ghost use Rattle.std.specs.Prelude.{◌≡◌, true, ◌≤◌, length, take};
-ghost use Rattle.tables.specs.View.{tables_of};
+ghost use Rattle.lent.specs.Lent.{map_tables, view_tables, SameSlices};
 ghost use Rattle.area.specs.Area.{area_fits, copied, put_back};
 
+use lent::{Map, MapView};
 use lists::both;
 
 // Whether each slice of the area is as long as the map's.
-pub fn fits(
-    lanes: &[u64],
-    boundaries: &[u64],
-    roads: &[u64],
-    junctions: &[u64],
-    rules: &[u64],
-    stop_lines: &[u64],
-    crosswalks: &[u64],
-    coordinates: &[f64],
-    old_lanes: &[u64],
-    old_boundaries: &[u64],
-    old_roads: &[u64],
-    old_junctions: &[u64],
-    old_rules: &[u64],
-    old_stop_lines: &[u64],
-    old_crosswalks: &[u64],
-    old_coordinates: &[f64],
-) -> bool
-    ensures { result ≡ area_fits (tables_of lanes.now boundaries.now roads.now junctions.now rules.now stop_lines.now crosswalks.now coordinates.now) (tables_of old_lanes.now old_boundaries.now old_roads.now old_junctions.now old_rules.now old_stop_lines.now old_crosswalks.now old_coordinates.now) }
+pub fn fits(map: MapView, old: MapView) -> bool
+    ensures { result ≡ area_fits (view_tables map.entry) (view_tables old.entry) }
 {
     let large = both(
         both(
-            lanes.len() <= old_lanes.len(),
-            boundaries.len() <= old_boundaries.len(),
+            map.lanes.len() <= old.lanes.len(),
+            map.boundaries.len() <= old.boundaries.len(),
         ),
-        roads.len() <= old_roads.len(),
+        map.roads.len() <= old.roads.len(),
     );
     let middle = both(
-        both(large, junctions.len() <= old_junctions.len()),
-        rules.len() <= old_rules.len(),
+        both(large, map.junctions.len() <= old.junctions.len()),
+        map.rules.len() <= old.rules.len(),
     );
     both(
         both(
-            both(middle, stop_lines.len() <= old_stop_lines.len()),
-            crosswalks.len() <= old_crosswalks.len(),
+            both(middle, map.stop_lines.len() <= old.stop_lines.len()),
+            map.crosswalks.len() <= old.crosswalks.len(),
         ),
-        coordinates.len() <= old_coordinates.len(),
+        map.coordinates.len() <= old.coordinates.len(),
     )
 }
 
 // The map's slices at the front of the area.
-pub fn keep_copy(
-    lanes: &[u64],
-    boundaries: &[u64],
-    roads: &[u64],
-    junctions: &[u64],
-    rules: &[u64],
-    stop_lines: &[u64],
-    crosswalks: &[u64],
-    coordinates: &[f64],
-    old_lanes: &mut [u64],
-    old_boundaries: &mut [u64],
-    old_roads: &mut [u64],
-    old_junctions: &mut [u64],
-    old_rules: &mut [u64],
-    old_stop_lines: &mut [u64],
-    old_crosswalks: &mut [u64],
-    old_coordinates: &mut [f64],
-)
-    requires { area_fits (tables_of lanes.now boundaries.now roads.now junctions.now rules.now stop_lines.now crosswalks.now coordinates.now) (tables_of old_lanes.old old_boundaries.old old_roads.old old_junctions.old old_rules.old old_stop_lines.old old_crosswalks.old old_coordinates.old) ≡ true }
-    ensures { tables_of old_lanes.new old_boundaries.new old_roads.new old_junctions.new old_rules.new old_stop_lines.new old_crosswalks.new old_coordinates.new ≡ copied (tables_of lanes.now boundaries.now roads.now junctions.now rules.now stop_lines.now crosswalks.now coordinates.now) (tables_of old_lanes.old old_boundaries.old old_roads.old old_junctions.old old_rules.old old_stop_lines.old old_crosswalks.old old_coordinates.old) }
+pub fn keep_copy(map: MapView, old: &mut Map)
+    requires { area_fits (view_tables map) (map_tables old.old) ≡ true }
+    ensures made { map_tables old.new ≡ copied (view_tables map.entry) (map_tables old.old) }
+    ensures same { SameSlices old.old old.new }
 {
-    slots::copy(lanes, old_lanes, 0);
-    slots::copy(boundaries, old_boundaries, 0);
-    slots::copy(roads, old_roads, 0);
-    slots::copy(junctions, old_junctions, 0);
-    slots::copy(rules, old_rules, 0);
-    slots::copy(stop_lines, old_stop_lines, 0);
-    slots::copy(crosswalks, old_crosswalks, 0);
-    layout::copy(coordinates, 0, coordinates.len(), old_coordinates, 0);
+    let lanes = &mut *old.lanes;
+    let boundaries = &mut *old.boundaries;
+    let roads = &mut *old.roads;
+    let junctions = &mut *old.junctions;
+    let rules = &mut *old.rules;
+    let stop_lines = &mut *old.stop_lines;
+    let crosswalks = &mut *old.crosswalks;
+    let coordinates = &mut *old.coordinates;
+    slots::copy(map.lanes, lanes, 0);
+    slots::copy(map.boundaries, boundaries, 0);
+    slots::copy(map.roads, roads, 0);
+    slots::copy(map.junctions, junctions, 0);
+    slots::copy(map.rules, rules, 0);
+    slots::copy(map.stop_lines, stop_lines, 0);
+    slots::copy(map.crosswalks, crosswalks, 0);
+    layout::copy(map.coordinates, 0, map.coordinates.len(), coordinates, 0);
 }
 
 // A slice filled from the front of another.
@@ -90,34 +66,43 @@ fn fill(from: &[u64], to: &mut [u64])
 }
 
 // The map's slices as the front of the area has them.
-pub fn put_back(
-    old_lanes: &[u64],
-    old_boundaries: &[u64],
-    old_roads: &[u64],
-    old_junctions: &[u64],
-    old_rules: &[u64],
-    old_stop_lines: &[u64],
-    old_crosswalks: &[u64],
-    old_coordinates: &[f64],
-    lanes: &mut [u64],
-    boundaries: &mut [u64],
-    roads: &mut [u64],
-    junctions: &mut [u64],
-    rules: &mut [u64],
-    stop_lines: &mut [u64],
-    crosswalks: &mut [u64],
-    coordinates: &mut [f64],
-)
-    requires { area_fits (tables_of lanes.old boundaries.old roads.old junctions.old rules.old stop_lines.old crosswalks.old coordinates.old) (tables_of old_lanes.now old_boundaries.now old_roads.now old_junctions.now old_rules.now old_stop_lines.now old_crosswalks.now old_coordinates.now) ≡ true }
-    ensures { tables_of lanes.new boundaries.new roads.new junctions.new rules.new stop_lines.new crosswalks.new coordinates.new ≡ put_back (tables_of lanes.old boundaries.old roads.old junctions.old rules.old stop_lines.old crosswalks.old coordinates.old) (tables_of old_lanes.now old_boundaries.now old_roads.now old_junctions.now old_rules.now old_stop_lines.now old_crosswalks.now old_coordinates.now) }
+pub fn put_back(old: MapView, map: &mut Map)
+    requires { area_fits (map_tables map.old) (view_tables old) ≡ true }
+    ensures made { map_tables map.new ≡ put_back (map_tables map.old) (view_tables old.entry) }
+    ensures same { SameSlices map.old map.new }
 {
-    fill(old_lanes, lanes);
-    fill(old_boundaries, boundaries);
-    fill(old_roads, roads);
-    fill(old_junctions, junctions);
-    fill(old_rules, rules);
-    fill(old_stop_lines, stop_lines);
-    fill(old_crosswalks, crosswalks);
+    let lanes = &mut *map.lanes;
+    let boundaries = &mut *map.boundaries;
+    let roads = &mut *map.roads;
+    let junctions = &mut *map.junctions;
+    let rules = &mut *map.rules;
+    let stop_lines = &mut *map.stop_lines;
+    let crosswalks = &mut *map.crosswalks;
+    let coordinates = &mut *map.coordinates;
+    fill(old.lanes, lanes);
+    fill(old.boundaries, boundaries);
+    fill(old.roads, roads);
+    fill(old.junctions, junctions);
+    fill(old.rules, rules);
+    fill(old.stop_lines, stop_lines);
+    fill(old.crosswalks, crosswalks);
     let n = coordinates.len();
-    layout::copy(old_coordinates, 0, n, coordinates, 0);
+    layout::copy(old.coordinates, 0, n, coordinates, 0);
+}
+
+// The front of the area, as long as the map's slices.
+pub fn front<'a>(map: MapView, area: MapView<'a>) -> MapView<'a>
+    requires { area_fits (view_tables map) (view_tables area) ≡ true }
+    ensures { view_tables result ≡ put_back (view_tables map.entry) (view_tables area.entry) }
+{
+    MapView {
+        lanes: &area.lanes[..map.lanes.len()],
+        boundaries: &area.boundaries[..map.boundaries.len()],
+        roads: &area.roads[..map.roads.len()],
+        junctions: &area.junctions[..map.junctions.len()],
+        rules: &area.rules[..map.rules.len()],
+        stop_lines: &area.stop_lines[..map.stop_lines.len()],
+        crosswalks: &area.crosswalks[..map.crosswalks.len()],
+        coordinates: &area.coordinates[..map.coordinates.len()],
+    }
 }

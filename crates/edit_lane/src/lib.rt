@@ -2,12 +2,13 @@
 #![tactic(auto)]
 
 ghost use Rattle.std.specs.Prelude.{◌≡◌, true, ◌+◌, ◌*◌};
+ghost use Rattle.step.specs.Step.{given};
 ghost use Rattle.rules.specs.Ops as O;
 ghost use Rattle.tables.specs.View.{word};
 ghost use Rattle.tables.specs.Formed.{sound_tables};
 ghost use Rattle.row_tests.specs.Returned.{lane_at};
 ghost use Rattle.step.specs.Step as S;
-ghost use Rattle.lent.specs.Lent.{map_tables, given, SameSlices, SameLists};
+ghost use Rattle.lent.specs.Lent.{map_tables, SameSlices, SameLists};
 ghost use Rattle.mentions.specs.declared.Rows.TheVariants.{Orphans};
 ghost use Rattle.unused.specs.Parts as P;
 

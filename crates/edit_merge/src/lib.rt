@@ -2,11 +2,12 @@
 #![tactic(auto)]
 
 ghost use Rattle.std.specs.Prelude.{◌≡◌, true};
+ghost use Rattle.step.specs.Step.{given};
 ghost use Rattle.rules.specs.Ops as O;
 ghost use Rattle.tables.specs.Formed.{sound_tables};
 ghost use Rattle.report.specs.Report.{counter_behind};
 ghost use Rattle.step.specs.Step as S;
-ghost use Rattle.lent.specs.Lent.{map_tables, given, SameSlices, SameLists};
+ghost use Rattle.lent.specs.Lent.{map_tables, SameSlices, SameLists};
 
 use entities::{Refusal, Tolerance};
 use report::Answer;

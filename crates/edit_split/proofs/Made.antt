@@ -1,7 +1,7 @@
 -- The last steps of a split, from pieces that are listed to the end: what they ask, and that each ends as the next one does. Assumes nothing.
 use Rattle.std.specs.Prelude.{Err}
-use mathlib.Core.Path.{◌≡◌, refl, sym, ap, ◌∙◌, subst}
-use Prim.Native.Nat.{ℕ, ◌+◌, ◌-◌, ◌^◌, ◌≤◌, ◌<◌}
+use mathlib.Core.Path.{◌≡◌, sym, ap, ◌∙◌, subst}
+use Prim.Native.Nat.{ℕ, ◌+◌, ◌^◌, ◌≤◌, ◌<◌}
 use native.Mathlib.Omega.{arith}
 use mathlib.Core.Bool.{Bool, true, false}
 use mathlib.Core.List.{List}
@@ -9,15 +9,14 @@ use lib.Ieee.{Float}
 use lib.ListN.{length, replicate, length-replicate}
 use Rattle.lists.specs.Rows.{over}
 use Rattle.rules.specs.Names.{Tolerance, Point2, NoRoom}
-use Rattle.rules.specs.Sound.{next_id}
 use Rattle.tables.specs.View.{Tables}
 use Rattle.order.specs.Order.{column_of}
 use Rattle.report.specs.Report.{counter_behind, Answer}
 use Rattle.step.specs.Step.{Ended, ended}
 use Rattle.split_lines.specs.Cut.{Measurable, chosen_lines, drawn_pieces, measured}
-use Rattle.split_relay.specs.Relaying.{Cutting, drawn_points}
+use Rattle.split_relay.specs.Relaying.{Cutting, cutting, drawn_points}
 use Rattle.split_made.specs.declared.Drawn.{Drawn}
-use Rattle.split_made.specs.Made.{Left, Makeable, cutting_of, fits_after, left, lined, split_made}
+use Rattle.split_made.specs.Made.{Left, Makeable, fits_after, left, lined, split_made}
 use Rattle.split_facts.specs.Splitting.{Measured, split_ends}
 use Rattle.split_facts.proofs.Facts.{ids-small}
 use Rattle.split_facts.proofs.Asks.{pieces_measurable, centers_measurable}
@@ -72,29 +71,33 @@ module _ {tol : Tolerance} {counter : ℕ} {t : Tables} {own : ℕ} {p : Point2}
       (e : (end ≡ reach + points_1 + points_2)
       × ((lines ≡ over (replicate 3072 0) 0 (measured p reach (chosen_lines t.coordinates (column_of 5 2 false) marks t.boundaries)))
       × (centers ≡ over (replicate 1536 0) 0 (measured p (reach + points_1) (chosen_lines t.coordinates (column_of 52 7 true) seen t.lanes))))) where
-    pub decided-asks : (next_id counter + ids < 2 ^ 64) × (reach ≤ end)
-    decided-asks = (omega (arith, ids-small h.number), omega (arith, e.0))
+    pub decided-asks : reach ≤ end
+    decided-asks = omega (arith, e.0)
 
-    known : Measured tol counter t own stations ids (cutting_of (drawn_by counter own p ids reach end many) seen cut marks pieces lines centers)
-    known =
-        record {
-          number = h.number;
-          next = refl;
-          reach = h.reaches;
-          many = h.count;
-          pieces = h.listed;
-          lines = e.1.0;
-          centers = e.1.1;
-        }
+    module _ (d : Drawn) (is : d ≡ drawn_by counter own ids reach end) where
+      abbrev k : Cutting
+      k = cutting p reach seen cut (d.first + ids) marks pieces many lines centers
 
-    drawn-are : end - reach ≡ drawn_points (cutting_of (drawn_by counter own p ids reach end many) seen cut marks pieces lines centers) (lined t)
-    drawn-are = omega (arith, e.0)
+      pub next-fits : d.first + ids < 2 ^ 64
+      next-fits = omega (arith, ids-small h.number, ap (λ (x : Drawn). x.first) is)
 
-    module _ (d : Drawn) (is : d ≡ drawn_by counter own p ids reach end many) where
-      pub measured-asks : MayAnchor tol.join stations d (cutting_of d seen cut marks pieces lines centers) t
-      measured-asks =
-          subst (λ x. MayAnchor tol.join stations x (cutting_of x seen cut marks pieces lines centers) t) (sym is)
-          (may_anchor known (drawn_by counter own p ids reach end many) refl refl refl drawn-are (replicate 0 0) (replicate 0 0) (replicate 0 0) (replicate 0 0))
+      known : Measured tol counter t own stations ids k
+      known =
+          record {
+            number = h.number;
+            next = ap (λ (x : Drawn). x.first + ids) is;
+            reach = h.reaches;
+            many = h.count;
+            pieces = h.listed;
+            lines = e.1.0;
+            centers = e.1.1;
+          }
+
+      drawn-are : d.points ≡ drawn_points k (lined t)
+      drawn-are = omega (arith, e.0, ap (λ (x : Drawn). x.points) is)
+
+      pub measured-asks : MayAnchor tol.join stations d k t
+      measured-asks = may_anchor known d (ap (λ (x : Drawn). x.own) is) (ap (λ (x : Drawn). x.ids) is) (ap (λ (x : Drawn). x.first) is) drawn-are (replicate 0 0) (replicate 0 0) (replicate 0 0) (replicate 0 0)
 
       -- what is left, with the counter that follows from the answer
       abbrev closing : Left → Ended
@@ -104,10 +107,8 @@ module _ {tol : Tolerance} {counter : ℕ} {t : Tables} {own : ℕ} {p : Point2}
           x.answer
 
       pub pieces_end : (created modified deleted warnings : List ℕ) (u : Tables) (created₁ modified₁ deleted₁ warnings₁ : List ℕ) (r : Answer)
-          → left u created₁ modified₁ deleted₁ warnings₁ r ≡ split_anchored tol.join stations d (cutting_of d seen cut marks pieces lines centers) t created modified deleted warnings
+          → left u created₁ modified₁ deleted₁ warnings₁ r ≡ split_anchored tol.join stations d k t created modified deleted warnings
           → ended (record { counter = counter_behind counter r; tables = u; created = created₁; modified = modified₁; deleted = deleted₁; warnings = warnings₁ }) r
           ≡ split_ends tol own p seen cut stations (record { counter = counter; tables = t; created = created; modified = modified; deleted = deleted; warnings = warnings })
       pieces_end created modified deleted warnings u c m x w r f =
-          ap closing f
-          ∙ (ap (λ y. closing (split_anchored tol.join stations y (cutting_of y seen cut marks pieces lines centers) t created modified deleted warnings)) is
-          ∙ ends known (drawn_by counter own p ids reach end many) refl refl refl drawn-are created modified deleted warnings)
+          ap closing f ∙ ends known d (ap (λ (x : Drawn). x.own) is) (ap (λ (x : Drawn). x.ids) is) (ap (λ (x : Drawn). x.first) is) drawn-are created modified deleted warnings

@@ -1,6 +1,6 @@
 -- split_lane in words: how a call ends from step to step, and what each step asks. Nothing that a host calls rests on this page.
 use Rattle.rules.specs.Edit.{Passed, Res, passed}
-use Rattle.std.specs.Prelude.{◌≡◌, ℕ, ◌+◌, ◌-◌, ◌≤◌, ◌<◌, Bool, true, false, cond, List, Float, length, replicate, Err, Ok}
+use Rattle.std.specs.Prelude.{◌≡◌, ℕ, ◌-◌, ◌≤◌, ◌<◌, Bool, true, false, cond, List, Float, length, replicate, Err, Ok}
 use Rattle.lists.specs.Rows.{over}
 use Rattle.rules.specs.Names.{Tolerance, Point2, NoRoom}
 use Rattle.rules.specs.Limits.{max_lanes, max_rules}
@@ -78,19 +78,9 @@ pub record Pieced (tol : Tolerance) (counter : ℕ) (t : Tables) (own : ℕ) (p 
   pub count : many ≡ length (cut_keys marks t.boundaries)
   pub reaches : reach ≡ reach_of t
 
--- what is decided, once they are measured
-abbrev pub drawn_by : ℕ → ℕ → Point2 → ℕ → ℕ → ℕ → ℕ → Drawn
-drawn_by counter own p ids reach end many =
-    record {
-      own = own;
-      point = p;
-      ids = ids;
-      first = next_id counter;
-      next = next_id counter + ids;
-      reach = reach;
-      points = end - reach;
-      many = many;
-    }
+-- what is decided besides the cut, once they are measured
+abbrev pub drawn_by : ℕ → ℕ → ℕ → ℕ → ℕ → Drawn
+drawn_by counter own ids reach end = record { own = own; ids = ids; first = next_id counter; points = end - reach }
 
 -- ---- room, then the end
 

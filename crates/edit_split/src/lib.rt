@@ -2,12 +2,14 @@
 #![tactic(auto)]
 
 ghost use Rattle.std.specs.Prelude.{◌≡◌, true, ◌+◌, ◌^◌, ◌≤◌, ◌<◌};
-ghost use Rattle.lent.specs.Lent.{map_tables, given, SameSlices, SameLists};
+ghost use Rattle.step.specs.Step.{given};
+ghost use Rattle.lent.specs.Lent.{map_tables, SameSlices, SameLists};
 ghost use Rattle.rules.specs.Sound.{next_id};
 ghost use Rattle.rules.specs.Ops as O;
 ghost use Rattle.tables.specs.Formed.{sound_tables};
 ghost use Rattle.report.specs.Report.{counter_behind};
 ghost use Rattle.step.specs.Step as S;
+ghost use Rattle.split_relay.specs.Given.{cutting_by};
 ghost use Rattle.split_made.specs.Made as D;
 ghost use Rattle.split_facts.specs.Splitting as K;
 ghost use Rattle.edit_split.specs.Parts as P;
@@ -18,6 +20,7 @@ use lists::both;
 use report::Answer;
 use split_made::Drawn;
 use split_plan::Cut;
+use split_relay::Cuts;
 use tables::{BOUNDARY, LANE};
 
 // Rows of lanes, boundaries and rules at most.
@@ -41,37 +44,20 @@ const RULE_MARKS: usize = 32768;
 fn split_anchored(
     map: &mut lent::Map,
     drawn: Drawn,
-    seen: &[bool],
-    cut: &[u64],
-    marks: &[bool],
-    pieces: &[u64],
-    lines: &[u64],
-    centers: &[u64],
+    cuts: Cuts,
     anchored: &[bool],
     past: &[bool],
     lists: &mut lent::Lists,
 ) -> Answer
-    requires { P.MayMake drawn (D.cutting_of drawn seen.now cut.now marks.now pieces.now lines.now centers.now) anchored.now past.now (map_tables map.old) }
-    ensures made { D.left (map_tables map.new) lists.new.created.now lists.new.modified.now lists.new.deleted.now lists.new.warnings.now result ≡ P.split_fits drawn (D.cutting_of drawn seen.now cut.now marks.now pieces.now lines.now centers.now) anchored.now past.now (map_tables map.old) lists.old.created.now lists.old.modified.now lists.old.deleted.now lists.old.warnings.now }
+    requires { P.MayMake drawn (cutting_by cuts) anchored.now past.now (map_tables map.old) }
+    ensures made { D.left (map_tables map.new) lists.new.created.now lists.new.modified.now lists.new.deleted.now lists.new.warnings.now result ≡ P.split_fits drawn (cutting_by cuts.entry) anchored.now past.now (map_tables map.old) lists.old.created.now lists.old.modified.now lists.old.deleted.now lists.old.warnings.now }
     ensures same { SameSlices map.old map.new }
     ensures same_lists { SameLists lists.old lists.new }
 {
-    if !split_made::fits(
-        map.view(),
-        drawn,
-        seen,
-        cut,
-        marks,
-        pieces,
-        lines,
-        centers,
-        anchored,
-    ) {
+    if !split_made::fits(map.view(), cuts, anchored) {
         return Err(Refusal::NoRoom);
     }
-    split_made::make(
-        map, drawn, seen, cut, marks, pieces, lines, centers, anchored, past, lists,
-    )
+    split_made::make(map, drawn, cuts, anchored, past, lists)
 }
 
 // The same with the anchors of rules, found here.
@@ -79,17 +65,12 @@ fn split_measured(
     join: f64,
     map: &mut lent::Map,
     drawn: Drawn,
-    seen: &[bool],
-    cut: &[u64],
+    cuts: Cuts,
     stations: &[f64],
-    marks: &[bool],
-    pieces: &[u64],
-    lines: &[u64],
-    centers: &[u64],
     lists: &mut lent::Lists,
 ) -> Answer
-    requires { P.MayAnchor join stations.now drawn (D.cutting_of drawn seen.now cut.now marks.now pieces.now lines.now centers.now) (map_tables map.old) }
-    ensures made { D.left (map_tables map.new) lists.new.created.now lists.new.modified.now lists.new.deleted.now lists.new.warnings.now result ≡ P.split_anchored join stations.now drawn (D.cutting_of drawn seen.now cut.now marks.now pieces.now lines.now centers.now) (map_tables map.old) lists.old.created.now lists.old.modified.now lists.old.deleted.now lists.old.warnings.now }
+    requires { P.MayAnchor join stations.now drawn (cutting_by cuts) (map_tables map.old) }
+    ensures made { D.left (map_tables map.new) lists.new.created.now lists.new.modified.now lists.new.deleted.now lists.new.warnings.now result ≡ P.split_anchored join stations.now drawn (cutting_by cuts.entry) (map_tables map.old) lists.old.created.now lists.old.modified.now lists.old.deleted.now lists.old.warnings.now }
     ensures same { SameSlices map.old map.new }
     ensures same_lists { SameLists lists.old lists.new }
 {
@@ -106,8 +87,8 @@ fn split_measured(
         lanes,
         boundaries,
         coordinates,
-        drawn.point,
-        cut,
+        cuts.point,
+        cuts.cut,
         stations,
         rules,
         stop_lines,
@@ -115,36 +96,21 @@ fn split_measured(
         &mut anchored,
         &mut past,
     );
-    split_anchored(
-        map, drawn, seen, cut, marks, pieces, lines, centers, &anchored, &past, lists,
-    )
+    split_anchored(map, drawn, cuts, &anchored, &past, lists)
 }
 
 // ---- pieces and lines
 
-// What is decided: the lines reach to point `reach`, and those that are drawn to point `end`.
-fn decided(
-    counter: u64,
-    own: u64,
-    point: Point2,
-    ids: usize,
-    reach: usize,
-    end: usize,
-    many: usize,
-) -> Drawn
-    requires { (next_id counter + ids < 2 ^ 64) × (reach ≤ end) }
-    ensures { result ≡ P.drawn_by counter own point ids reach end many }
+// What is decided besides the cut: the lines reach to point `reach`, and those that are drawn to point `end`.
+fn decided(counter: u64, own: u64, ids: usize, reach: usize, end: usize) -> Drawn
+    requires { reach ≤ end }
+    ensures { result ≡ P.drawn_by counter own ids reach end }
 {
-    let first = room::next_id(counter);
     Drawn {
         own,
-        point,
         ids,
-        first,
-        next: first + ids as u64,
-        reach,
+        first: room::next_id(counter),
         points: end - reach,
-        many,
     }
 }
 
@@ -186,20 +152,20 @@ fn split_pieced(
         &mut lines,
         &mut centers,
     );
-    let drawn = decided(counter, own, point, ids, reach, end, many);
-    split_measured(
-        tolerance.join,
-        map,
-        drawn,
+    let drawn = decided(counter, own, ids, reach, end);
+    let cuts = Cuts {
+        point,
+        reach,
         seen,
         cut,
-        stations,
+        next: drawn.first + ids as u64,
         marks,
         pieces,
-        &lines,
-        &centers,
-        lists,
-    )
+        many,
+        lines: &lines,
+        centers: &centers,
+    };
+    split_measured(tolerance.join, map, drawn, cuts, stations, lists)
 }
 
 // With the pieces of the marked boundaries listed.

@@ -30,6 +30,7 @@ fn first_place(ids: &[u64], id: u64) -> usize
 }
 
 // An id put behind the first `id` of a list of n ids, which stands at place p. From the back, so that none is overwritten before it is moved.
+// The list lies at the front of its slots, which are fixed memory: the count stands beside it.
 fn insert_behind(slots: &mut [u64], n: usize, p: usize, id: u64, second: u64)
     requires { (n < length slots.old) × ((p ≡ F.first_place id (take n slots.old)) × (p < n)) }
     ensures { slots.new ≡ over slots.old 0 (swap_first id (F.pair id second) (take n slots.old)) }

@@ -2,7 +2,8 @@
 #![tactic(auto)]
 
 ghost use Rattle.std.specs.Prelude.{◌≡◌, ◌*◌, ◌≤◌, length};
-ghost use Rattle.layout.specs.Layout.{sourced, gathered, line_tables, Gatherable};
+ghost use Rattle.layout.specs.Layout.{sourced, gathered, Gatherable};
+ghost use Rattle.lent.specs.Lent.{lines_tables, SameLines};
 
 use tables::POINT;
 
@@ -12,53 +13,21 @@ pub const SMALL_POINTS: usize = 2560;
 const SMALL: usize = 7680;
 
 // Every line of the map, column by column, from a copy of the coordinates up to point `reach` made in `work`.
-pub fn gather_in(
-    lanes: &mut [u64],
-    boundaries: &mut [u64],
-    stop_lines: &mut [u64],
-    crosswalks: &mut [u64],
-    coordinates: &mut [f64],
-    reach: usize,
-    drawn: &[f64],
-    work: &mut [f64],
-)
-    requires { (reach * 3 ≤ length work.old) × ((reach * 3 ≤ length coordinates.old) × (Gatherable (sourced reach coordinates.old drawn.now) (line_tables lanes.old boundaries.old stop_lines.old crosswalks.old coordinates.old))) }
-    ensures { line_tables lanes.new boundaries.new stop_lines.new crosswalks.new coordinates.new ≡ gathered (sourced reach coordinates.old drawn.now) (line_tables lanes.old boundaries.old stop_lines.old crosswalks.old coordinates.old) }
+pub fn gather_in(lines: &mut lent::Lines, reach: usize, drawn: &[f64], work: &mut [f64])
+    requires { (reach * 3 ≤ length work.old) × ((reach * 3 ≤ length lines.old.coordinates.now) × (Gatherable (sourced reach lines.old.coordinates.now drawn.now) (lines_tables lines.old))) }
+    ensures made { lines_tables lines.new ≡ gathered (sourced reach lines.old.coordinates.now drawn.now) (lines_tables lines.old) }
+    ensures same { SameLines lines.old lines.new }
 {
+    let coordinates = &mut *lines.coordinates;
     layout::copy(coordinates, 0, reach * POINT, work, 0);
-    layout_all::gather_all(
-        lanes,
-        boundaries,
-        stop_lines,
-        crosswalks,
-        work,
-        reach,
-        drawn,
-        coordinates,
-    );
+    layout_all::gather_all(lines, work, reach, drawn);
 }
 
-pub fn gather_small(
-    lanes: &mut [u64],
-    boundaries: &mut [u64],
-    stop_lines: &mut [u64],
-    crosswalks: &mut [u64],
-    coordinates: &mut [f64],
-    reach: usize,
-    drawn: &[f64],
-)
-    requires { (reach ≤ 2560) × ((reach * 3 ≤ length coordinates.old) × (Gatherable (sourced reach coordinates.old drawn.now) (line_tables lanes.old boundaries.old stop_lines.old crosswalks.old coordinates.old))) }
-    ensures { line_tables lanes.new boundaries.new stop_lines.new crosswalks.new coordinates.new ≡ gathered (sourced reach coordinates.old drawn.now) (line_tables lanes.old boundaries.old stop_lines.old crosswalks.old coordinates.old) }
+pub fn gather_small(lines: &mut lent::Lines, reach: usize, drawn: &[f64])
+    requires { (reach ≤ 2560) × ((reach * 3 ≤ length lines.old.coordinates.now) × (Gatherable (sourced reach lines.old.coordinates.now drawn.now) (lines_tables lines.old))) }
+    ensures made { lines_tables lines.new ≡ gathered (sourced reach lines.old.coordinates.now drawn.now) (lines_tables lines.old) }
+    ensures same { SameLines lines.old lines.new }
 {
     let mut work = [0.0; SMALL];
-    gather_in(
-        lanes,
-        boundaries,
-        stop_lines,
-        crosswalks,
-        coordinates,
-        reach,
-        drawn,
-        &mut work,
-    );
+    gather_in(lines, reach, drawn, &mut work);
 }

@@ -2,7 +2,8 @@
 #![tactic(auto)]
 
 ghost use Rattle.std.specs.Prelude.{◌≡◌, ◌*◌, ◌≤◌, length};
-ghost use Rattle.layout.specs.Layout.{sourced, gathered, line_tables, Gatherable};
+ghost use Rattle.layout.specs.Layout.{sourced, gathered, Gatherable};
+ghost use Rattle.lent.specs.Lent.{lines_tables, SameLines};
 
 // Points that the array holds, and its floats.
 const MOST_POINTS: usize = 65536;
@@ -11,40 +12,16 @@ const MOST: usize = 196608;
 
 // Answers how many points were copied. A function that goes on with its own answer is put into no other by the compiler, so that the array is on the stack
 // of those maps alone that ask for it: that is what the first branch, which no map takes, is for.
-pub fn gather_apart(
-    lanes: &mut [u64],
-    boundaries: &mut [u64],
-    stop_lines: &mut [u64],
-    crosswalks: &mut [u64],
-    coordinates: &mut [f64],
-    reach: usize,
-    drawn: &[f64],
-) -> usize
-    requires { (reach ≤ 65536) × ((reach * 3 ≤ length coordinates.old) × (Gatherable (sourced reach coordinates.old drawn.now) (line_tables lanes.old boundaries.old stop_lines.old crosswalks.old coordinates.old))) }
-    ensures { (result ≡ reach) × (line_tables lanes.new boundaries.new stop_lines.new crosswalks.new coordinates.new ≡ gathered (sourced reach coordinates.old drawn.now) (line_tables lanes.old boundaries.old stop_lines.old crosswalks.old coordinates.old)) }
+pub fn gather_apart(lines: &mut lent::Lines, reach: usize, drawn: &[f64]) -> usize
+    requires { (reach ≤ 65536) × ((reach * 3 ≤ length lines.old.coordinates.now) × (Gatherable (sourced reach lines.old.coordinates.now drawn.now) (lines_tables lines.old))) }
+    ensures copied { result ≡ reach }
+    ensures made { lines_tables lines.new ≡ gathered (sourced reach lines.old.coordinates.now drawn.now) (lines_tables lines.old) }
+    ensures same { SameLines lines.old lines.new }
 {
     if MOST_POINTS < reach {
-        return reach
-            - gather_apart(
-                lanes,
-                boundaries,
-                stop_lines,
-                crosswalks,
-                coordinates,
-                reach,
-                drawn,
-            );
+        return reach - gather_apart(lines, reach, drawn);
     }
     let mut work = [0.0; MOST];
-    gathers::gather_in(
-        lanes,
-        boundaries,
-        stop_lines,
-        crosswalks,
-        coordinates,
-        reach,
-        drawn,
-        &mut work,
-    );
+    gathers::gather_in(lines, reach, drawn, &mut work);
     reach
 }

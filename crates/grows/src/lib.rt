@@ -22,10 +22,5 @@ pub fn grow_rows(t: &mut [u64], s: usize, k: usize, cut: &[u64], next: u64)
     requires { G.Grows next cut.now s k t.old }
     ensures { t.new ≡ on_rows s (G.grows_at next cut.now k) t.old }
 {
-    let n = t[0] as usize;
-    for i in 0..n {
-        let at = 1 + i * s;
-        let end = at + s;
-        grow_list(&mut t[at..end], k, cut, next);
-    }
+    row_walk::each_row(t, s, |row| grow_list(row, k, cut, next));
 }

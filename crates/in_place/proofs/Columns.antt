@@ -124,9 +124,9 @@ module _ (t : Tables) where
       (rw z at g₅) ∙ ap (λ l. up_all drawn reach 0 l c) (sym (spans-columns t))
 
 -- the rows
-pub columns-started : (l b s x l₁ b₁ s₁ x₁ x₂ : List ℕ) (a₁ a₂ a₃ a₄ : ℕ)
+pub columns-started : (l b s x l₁ b₁ s₁ x₁ x₂ : List ℕ) (c : List Float) (a₁ a₂ a₃ a₄ : ℕ)
     → (a₁ ≡ 0 + points_in (column_lines boundary_lines_of b)) × (b₁ ≡ laid_from 0 boundary_lines_of b) → (a₂ ≡ a₁ + points_in (column_lines centerlines l)) × (l₁ ≡ laid_from a₁ centerlines l)
     → (a₃ ≡ a₂ + points_in (column_lines stop_lines_of s)) × (s₁ ≡ laid_from a₂ stop_lines_of s) → (a₄ ≡ a₃ + points_in (column_lines left_edges_of x)) × (x₁ ≡ laid_from a₃ left_edges_of x)
-    → x₂ ≡ laid_from a₄ right_edges_of x₁ → line_tables l₁ b₁ s₁ x₂ [] ≡ started (line_tables l b s x [])
-columns-started l b s x l₁ b₁ s₁ x₁ x₂ a₁ a₂ a₃ a₄ p₁ p₂ p₃ p₄ p₅ =
-    ap (pointing []) (all-gathered [] l b s x l₁ b₁ s₁ x₁ x₂ [] (over [] 0 (line_floats [] (spans (line_tables l b s x [])))) a₁ a₂ a₃ a₄ p₁.0 p₁.1 p₂.0 p₂.1 p₃.0 p₃.1 p₄.0 p₄.1 p₅ refl)
+    → x₂ ≡ laid_from a₄ right_edges_of x₁ → line_tables l₁ b₁ s₁ x₂ c ≡ started (line_tables l b s x c)
+columns-started l b s x l₁ b₁ s₁ x₁ x₂ c a₁ a₂ a₃ a₄ p₁ p₂ p₃ p₄ p₅ =
+    ap (pointing c) (all-gathered [] l b s x l₁ b₁ s₁ x₁ x₂ c (over c 0 (line_floats [] (spans (line_tables l b s x c)))) a₁ a₂ a₃ a₄ p₁.0 p₁.1 p₂.0 p₂.1 p₃.0 p₃.1 p₄.0 p₄.1 p₅ refl)

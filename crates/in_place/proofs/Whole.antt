@@ -1,5 +1,5 @@
 -- The whole: what `settle` asks is what its parts ask, and what they leave is the layout. Assumes nothing.
-use mathlib.Core.Path.{◌≡◌, refl, sym, ap, ◌∙◌}
+use mathlib.Core.Path.{◌≡◌, sym, ap, ◌∙◌}
 use mathlib.Core.Logic.{⊎_elim}
 use mathlib.Core.Bool.{true, or-true}
 use mathlib.Core.List.{List, [], ◌∷◌}
@@ -13,10 +13,11 @@ use Rattle.lists.specs.Every.{all}
 use Rattle.lists.specs.Rows.{over}
 use Rattle.lists.proofs.Every.{all_nil, all_cons, all_head, all_tail}
 use Rattle.lists.proofs.Select.{all-weaken}
+use Rattle.tables.specs.View.{Tables}
 use Rattle.tables.specs.Formed.{Span, spans}
 use Rattle.apart.specs.Marks.{within}
 use Rattle.apart.proofs.Marks.{within_end}
-use Rattle.layout.specs.Layout.{line_floats, points_in, counted_lines, gathered, sourced, pointing, line_tables}
+use Rattle.layout.specs.Layout.{line_floats, points_in, counted_lines, gathered, sourced, pointing}
 use Rattle.order.specs.Order.{behind_all}
 use Rattle.in_place.specs.Settle.{down_all, up_all, started, lies, Movable, Placed, Settleable}
 use Rattle.in_place.proofs.Moves.{lies-cases, length-sourced}
@@ -59,52 +60,46 @@ lies_more reach n m s l h = ⊎_elim (lies-none reach m s) (λ e. ⊎_elim (lies
 
 -- ---- what the parts ask
 
-module _ (reach : ℕ) (drawn : List Float) (l b s x : List ℕ) (c : List Float) (h : Settleable reach drawn (line_tables l b s x c)) where
-  abbrev here : List Span
-  here = spans (line_tables l b s x [])
+-- neither lines nor counts see the coordinates
+placed_pointing : (reach n : ℕ) (t : Tables) (c : List Float) → Placed reach n t → Placed reach n (pointing c t)
+placed_pointing reach n t c p = record { counts = unfold counted_lines in p.counts; lines = unfold spans in p.lines }
 
-  -- neither the lines nor the counts see the coordinates
-  same : spans (line_tables l b s x c) ≡ here
-  same = unfold spans in refl
+module _ (reach : ℕ) (drawn : List Float) (t : Tables) (h : Settleable reach drawn t) where
+  in_order : behind_all reach 0 (spans t) ≤ reach
+  in_order = leb-true (behind_all reach 0 (spans t)) reach h.ordered
 
-  counted-here : counted_lines (line_tables l b s x []) ≡ true
-  counted-here = unfold counted_lines in h.layable.gatherable.counts
+  lying : all (lies reach (length drawn / 3)) (spans t) ≡ true
+  lying =
+      let e : length (sourced reach t.coordinates drawn) / 3 ≡ reach + length drawn / 3 = omega (arith, length-sourced drawn reach t.coordinates h.layable.stored) in
+      ordered-lie reach (length drawn / 3) 0 (spans t) (rw e at h.layable.gatherable.fits) in_order
 
-  in_order : behind_all reach 0 here ≤ reach
-  in_order = leb-true (behind_all reach 0 here) reach (rw same at h.ordered)
-
-  pub lying-here : all (lies reach (length drawn / 3)) here ≡ true
-  lying-here =
-      let e : length (sourced reach c drawn) / 3 ≡ reach + length drawn / 3 = omega (arith, length-sourced drawn reach c h.layable.stored) in
-      let f : all (within (reach + length drawn / 3)) here ≡ true = rw (e, same) at h.layable.gatherable.fits in
-      ordered-lie reach (length drawn / 3) 0 here f in_order
-
-  pub placed-up : Placed reach (length drawn / 3) (line_tables l b s x [])
-  placed-up = record { counts = counted-here; lines = lying-here }
-
-  pub placed-down : Placed reach 65536 (line_tables l b s x [])
+  pub placed-down : Placed reach 65536 t
   placed-down =
       let n : length drawn / 3 ≤ 65536 = omega (arith, h.layable.few) in
-      record { counts = counted-here; lines = all-weaken (lies reach (length drawn / 3)) (lies reach 65536) here (λ s. lies_more reach (length drawn / 3) 65536 s n) lying-here }
+      record { counts = h.layable.gatherable.counts; lines = all-weaken (lies reach (length drawn / 3)) (lies reach 65536) (spans t) (λ s. lies_more reach (length drawn / 3) 65536 s n) lying }
 
-  pub points-room : points_in here * 3 ≤ length c
-  points-room = omega (arith, ap points_in same, h.layable.gatherable.room)
+  pub movable_down : Movable reach [] t.coordinates (points_in (spans t))
+  movable_down = record { near = h.layable.near; stored = h.layable.stored; few = omega arith; room = h.layable.gatherable.room }
 
-  pub movable_down : Movable reach [] c (points_in here)
-  movable_down = record { near = h.layable.near; stored = h.layable.stored; few = omega arith; room = points-room }
+  module _ (t₁ : Tables) (c₁ : List Float) (e₁ : t₁ ≡ pointing c₁ t) where
+    pub up_asks : (end : ℕ) → length t₁.coordinates ≡ length t.coordinates → end ≡ points_in (spans t) → (Placed reach (length drawn / 3) t₁) × ((end ≡ points_in (spans t₁)) × (Movable reach drawn t₁.coordinates end))
+    up_asks end l e =
+        let n : length c₁ ≡ length t.coordinates = sym (ap (λ (z : Tables). length z.coordinates) e₁) ∙ l in
+        rw e₁ (placed_pointing reach (length drawn / 3) t c₁ (record { counts = h.layable.gatherable.counts; lines = lying }), (unfold spans in e, record { near = h.layable.near; stored = omega (arith, h.layable.stored); few = h.layable.few; room = omega (arith, h.layable.gatherable.room) }))
 
-  pub movable_up : (c₁ : List Float) (end : ℕ) → length c₁ ≡ length c → end ≡ points_in here → Movable reach drawn c₁ end
-  movable_up c₁ end e p = record { near = h.layable.near; stored = omega (arith, h.layable.stored); few = h.layable.few; room = omega (arith, points-room) }
+    module _ (t₂ : Tables) (c₂ : List Float) (e₂ : t₂ ≡ pointing c₂ t₁) where
+      pub starts_ask : (counted_lines t₂ ≡ true) × (points_in (spans t₂) * 3 ≤ length t.coordinates)
+      starts_ask = rw (e₂, e₁) (unfold counted_lines in h.layable.gatherable.counts, unfold spans in h.layable.gatherable.room)
 
   -- ---- what they leave
 
-  pub settled-tables : (l₁ b₁ s₁ x₁ : List ℕ) (c₁ c₂ : List Float) → c₁ ≡ down_all reach 0 here c → c₂ ≡ up_all drawn reach 0 here c₁
-      → line_tables l₁ b₁ s₁ x₁ [] ≡ started (line_tables l b s x []) → line_tables l₁ b₁ s₁ x₁ c₂ ≡ gathered (sourced reach c drawn) (line_tables l b s x c)
-  settled-tables l₁ b₁ s₁ x₁ c₁ c₂ d u r =
-      let f : Settles drawn reach 0 0 here c = record { stored = h.layable.stored; room = omega (arith, points-room); lying = lying-here; ordered = in_order } in
-      let e : c₂ ≡ over c 0 (line_floats (sourced reach c drawn) (spans (line_tables l b s x c))) =
-      u ∙ (ap (up_all drawn reach 0 here) d ∙ (settled drawn reach here 0 0 c f ∙ ap (λ v. over c 0 (line_floats (sourced reach c drawn) v)) (sym same))) in
-      ap (pointing c₂) r ∙ laid (sourced reach c drawn) e
+  pub settled-tables : (t₁ t₂ t₃ : Tables) → t₁ ≡ pointing (down_all reach 0 (spans t) t.coordinates) t → t₂ ≡ pointing (up_all drawn reach 0 (spans t₁) t₁.coordinates) t₁
+      → t₃ ≡ started t₂ → t₃ ≡ gathered (sourced reach t.coordinates drawn) t
+  unfolding spans
+  settled-tables t₁ t₂ t₃ d u r =
+      let c₁ = down_all reach 0 (spans t) t.coordinates in
+      let f : Settles drawn reach 0 0 (spans t) t.coordinates = record { stored = h.layable.stored; room = omega (arith, h.layable.gatherable.room); lying = lying; ordered = in_order } in
+      r ∙ (ap started (u ∙ ap (λ z. pointing (up_all drawn reach 0 (spans z) z.coordinates) z) d) ∙ laid (up_all drawn reach 0 (spans t) c₁) (sourced reach t.coordinates drawn) (settled drawn reach (spans t) 0 0 t.coordinates f))
     where
-      laid : (work : List Float) → c₂ ≡ over c 0 (line_floats work (spans (line_tables l b s x c))) → pointing c₂ (started (line_tables l b s x [])) ≡ gathered work (line_tables l b s x c)
-      laid work e = unfold gathered in rw e
+      laid : (c₂ work : List Float) → c₂ ≡ over t.coordinates 0 (line_floats work (spans t)) → started (pointing c₂ t) ≡ gathered work t
+      laid c₂ work e = unfold gathered in rw e

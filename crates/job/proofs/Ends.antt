@@ -1,4 +1,4 @@
--- The tests before a job's first edit, and a job on the front of the second area. Assumes nothing.
+-- The tests before a job's first edit, and a job's end with another area. Assumes nothing.
 use Rattle.jobs.specs.Answers.{JobAnswer}
 use Rattle.std.specs.Prelude.{Result, Ok, Err, ⊤}
 use mathlib.Core.Path.{◌≡◌, refl, sym, ap, ◌∙◌}
@@ -6,10 +6,9 @@ use mathlib.Core.Bool.{Bool, true, false}
 use Prim.Native.Nat.{ℕ}
 use native.Mathlib.Omega.{arith}
 use lib.Dec.{leb}
-use lib.ListN.{length, take}
 use Rattle.rules.specs.Names.{Tolerance}
 use Rattle.rules.specs.Ops.{fits_lists}
-use Rattle.tables.specs.View.{Tables, tables_of, view}
+use Rattle.tables.specs.View.{Tables, view}
 use Rattle.tables.specs.Formed.{sound_tables}
 use Rattle.step.specs.Step.{Lent, lists_of}
 use Rattle.step.specs.Run.{Held}
@@ -17,9 +16,8 @@ use Rattle.jobs.specs.declared.Job.{Job}
 use Rattle.jobs.specs.declared.JobRefusal.{JobRefusal}
 use Rattle.jobs.specs.declared.JobRefusal.TheVariants.{NoRoom, TooManyEdits, Unsound}
 use Rattle.jobs.specs.Job.{Run, done, stopped, max_edits, net}
-use Rattle.area.specs.Area.{area_fits, copied, put_back}
+use Rattle.area.specs.Area.{area_fits}
 use Rattle.job_step.specs.Job.{JobEnded, JobLent, ending, job_step, refusing, job_ended}
-use Rattle.job_step.proofs.Area.{copied-front}
 use Rattle.job_step.proofs.Ends.{job_too_many, job_unsound, job-short}
 use Rattle.job.specs.First.{first_tests}
 
@@ -85,15 +83,6 @@ module _ (l : JobLent) (j : Job) where
       go true p true q true r = (p, (q, r))
 
 -- ---- the second area
-
--- the front of an area that begins with a map's slices is those slices
-pub front_same : (t area o : Tables) → o ≡ copied t area
-    → tables_of (take (length t.lanes) o.lanes) (take (length t.boundaries) o.boundaries) (take (length t.roads) o.roads)
-    (take (length t.junctions) o.junctions) (take (length t.rules) o.rules) (take (length t.stop_lines) o.stop_lines)
-    (take (length t.crosswalks) o.crosswalks) (take (length t.coordinates) o.coordinates)
-    ≡ t
-unfolding put_back
-front_same t area o e = ap (put_back t) e ∙ copied-front t area
 
 -- of the area an ending only tells what it is
 with_area : Tables → JobEnded → JobEnded

@@ -3,6 +3,7 @@
 
 ghost use Rattle.std.specs.Prelude.{◌≡◌};
 ghost use Rattle.tables.specs.View.{tables_of};
+ghost use Rattle.lent.specs.Lent.{map_tables, view_tables, SameSlices, SameLists};
 ghost use Rattle.step.specs.Step as S;
 ghost use Rattle.job_step.specs.Job.{job_lent, job_ended};
 ghost use Rattle.job.specs.Calls.{Applied};
@@ -11,71 +12,61 @@ ghost use Rattle.job.specs.First.{first_tests};
 use entities::Tolerance;
 use job_decided::JobEnd;
 use jobs::{Job, JobRefusal, MAX_EDITS};
+use lent::{Lists, Map, MapView};
 
 // The tests before the first edit, in document 02's order: how many edits, the map, the area.
-fn first_tests(
-    counter: u64,
-    lanes: &[u64],
-    boundaries: &[u64],
-    roads: &[u64],
-    junctions: &[u64],
-    rules: &[u64],
-    stop_lines: &[u64],
-    crosswalks: &[u64],
-    coordinates: &[f64],
-    edits: u64,
-    old_lanes: &[u64],
-    old_boundaries: &[u64],
-    old_roads: &[u64],
-    old_junctions: &[u64],
-    old_rules: &[u64],
-    old_stop_lines: &[u64],
-    old_crosswalks: &[u64],
-    old_coordinates: &[f64],
-) -> Result<(), JobRefusal>
-    ensures { result ≡ first_tests counter (tables_of lanes.now boundaries.now roads.now junctions.now rules.now stop_lines.now crosswalks.now coordinates.now) edits (tables_of old_lanes.now old_boundaries.now old_roads.now old_junctions.now old_rules.now old_stop_lines.now old_crosswalks.now old_coordinates.now) }
+fn first_tests(counter: u64, map: MapView, edits: u64, area: MapView) -> Result<(), JobRefusal>
+    ensures { result ≡ first_tests counter (view_tables map.entry) edits (view_tables area.entry) }
 {
     if MAX_EDITS < edits {
         return Err(JobRefusal::TooManyEdits);
     }
     if !sound_map::sound(
         counter,
-        lanes,
-        boundaries,
-        roads,
-        junctions,
-        rules,
-        stop_lines,
-        crosswalks,
-        coordinates,
+        map.lanes,
+        map.boundaries,
+        map.roads,
+        map.junctions,
+        map.rules,
+        map.stop_lines,
+        map.crosswalks,
+        map.coordinates,
     ) {
         return Err(JobRefusal::Unsound);
     }
-    if !area::fits(
-        lanes,
-        boundaries,
-        roads,
-        junctions,
-        rules,
-        stop_lines,
-        crosswalks,
-        coordinates,
-        old_lanes,
-        old_boundaries,
-        old_roads,
-        old_junctions,
-        old_rules,
-        old_stop_lines,
-        old_crosswalks,
-        old_coordinates,
-    ) {
+    if !area::fits(map, area) {
         return Err(JobRefusal::NoRoom);
     }
     Ok(())
 }
 
-// Makes the job on the map that is lent, or refuses it: what it leaves of the counter, and its answer. The second area begins with the map's slices as they
-// came, once it is long enough.
+// The job tested and made. The second area begins with the map's slices as they came, once it is long enough.
+fn make(
+    counter: u64,
+    tolerance: Tolerance,
+    map: &mut Map,
+    job: Job,
+    area: &mut Map,
+    lists: &mut Lists,
+) -> JobEnd
+    ensures made { Applied tolerance job (job_lent (S.given counter map.old lists.old) (map_tables area.old)) (job_ended (S.given result.counter map.new lists.new) (map_tables area.new) result.answer) }
+    ensures same { SameSlices map.old map.new }
+    ensures same_area { SameSlices area.old area.new }
+    ensures same_lists { SameLists lists.old lists.new }
+{
+    let first = first_tests(counter, map.view(), job.count, area.view());
+    if let Err(refusal) = first {
+        return JobEnd {
+            counter,
+            answer: Err(refusal),
+        };
+    }
+    area::keep_copy(map.view(), area);
+    let old = area::front(map.view(), area.view());
+    job_made::make(counter, tolerance, map, job, old, lists)
+}
+
+// Makes the job on the map that is lent, or refuses it: what it leaves of the counter, and its answer.
 pub fn apply(
     counter: u64,
     tolerance: Tolerance,
@@ -103,8 +94,7 @@ pub fn apply(
 ) -> JobEnd
     ensures { Applied tolerance job (job_lent (S.lent_of counter lanes.old boundaries.old roads.old junctions.old rules.old stop_lines.old crosswalks.old coordinates.old created.old modified.old deleted.old warnings.old) (tables_of old_lanes.old old_boundaries.old old_roads.old old_junctions.old old_rules.old old_stop_lines.old old_crosswalks.old old_coordinates.old)) (job_ended (S.lent_of result.counter lanes.new boundaries.new roads.new junctions.new rules.new stop_lines.new crosswalks.new coordinates.new created.new modified.new deleted.new warnings.new) (tables_of old_lanes.new old_boundaries.new old_roads.new old_junctions.new old_rules.new old_stop_lines.new old_crosswalks.new old_coordinates.new) result.answer) }
 {
-    let first = first_tests(
-        counter,
+    let mut map = Map {
         lanes,
         boundaries,
         roads,
@@ -113,63 +103,22 @@ pub fn apply(
         stop_lines,
         crosswalks,
         coordinates,
-        job.count,
-        old_lanes,
-        old_boundaries,
-        old_roads,
-        old_junctions,
-        old_rules,
-        old_stop_lines,
-        old_crosswalks,
-        old_coordinates,
-    );
-    if let Err(refusal) = first {
-        return JobEnd {
-            counter,
-            answer: Err(refusal),
-        };
-    }
-    area::keep_copy(
-        lanes,
-        boundaries,
-        roads,
-        junctions,
-        rules,
-        stop_lines,
-        crosswalks,
-        coordinates,
-        old_lanes,
-        old_boundaries,
-        old_roads,
-        old_junctions,
-        old_rules,
-        old_stop_lines,
-        old_crosswalks,
-        old_coordinates,
-    );
-    job_made::make(
-        counter,
-        tolerance,
-        lanes,
-        boundaries,
-        roads,
-        junctions,
-        rules,
-        stop_lines,
-        crosswalks,
-        coordinates,
-        job,
-        &old_lanes[..lanes.len()],
-        &old_boundaries[..boundaries.len()],
-        &old_roads[..roads.len()],
-        &old_junctions[..junctions.len()],
-        &old_rules[..rules.len()],
-        &old_stop_lines[..stop_lines.len()],
-        &old_crosswalks[..crosswalks.len()],
-        &old_coordinates[..coordinates.len()],
+    };
+    let mut area = Map {
+        lanes: old_lanes,
+        boundaries: old_boundaries,
+        roads: old_roads,
+        junctions: old_junctions,
+        rules: old_rules,
+        stop_lines: old_stop_lines,
+        crosswalks: old_crosswalks,
+        coordinates: old_coordinates,
+    };
+    let mut lists = Lists {
         created,
         modified,
         deleted,
         warnings,
-    )
+    };
+    make(counter, tolerance, &mut map, job, &mut area, &mut lists)
 }

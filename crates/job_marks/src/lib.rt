@@ -1,11 +1,13 @@
 // What some edit of a job lists as modified, marked by the rows of the old tables.
 #![tactic(auto)]
 
-ghost use Rattle.std.specs.Prelude.{◌≡◌, true, [], ◌+◌, ◌*◌, ◌≤◌, ◌<◌, length};
-ghost use Rattle.tables.specs.View.{tables_of, word};
+ghost use Rattle.std.specs.Prelude.{◌≡◌, true, ◌+◌, ◌*◌, ◌≤◌, ◌<◌, length};
+ghost use Rattle.tables.specs.View.{word};
+ghost use Rattle.lent.specs.Lent.{view_rows};
 ghost use Rattle.lookup.specs.Lookup.{sorted_table};
 ghost use Rattle.job_marks.specs.Marks as M;
 
+use lent::MapView;
 use report::ENTITY;
 use tables::{BOUNDARY, CROSSWALK, JUNCTION, LANE, ROAD, RULE, STOP_LINE};
 
@@ -58,65 +60,41 @@ fn mark_row(table: &[u64], words: usize, first: usize, id: u64, marks: &mut [u64
 }
 
 // The mark of one entity, by its kind's number.
-fn mark_one(
-    lanes: &[u64],
-    boundaries: &[u64],
-    roads: &[u64],
-    junctions: &[u64],
-    rules: &[u64],
-    stop_lines: &[u64],
-    crosswalks: &[u64],
-    kind: u64,
-    id: u64,
-    marks: &mut [u64],
-)
-    requires { (M.sorted_tables (tables_of lanes.now boundaries.now roads.now junctions.now rules.now stop_lines.now crosswalks.now []) ≡ true) × (length marks.old ≡ 6784) }
-    ensures { marks.new ≡ M.mark_one (tables_of lanes.now boundaries.now roads.now junctions.now rules.now stop_lines.now crosswalks.now []) kind id marks.old }
+fn mark_one(old: MapView, kind: u64, id: u64, marks: &mut [u64])
+    requires { (M.sorted_tables (view_rows old) ≡ true) × (length marks.old ≡ 6784) }
+    ensures { marks.new ≡ M.mark_one (view_rows old.entry) kind id marks.old }
 {
     if kind == LANE_KIND {
-        return mark_row(lanes, LANE, LANE_MARKS, id, marks);
+        return mark_row(old.lanes, LANE, LANE_MARKS, id, marks);
     }
     if kind == BOUNDARY_KIND {
-        return mark_row(boundaries, BOUNDARY, BOUNDARY_MARKS, id, marks);
+        return mark_row(old.boundaries, BOUNDARY, BOUNDARY_MARKS, id, marks);
     }
     if kind == ROAD_KIND {
-        return mark_row(roads, ROAD, ROAD_MARKS, id, marks);
+        return mark_row(old.roads, ROAD, ROAD_MARKS, id, marks);
     }
     if kind == JUNCTION_KIND {
-        return mark_row(junctions, JUNCTION, JUNCTION_MARKS, id, marks);
+        return mark_row(old.junctions, JUNCTION, JUNCTION_MARKS, id, marks);
     }
     if kind == STOP_LINE_KIND {
-        return mark_row(stop_lines, STOP_LINE, STOP_LINE_MARKS, id, marks);
+        return mark_row(old.stop_lines, STOP_LINE, STOP_LINE_MARKS, id, marks);
     }
     if kind == CROSSWALK_KIND {
-        return mark_row(crosswalks, CROSSWALK, CROSSWALK_MARKS, id, marks);
+        return mark_row(old.crosswalks, CROSSWALK, CROSSWALK_MARKS, id, marks);
     }
     if kind == RULE_KIND {
-        mark_row(rules, RULE, RULE_MARKS, id, marks);
+        mark_row(old.rules, RULE, RULE_MARKS, id, marks);
     }
 }
 
-// The marks of the first n entities of a list.
-pub fn mark_all(
-    lanes: &[u64],
-    boundaries: &[u64],
-    roads: &[u64],
-    junctions: &[u64],
-    rules: &[u64],
-    stop_lines: &[u64],
-    crosswalks: &[u64],
-    modified: &[u64],
-    n: usize,
-    marks: &mut [u64],
-)
-    requires { (M.sorted_tables (tables_of lanes.now boundaries.now roads.now junctions.now rules.now stop_lines.now crosswalks.now []) ≡ true) × ((length marks.old ≡ 6784) × (n * 2 ≤ length modified.now)) }
-    ensures { marks.new ≡ M.mark_all (tables_of lanes.now boundaries.now roads.now junctions.now rules.now stop_lines.now crosswalks.now []) (M.pairs_in n modified.now) marks.old }
+// The marks of the first n entities of a list. The count stands beside the list: of a shared part of a field of `Lists` nothing is known once it is taken.
+pub fn mark_all(old: MapView, modified: &[u64], n: usize, marks: &mut [u64])
+    requires { (M.sorted_tables (view_rows old) ≡ true) × ((length marks.old ≡ 6784) × (n * 2 ≤ length modified.now)) }
+    ensures { marks.new ≡ M.mark_all (view_rows old.entry) (M.pairs_in n modified.now) marks.old }
 {
     for i in 0..n {
         let kind = modified[i * ENTITY];
         let id = modified[i * ENTITY + 1];
-        mark_one(
-            lanes, boundaries, roads, junctions, rules, stop_lines, crosswalks, kind, id, marks,
-        );
+        mark_one(old, kind, id, marks);
     }
 }

@@ -19,7 +19,7 @@ use Rattle.report.proofs.Laws.{pairs_of}
 use Rattle.row_tests.proofs.Lanes.{rows-lent}
 use Rattle.lookup.specs.Lookup.{sorted_table}
 use Rattle.lookup.proofs.Laws.{sorted-room, sorted-row, sorted-ascends}
-use Rattle.job_net.specs.Net.{table_ids, below, absent_in, marked_in}
+use Rattle.job_net.specs.Net.{table_ids, below, absent_in, marked_in, picked_in}
 use Rattle.job_net.proofs.Below.{walk-within, walk-lower, walk-finds}
 
 -- ---- pairs of a kind and an id
@@ -103,7 +103,7 @@ module _ (ids others : List ℕ) (done : ℕ → List ℕ) (kind at : ℕ) (out�
 -- ---- what is listed, id by id
 
 module _ (others ids : List ℕ) where
-  pub absent_more : (i : ℕ) → i < length ids → (x : ℕ) → x ≡ get_or ids i 0 → (r : Bool) → r ≡ has x others → absent_in others (take (i + 1) ids) ≡ absent_in others (take i ids) ++ when (not r) x
+  absent_more : (i : ℕ) → i < length ids → (x : ℕ) → x ≡ get_or ids i 0 → (r : Bool) → r ≡ has x others → absent_in others (take (i + 1) ids) ≡ absent_in others (take i ids) ++ when (not r) x
   unfolding absent_in
   absent_more i l x xe r re =
       keep-more (λ y. not (has y others)) ids i 0 l
@@ -112,13 +112,6 @@ module _ (others ids : List ℕ) where
       one : (b : Bool) (y : ℕ) → not (has y others) ≡ b → cond (not (has y others)) (y ∷ []) [] ≡ when b y
       one true y e = rw e
       one false y e = rw e
-
-  pub absent-all : absent_in others (take (length ids) ids) ≡ absent_in others ids
-  absent-all = ap (absent_in others) (take_all (length ids) ids (omega arith))
-
-  pub absent_none : absent_in others (take 0 ids) ≡ []
-  unfolding absent_in keep
-  absent_none = refl
 
 module _ (others : List ℕ) where
   marked-snoc : (ms ids : List ℕ) (i : ℕ) → i < length ids → marked_in others ms (take (suc i) ids) ≡ marked_in others ms (take i ids) ++ when (eqb (get_or ms i 0) 1 && has (get_or ids i 0) others) (get_or ids i 0)
@@ -130,16 +123,26 @@ module _ (others : List ℕ) where
       let r = marked-snoc (drop 1 ms) ids i (le_of_suc-le-suc l) in
       rw (r, get_or-drop 1 ms i 0, e, append_assoc)
 
-  pub marked_more : (ms ids : List ℕ) (i : ℕ) → i < length ids → (x : ℕ) → x ≡ get_or ids i 0 → (r : Bool) → r ≡ has x others → (b : Bool) → b ≡ (eqb (get_or ms i 0) 1 && r)
+  marked_more : (ms ids : List ℕ) (i : ℕ) → i < length ids → (x : ℕ) → x ≡ get_or ids i 0 → (r : Bool) → r ≡ has x others → (b : Bool) → b ≡ (eqb (get_or ms i 0) 1 && r)
       → marked_in others ms (take (i + 1) ids) ≡ marked_in others ms (take i ids) ++ when b x
   marked_more ms ids i l x xe r re b be = rw (add-one i, be, re, xe) (marked-snoc ms ids i l)
 
-  pub marked_all : (ms ids : List ℕ) → marked_in others ms (take (length ids) ids) ≡ marked_in others ms ids
-  marked_all ms ids = ap (marked_in others ms) (take_all (length ids) ids (omega arith))
+-- the ones or the others
 
-  pub marked-none : (ms ids : List ℕ) → marked_in others ms (take 0 ids) ≡ []
-  unfolding marked_in
-  marked-none ms ids = refl
+module _ (others : List ℕ) where
+  pub picked_more : (kept : Bool) (ms ids : List ℕ) (i : ℕ) → i < length ids → (x : ℕ) → x ≡ get_or ids i 0 → (r : Bool) → r ≡ has x others
+      → (b : Bool) → b ≡ cond kept (eqb (get_or ms i 0) 1 && r) (not r)
+      → picked_in kept others ms (take (i + 1) ids) ≡ picked_in kept others ms (take i ids) ++ when b x
+  picked_more true ms ids i l x xe r re b be = marked_more others ms ids i l x xe r re b be
+  picked_more false ms ids i l x xe r re b be = rw be (absent_more others ids i l x xe r re)
+
+  pub picked_all : (kept : Bool) (ms ids : List ℕ) → picked_in kept others ms (take (length ids) ids) ≡ picked_in kept others ms ids
+  picked_all kept ms ids = ap (picked_in kept others ms) (take_all (length ids) ids (omega arith))
+
+  pub picked_none : (kept : Bool) (ms ids : List ℕ) → picked_in kept others ms (take 0 ids) ≡ []
+  unfolding marked_in absent_in keep
+  picked_none true ms ids = refl
+  picked_none false ms ids = refl
 
 -- ---- the two tables
 

@@ -1,6 +1,6 @@
 -- Lists of entities written one behind the other, kind by kind. Assumes nothing.
 use mathlib.Core.Path.{◌≡◌, refl, sym, ap, subst, ◌∙◌}
-use mathlib.Core.Bool.{true, not, ◌&&◌}
+use mathlib.Core.Bool.{Bool, true, false, not, ◌&&◌}
 use mathlib.Core.List.{List, [], ◌∷◌, ◌++◌, append_assoc}
 use Prim.Native.Nat.{ℕ, ◌+◌, ◌-◌, ◌*◌, ◌≤◌, ◌<◌}
 use native.Mathlib.Omega.{arith}
@@ -22,11 +22,11 @@ use Rattle.lookup.proofs.Laws.{sorted-few}
 use Rattle.job_marks.specs.Marks.{lane_marks, boundary_marks, road_marks, junction_marks, stop_line_marks, crosswalk_marks, rule_marks}
 use Rattle.job_marks.proofs.Sorted.{sorted-wider}
 use Rattle.job_net.proofs.Listing.{when-few}
-use Rattle.job_net.specs.Net.{table_ids, absent_in, marked_in, only_in, marked_both}
+use Rattle.job_net.specs.Net.{table_ids, absent_in, marked_in, picked_in, only_in, marked_both, all_picked}
 
 -- ---- at most as many ids as rows
 
-pub absent-few : (limit s : ℕ) (t o : List ℕ) → sorted_table limit s t ≡ true → length (absent_in (table_ids s o) (table_ids s t)) ≤ limit
+absent-few : (limit s : ℕ) (t o : List ℕ) → sorted_table limit s t ≡ true → length (absent_in (table_ids s o) (table_ids s t)) ≤ limit
 unfolding absent_in
 absent-few limit s t o h = omega (arith, length-keep (λ i. not (has i (table_ids s o))) (table_ids s t), length-keys s (word 0 t) (drop 1 t), sorted-few limit s t h)
 
@@ -37,8 +37,12 @@ length_marked others ms (i ∷ ids) =
     let b = eqb (get_or ms 0 0) 1 && has i others in
     omega (arith, length-append (when b i) (marked_in others (drop 1 ms) ids), when-few b i, length_marked others (drop 1 ms) ids)
 
-pub marked-few : (limit s : ℕ) (t o ms : List ℕ) → sorted_table limit s t ≡ true → length (marked_in (table_ids s o) ms (table_ids s t)) ≤ limit
+marked-few : (limit s : ℕ) (t o ms : List ℕ) → sorted_table limit s t ≡ true → length (marked_in (table_ids s o) ms (table_ids s t)) ≤ limit
 marked-few limit s t o ms h = omega (arith, length_marked (table_ids s o) ms (table_ids s t), length-keys s (word 0 t) (drop 1 t), sorted-few limit s t h)
+
+pub picked-few : (kept : Bool) (limit s : ℕ) (t o ms : List ℕ) → sorted_table limit s t ≡ true → length (picked_in kept (table_ids s o) ms (table_ids s t)) ≤ limit
+picked-few true limit s t o ms h = marked-few limit s t o ms h
+picked-few false limit s t o ms h = absent-few limit s t o h
 
 -- ---- what is written so far: n entities, at most so many
 
@@ -93,74 +97,63 @@ module _ (ms : List ℕ) (first : ℕ) where
   pub marks-may : (limit s : ℕ) (t : List ℕ) → length ms ≡ 6784 → first + limit ≤ 6784 → sorted_table limit s t ≡ true → word 0 t ≤ length (take (length ms - first) (drop first ms))
   marks-may limit s t n l h = rw lent (rw length-drop (omega (arith, sorted-few limit s t h)))
 
-  pub marks-lent : (others ids : List ℕ) (n kind r : ℕ) (out v : List ℕ)
-      → (r ≡ n + length (marked_in others (take (length ms - first) (drop first ms)) ids)) × (v ≡ over out (n * 2) (pairs_of kind (marked_in others (take (length ms - first) (drop first ms)) ids)))
-      → (r ≡ n + length (marked_in others (drop first ms) ids)) × (v ≡ over out (n * 2) (pairs_of kind (marked_in others (drop first ms) ids)))
-  marks-lent others ids n kind r out v e = subst (λ (z : List ℕ). (r ≡ n + length (marked_in others z ids)) × (v ≡ over out (n * 2) (pairs_of kind (marked_in others z ids)))) lent e
+  pub marks-lent : (kept : Bool) (others ids : List ℕ) (n kind r : ℕ) (out v : List ℕ)
+      → (r ≡ n + length (picked_in kept others (take (length ms - first) (drop first ms)) ids)) × (v ≡ over out (n * 2) (pairs_of kind (picked_in kept others (take (length ms - first) (drop first ms)) ids)))
+      → (r ≡ n + length (picked_in kept others (drop first ms) ids)) × (v ≡ over out (n * 2) (pairs_of kind (picked_in kept others (drop first ms) ids)))
+  marks-lent kept others ids n kind r out v e = subst (λ (z : List ℕ). (r ≡ n + length (picked_in kept others z ids)) × (v ≡ over out (n * 2) (pairs_of kind (picked_in kept others z ids)))) lent e
+
+-- ---- one kind behind the others
+
+module _ (kept : Bool) (ms w : List ℕ) (marks : length ms ≡ 6784) (room : 13568 ≤ length w) where
+  -- what a call that lists a kind says
+  abbrev pub Told : ℕ → ℕ → List ℕ → List ℕ → EntityKind → ℕ → List ℕ → ℕ → List ℕ → Type 0
+  Told first s t o q n out r v =
+      let ids = picked_in kept (table_ids s o) (take (length ms - first) (drop first ms)) (table_ids s t) in
+      (r ≡ n + length ids) × (v ≡ over out (n * 2) (pairs_of (kind_number q) ids))
+
+  module _ {es : List EntityRef} {most : ℕ} {out : List ℕ} {n : ℕ} (m : Written w es most out n) (limit s first : ℕ) (t o : List ℕ) (h : sorted_table limit s t ≡ true) where
+    pub kind-may : 0 < s → limit ≤ 4096 → most + limit ≤ 6784 → first + limit ≤ 6784 → sorted_table limit s o ≡ true
+        → (0 < s) × ((sorted_table 4096 s t ≡ true) × ((sorted_table 4096 s o ≡ true) × ((word 0 t ≤ length (take (length ms - first) (drop first ms))) × ((n + word 0 t) * 2 ≤ length out))))
+    kind-may p l k f g =
+        let may = may-list w room m limit s t o p l k h g in
+        (may.0, (may.1.0, (may.1.1.0, (marks-may ms first limit s t marks f h, may.1.1.1))))
+
+    pub kind-written : most + limit ≤ 6784 → (q : EntityKind) (r : ℕ) (v : List ℕ) → Told first s t o q n out r v
+        → Written w (es ++ refs q (picked_in kept (table_ids s o) (drop first ms) (table_ids s t))) (most + limit) v r
+    kind-written k q r v e =
+        written-more w room m q (picked_in kept (table_ids s o) (drop first ms) (table_ids s t)) limit (picked-few kept limit s t o (drop first ms) h) k r v
+        (marks-lent ms first kept (table_ids s o) (table_ids s t) n (kind_number q) r out v e)
 
 -- ---- kind by kind, as they are written
 
-abbrev pub only_lanes : Tables → Tables → List EntityRef
-only_lanes t o = refs LaneKind (absent_in (table_ids lane_words o.lanes) (table_ids lane_words t.lanes))
+abbrev pub lanes_picked : Bool → Tables → Tables → List ℕ → List EntityRef
+lanes_picked kept t o ms = refs LaneKind (picked_in kept (table_ids lane_words o.lanes) (drop lane_marks ms) (table_ids lane_words t.lanes))
 
-abbrev pub only_boundaries : Tables → Tables → List EntityRef
-only_boundaries t o = only_lanes t o ++ refs BoundaryKind (absent_in (table_ids boundary_words o.boundaries) (table_ids boundary_words t.boundaries))
+abbrev pub boundaries_picked : Bool → Tables → Tables → List ℕ → List EntityRef
+boundaries_picked kept t o ms = lanes_picked kept t o ms ++ refs BoundaryKind (picked_in kept (table_ids boundary_words o.boundaries) (drop boundary_marks ms) (table_ids boundary_words t.boundaries))
 
-abbrev pub only_roads : Tables → Tables → List EntityRef
-only_roads t o = only_boundaries t o ++ refs RoadKind (absent_in (table_ids road_words o.roads) (table_ids road_words t.roads))
+abbrev pub roads_picked : Bool → Tables → Tables → List ℕ → List EntityRef
+roads_picked kept t o ms = boundaries_picked kept t o ms ++ refs RoadKind (picked_in kept (table_ids road_words o.roads) (drop road_marks ms) (table_ids road_words t.roads))
 
-abbrev pub only_junctions : Tables → Tables → List EntityRef
-only_junctions t o = only_roads t o ++ refs JunctionKind (absent_in (table_ids junction_words o.junctions) (table_ids junction_words t.junctions))
+abbrev pub junctions_picked : Bool → Tables → Tables → List ℕ → List EntityRef
+junctions_picked kept t o ms = roads_picked kept t o ms ++ refs JunctionKind (picked_in kept (table_ids junction_words o.junctions) (drop junction_marks ms) (table_ids junction_words t.junctions))
 
-abbrev pub only_stop_lines : Tables → Tables → List EntityRef
-only_stop_lines t o = only_junctions t o ++ refs StopLineKind (absent_in (table_ids stop_line_words o.stop_lines) (table_ids stop_line_words t.stop_lines))
+abbrev pub stop_lines_picked : Bool → Tables → Tables → List ℕ → List EntityRef
+stop_lines_picked kept t o ms = junctions_picked kept t o ms ++ refs StopLineKind (picked_in kept (table_ids stop_line_words o.stop_lines) (drop stop_line_marks ms) (table_ids stop_line_words t.stop_lines))
 
-abbrev pub only_crosswalks : Tables → Tables → List EntityRef
-only_crosswalks t o = only_stop_lines t o ++ refs CrosswalkKind (absent_in (table_ids crosswalk_words o.crosswalks) (table_ids crosswalk_words t.crosswalks))
+abbrev pub crosswalks_picked : Bool → Tables → Tables → List ℕ → List EntityRef
+crosswalks_picked kept t o ms = stop_lines_picked kept t o ms ++ refs CrosswalkKind (picked_in kept (table_ids crosswalk_words o.crosswalks) (drop crosswalk_marks ms) (table_ids crosswalk_words t.crosswalks))
 
-abbrev pub only_rules : Tables → Tables → List EntityRef
-only_rules t o = only_crosswalks t o ++ refs RuleKind (absent_in (table_ids rule_words o.rules) (table_ids rule_words t.rules))
-
-abbrev pub both_lanes : Tables → Tables → List ℕ → List EntityRef
-both_lanes t o ms = refs LaneKind (marked_in (table_ids lane_words o.lanes) (drop lane_marks ms) (table_ids lane_words t.lanes))
-
-abbrev pub both_boundaries : Tables → Tables → List ℕ → List EntityRef
-both_boundaries t o ms = both_lanes t o ms ++ refs BoundaryKind (marked_in (table_ids boundary_words o.boundaries) (drop boundary_marks ms) (table_ids boundary_words t.boundaries))
-
-abbrev pub both_roads : Tables → Tables → List ℕ → List EntityRef
-both_roads t o ms = both_boundaries t o ms ++ refs RoadKind (marked_in (table_ids road_words o.roads) (drop road_marks ms) (table_ids road_words t.roads))
-
-abbrev pub both_junctions : Tables → Tables → List ℕ → List EntityRef
-both_junctions t o ms = both_roads t o ms ++ refs JunctionKind (marked_in (table_ids junction_words o.junctions) (drop junction_marks ms) (table_ids junction_words t.junctions))
-
-abbrev pub both_stop_lines : Tables → Tables → List ℕ → List EntityRef
-both_stop_lines t o ms = both_junctions t o ms ++ refs StopLineKind (marked_in (table_ids stop_line_words o.stop_lines) (drop stop_line_marks ms) (table_ids stop_line_words t.stop_lines))
-
-abbrev pub both_crosswalks : Tables → Tables → List ℕ → List EntityRef
-both_crosswalks t o ms = both_stop_lines t o ms ++ refs CrosswalkKind (marked_in (table_ids crosswalk_words o.crosswalks) (drop crosswalk_marks ms) (table_ids crosswalk_words t.crosswalks))
-
-abbrev pub both_rules : Tables → Tables → List ℕ → List EntityRef
-both_rules t o ms = both_crosswalks t o ms ++ refs RuleKind (marked_in (table_ids rule_words o.rules) (drop rule_marks ms) (table_ids rule_words t.rules))
+abbrev pub rules_picked : Bool → Tables → Tables → List ℕ → List EntityRef
+rules_picked kept t o ms = crosswalks_picked kept t o ms ++ refs RuleKind (picked_in kept (table_ids rule_words o.rules) (drop rule_marks ms) (table_ids rule_words t.rules))
 
 regroup : (a b c d e f g : List EntityRef) → a ++ b ++ c ++ d ++ e ++ f ++ g ≡ a ++ (b ++ (c ++ (d ++ (e ++ (f ++ g)))))
 regroup a b c d e f g = simp append_assoc
 
-module _ (t o : Tables) where
-  pub only-seven : only_rules t o ≡ only_in t o
-  unfolding only_in
-  only-seven =
-      regroup
-      (refs LaneKind (absent_in (table_ids lane_words o.lanes) (table_ids lane_words t.lanes)))
-      (refs BoundaryKind (absent_in (table_ids boundary_words o.boundaries) (table_ids boundary_words t.boundaries)))
-      (refs RoadKind (absent_in (table_ids road_words o.roads) (table_ids road_words t.roads)))
-      (refs JunctionKind (absent_in (table_ids junction_words o.junctions) (table_ids junction_words t.junctions)))
-      (refs StopLineKind (absent_in (table_ids stop_line_words o.stop_lines) (table_ids stop_line_words t.stop_lines)))
-      (refs CrosswalkKind (absent_in (table_ids crosswalk_words o.crosswalks) (table_ids crosswalk_words t.crosswalks)))
-      (refs RuleKind (absent_in (table_ids rule_words o.rules) (table_ids rule_words t.rules)))
-
-  pub both-seven : (ms : List ℕ) → both_rules t o ms ≡ marked_both t o ms
-  unfolding marked_both
-  both-seven ms =
+module _ (t o : Tables) (ms : List ℕ) where
+  pub all-seven : (kept : Bool) → rules_picked kept t o ms ≡ all_picked kept t o ms
+  unfolding only_in marked_both
+  all-seven true =
       regroup
       (refs LaneKind (marked_in (table_ids lane_words o.lanes) (drop lane_marks ms) (table_ids lane_words t.lanes)))
       (refs BoundaryKind (marked_in (table_ids boundary_words o.boundaries) (drop boundary_marks ms) (table_ids boundary_words t.boundaries)))
@@ -169,3 +162,12 @@ module _ (t o : Tables) where
       (refs StopLineKind (marked_in (table_ids stop_line_words o.stop_lines) (drop stop_line_marks ms) (table_ids stop_line_words t.stop_lines)))
       (refs CrosswalkKind (marked_in (table_ids crosswalk_words o.crosswalks) (drop crosswalk_marks ms) (table_ids crosswalk_words t.crosswalks)))
       (refs RuleKind (marked_in (table_ids rule_words o.rules) (drop rule_marks ms) (table_ids rule_words t.rules)))
+  all-seven false =
+      regroup
+      (refs LaneKind (absent_in (table_ids lane_words o.lanes) (table_ids lane_words t.lanes)))
+      (refs BoundaryKind (absent_in (table_ids boundary_words o.boundaries) (table_ids boundary_words t.boundaries)))
+      (refs RoadKind (absent_in (table_ids road_words o.roads) (table_ids road_words t.roads)))
+      (refs JunctionKind (absent_in (table_ids junction_words o.junctions) (table_ids junction_words t.junctions)))
+      (refs StopLineKind (absent_in (table_ids stop_line_words o.stop_lines) (table_ids stop_line_words t.stop_lines)))
+      (refs CrosswalkKind (absent_in (table_ids crosswalk_words o.crosswalks) (table_ids crosswalk_words t.crosswalks)))
+      (refs RuleKind (absent_in (table_ids rule_words o.rules) (table_ids rule_words t.rules)))

@@ -1,5 +1,5 @@
 -- The net lists of a job as the rows of the two ends give them. Nothing that a host calls rests on these; their laws tie them to `net` (crate `jobs`).
-use Rattle.std.specs.Prelude.{◌≡◌, ℕ, suc, not, ◌&&◌, cond, List, [], ◌∷◌, ◌++◌, eqb, ltb, length, get_or, drop}
+use Rattle.std.specs.Prelude.{◌≡◌, ℕ, suc, Bool, not, ◌&&◌, cond, List, [], ◌∷◌, ◌++◌, eqb, ltb, length, get_or, drop}
 use Rattle.lists.specs.Rows.{keys}
 use Rattle.lists.specs.Select.{keep, has}
 use Rattle.rules.specs.Names.{EntityRef, LaneKind, BoundaryKind, RoadKind, JunctionKind, StopLineKind, CrosswalkKind, RuleKind}
@@ -27,6 +27,10 @@ unfoldable pub marked_in : List ℕ → List ℕ → List ℕ → List ℕ
 marked_in others ms [] = []
 marked_in others ms (i ∷ ids) = when (eqb (get_or ms 0 0) 1 && has i others) i ++ marked_in others (drop 1 ms) ids
 
+-- the ones or the others: of what is kept those that have a mark, else those that the other list lacks
+abbrev pub picked_in : Bool → List ℕ → List ℕ → List ℕ → List ℕ
+picked_in kept others ms ids = cond kept (marked_in others ms ids) (absent_in others ids)
+
 -- ---- all tables, in the order of kinds
 
 -- what stands in the tables and not in the others
@@ -50,6 +54,9 @@ marked_both t others ms =
     ++ (refs StopLineKind (marked_in (table_ids stop_line_words others.stop_lines) (drop stop_line_marks ms) (table_ids stop_line_words t.stop_lines))
     ++ (refs CrosswalkKind (marked_in (table_ids crosswalk_words others.crosswalks) (drop crosswalk_marks ms) (table_ids crosswalk_words t.crosswalks))
     ++ refs RuleKind (marked_in (table_ids rule_words others.rules) (drop rule_marks ms) (table_ids rule_words t.rules)))))))
+
+abbrev pub all_picked : Bool → Tables → Tables → List ℕ → List EntityRef
+all_picked kept t others ms = cond kept (marked_both t others ms) (only_in t others)
 
 -- ---- the three lists
 

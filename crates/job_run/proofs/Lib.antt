@@ -1,3 +1,4 @@
+pub mod Same
 pub mod Short
 pub mod Along
 pub mod Running

@@ -1,9 +1,9 @@
 // The edits of a job one after the other on lent memory.
 #![tactic(auto)]
 
-ghost use Rattle.std.specs.Prelude.{◌≡◌, true, [], ◌≤◌, length};
-ghost use Rattle.tables.specs.View.{tables_of};
+ghost use Rattle.std.specs.Prelude.{◌≡◌, true, ◌≤◌, length};
 ghost use Rattle.tables.specs.Formed.{sound_tables};
+ghost use Rattle.lent.specs.Lent.{map_tables, view_rows, SameSlices, SameLists};
 ghost use Rattle.jobs.specs.Job.{commands};
 ghost use Rattle.job_step.specs.Job.{table_edits};
 ghost use Rattle.job_marks.specs.Marks.{sorted_tables};
@@ -11,6 +11,7 @@ ghost use Rattle.job_run.specs.Runs as R;
 
 use entities::Tolerance;
 use jobs::{Done, Job, RefusedEdit};
+use lent::{Lists, Map, MapView};
 
 // The row from which an edit's warnings are written: behind those of the edits before it, as long as they are to be kept.
 fn row_for(told: usize, rows: usize) -> usize
@@ -27,31 +28,17 @@ fn row_for(told: usize, rows: usize) -> usize
 pub fn make_edits(
     counter: u64,
     tolerance: Tolerance,
-    lanes: &mut [u64],
-    boundaries: &mut [u64],
-    roads: &mut [u64],
-    junctions: &mut [u64],
-    rules: &mut [u64],
-    stop_lines: &mut [u64],
-    crosswalks: &mut [u64],
-    coordinates: &mut [f64],
+    map: &mut Map,
     job: Job,
-    created: &mut [u64],
-    modified: &mut [u64],
-    deleted: &mut [u64],
-    warnings: &mut [u64],
+    lists: &mut Lists,
     rows: usize,
-    old_lanes: &[u64],
-    old_boundaries: &[u64],
-    old_roads: &[u64],
-    old_junctions: &[u64],
-    old_rules: &[u64],
-    old_stop_lines: &[u64],
-    old_crosswalks: &[u64],
+    old: MapView,
     marks: &mut [u64],
 ) -> Result<Done, RefusedEdit>
-    requires { (sound_tables counter (tables_of lanes.old boundaries.old roads.old junctions.old rules.old stop_lines.old crosswalks.old coordinates.old) ≡ true) × ((job.count ≤ 64) × ((sorted_tables (tables_of old_lanes.now old_boundaries.now old_roads.now old_junctions.now old_rules.now old_stop_lines.now old_crosswalks.now []) ≡ true) × ((length marks.old ≡ 6784) × (R.WarningRoom (table_edits tolerance 1 (commands job) (record { counter = counter; tables = (tables_of lanes.old boundaries.old roads.old junctions.old rules.old stop_lines.old crosswalks.old coordinates.old) })) rows (length warnings.old) × ((length created.old ≡ 13568) × ((length modified.old ≡ 13568) × (length deleted.old ≡ 13568))))))) }
-    ensures { R.RanAs (tables_of old_lanes.now old_boundaries.now old_roads.now old_junctions.now old_rules.now old_stop_lines.now old_crosswalks.now []) marks.old rows warnings.old (tables_of lanes.old boundaries.old roads.old junctions.old rules.old stop_lines.old crosswalks.old coordinates.old) (table_edits tolerance 1 (commands job) (record { counter = counter; tables = (tables_of lanes.old boundaries.old roads.old junctions.old rules.old stop_lines.old crosswalks.old coordinates.old) })) result (tables_of lanes.new boundaries.new roads.new junctions.new rules.new stop_lines.new crosswalks.new coordinates.new) marks.new warnings.new }
+    requires { (sound_tables counter (map_tables map.old) ≡ true) × ((job.count ≤ 64) × ((sorted_tables (view_rows old) ≡ true) × ((length marks.old ≡ 6784) × (R.WarningRoom (table_edits tolerance 1 (commands job) (record { counter = counter; tables = (map_tables map.old) })) rows (length lists.old.warnings.now) × ((length lists.old.created.now ≡ 13568) × ((length lists.old.modified.now ≡ 13568) × (length lists.old.deleted.now ≡ 13568))))))) }
+    ensures made { R.RanAs (view_rows old.entry) marks.old rows lists.old.warnings.now (map_tables map.old) (table_edits tolerance 1 (commands job) (record { counter = counter; tables = (map_tables map.old) })) result (map_tables map.new) marks.new lists.new.warnings.now }
+    ensures same { SameSlices map.old map.new }
+    ensures same_lists { SameLists lists.old lists.new }
 {
     let mut next = counter;
     let mut told = 0;
@@ -59,32 +46,7 @@ pub fn make_edits(
         let edit = job.edits[i as usize];
         let command = edit.command;
         let at = row_for(told, rows);
-        let turn = job_turn::make_edit(
-            next,
-            tolerance,
-            lanes,
-            boundaries,
-            roads,
-            junctions,
-            rules,
-            stop_lines,
-            crosswalks,
-            coordinates,
-            command,
-            created,
-            modified,
-            deleted,
-            warnings,
-            at,
-            old_lanes,
-            old_boundaries,
-            old_roads,
-            old_junctions,
-            old_rules,
-            old_stop_lines,
-            old_crosswalks,
-            marks,
-        );
+        let turn = job_turn::make_edit(next, tolerance, map, command, lists, at, old, marks);
         match turn {
             Err(refusal) => {
                 return Err(RefusedEdit {

@@ -3,7 +3,7 @@
 
 ghost use Rattle.std.specs.Prelude.{◌≡◌, true, ◌*◌, ◌≤◌, length, take};
 ghost use Rattle.lists.specs.Rows.{over};
-ghost use Rattle.tables.specs.View.{tables_of};
+ghost use Rattle.lent.specs.Lent.{map_tables, view_tables, SameSlices, SameLists};
 ghost use Rattle.tables.specs.Formed.{sound_tables};
 ghost use Rattle.jobs.specs.Job.{commands};
 ghost use Rattle.job_step.specs.Job.{table_edits};
@@ -11,108 +11,91 @@ ghost use Rattle.job_told.specs.Told as D;
 
 use entities::Tolerance;
 use jobs::Job;
+use lent::{Lists, Map, MapView};
 use report::{Counts, ENTITY, WARNING};
 
 // As many warnings of a job are kept while its edits are made. A job that has more makes its edits again to tell them.
 pub const KEPT: usize = 512;
 
-// The warnings of a job that is made. Few are copied; for more the map is put back, and the edits are made again.
-pub fn tell_warnings(
+// The first n warnings, of those that were kept.
+fn tell_kept(own: &Lists, n: usize, warnings: &mut [u64])
+    requires { (n ≤ 512) × ((length own.now.warnings.now ≡ 25600) × (n * 10 ≤ length warnings.old)) }
+    ensures { warnings.new ≡ over warnings.old 0 (take (n * 10) own.now.warnings.now) }
+{
+    slots::copy(&own.warnings[..n * WARNING], warnings, 0);
+}
+
+// Any number of them, by the edits made again on the map that is put back. The job's own lists are lent one by one:
+// fields that are lent again do not go into another struct in the same body.
+fn tell_again(
     counter: u64,
     tolerance: Tolerance,
-    lanes: &mut [u64],
-    boundaries: &mut [u64],
-    roads: &mut [u64],
-    junctions: &mut [u64],
-    rules: &mut [u64],
-    stop_lines: &mut [u64],
-    crosswalks: &mut [u64],
-    coordinates: &mut [f64],
+    map: &mut Map,
     job: Job,
-    old_lanes: &[u64],
-    old_boundaries: &[u64],
-    old_roads: &[u64],
-    old_junctions: &[u64],
-    old_rules: &[u64],
-    old_stop_lines: &[u64],
-    old_crosswalks: &[u64],
-    old_coordinates: &[f64],
+    old: MapView,
     marks: &mut [u64],
-    all_created: &mut [u64],
-    all_modified: &mut [u64],
-    all_deleted: &mut [u64],
-    kept: &[u64],
+    created: &mut [u64],
+    modified: &mut [u64],
+    deleted: &mut [u64],
     n: usize,
     warnings: &mut [u64],
 )
-    requires { (sound_tables counter (tables_of old_lanes.now old_boundaries.now old_roads.now old_junctions.now old_rules.now old_stop_lines.now old_crosswalks.now old_coordinates.now) ≡ true) × ((job.count ≤ 64) × (D.MadeAll (table_edits tolerance 1 (commands job) (record { counter = counter; tables = (tables_of old_lanes.now old_boundaries.now old_roads.now old_junctions.now old_rules.now old_stop_lines.now old_crosswalks.now old_coordinates.now) })) (tables_of lanes.old boundaries.old roads.old junctions.old rules.old stop_lines.old crosswalks.old coordinates.old) n × (D.Kept (table_edits tolerance 1 (commands job) (record { counter = counter; tables = (tables_of old_lanes.now old_boundaries.now old_roads.now old_junctions.now old_rules.now old_stop_lines.now old_crosswalks.now old_coordinates.now) })) kept.now warnings.old × ((n * 10 ≤ length warnings.old) × ((length kept.now ≡ 25600) × ((length marks.old ≡ 6784) × ((length all_created.old ≡ 13568) × ((length all_modified.old ≡ 13568) × (length all_deleted.old ≡ 13568))))))))) }
-    ensures { D.ToldAs warnings.old (table_edits tolerance 1 (commands job) (record { counter = counter; tables = (tables_of old_lanes.now old_boundaries.now old_roads.now old_junctions.now old_rules.now old_stop_lines.now old_crosswalks.now old_coordinates.now) })) (tables_of lanes.new boundaries.new roads.new junctions.new rules.new stop_lines.new crosswalks.new coordinates.new) warnings.new }
+    requires { (sound_tables counter (view_tables old) ≡ true) × ((job.count ≤ 64) × (D.MadeAll (table_edits tolerance 1 (commands job) (record { counter = counter; tables = (view_tables old) })) (map_tables map.old) n × ((n * 10 ≤ length warnings.old) × ((length marks.old ≡ 6784) × ((length created.old ≡ 13568) × ((length modified.old ≡ 13568) × (length deleted.old ≡ 13568))))))) }
+    ensures made { D.ToldAs warnings.old (table_edits tolerance 1 (commands job) (record { counter = counter; tables = (view_tables old.entry) })) (map_tables map.new) warnings.new }
+    ensures same { SameSlices map.old map.new }
+{
+    area::put_back(old, map);
+    let mut lists = Lists {
+        created,
+        modified,
+        deleted,
+        warnings,
+    };
+    // the run of before once more, so its answer is known
+    let _ = job_run::make_edits(counter, tolerance, map, job, &mut lists, n, old, marks);
+}
+
+// The warnings of a job that is made. Few were kept, and are copied; for more the map is put back, and the edits are made again.
+pub fn tell_warnings(
+    counter: u64,
+    tolerance: Tolerance,
+    map: &mut Map,
+    job: Job,
+    old: MapView,
+    marks: &mut [u64],
+    own: &mut Lists,
+    n: usize,
+    warnings: &mut [u64],
+)
+    requires { (sound_tables counter (view_tables old) ≡ true) × ((job.count ≤ 64) × (D.MadeAll (table_edits tolerance 1 (commands job) (record { counter = counter; tables = (view_tables old) })) (map_tables map.old) n × (D.Kept (table_edits tolerance 1 (commands job) (record { counter = counter; tables = (view_tables old) })) own.old.warnings.now warnings.old × ((n * 10 ≤ length warnings.old) × ((length own.old.warnings.now ≡ 25600) × ((length marks.old ≡ 6784) × ((length own.old.created.now ≡ 13568) × ((length own.old.modified.now ≡ 13568) × (length own.old.deleted.now ≡ 13568))))))))) }
+    ensures made { D.ToldAs warnings.old (table_edits tolerance 1 (commands job) (record { counter = counter; tables = (view_tables old.entry) })) (map_tables map.new) warnings.new }
+    ensures same { SameSlices map.old map.new }
+    ensures same_own { SameLists own.old own.new }
+    ensures rest { own.new.warnings.now ≡ own.old.warnings.now }
 {
     if n <= KEPT {
-        slots::copy(&kept[..n * WARNING], warnings, 0);
+        tell_kept(own, n, warnings);
         return;
     }
-    area::put_back(
-        old_lanes,
-        old_boundaries,
-        old_roads,
-        old_junctions,
-        old_rules,
-        old_stop_lines,
-        old_crosswalks,
-        old_coordinates,
-        lanes,
-        boundaries,
-        roads,
-        junctions,
-        rules,
-        stop_lines,
-        crosswalks,
-        coordinates,
-    );
-    // the run of before once more, so its answer is known
-    let _ = job_run::make_edits(
-        counter,
-        tolerance,
-        lanes,
-        boundaries,
-        roads,
-        junctions,
-        rules,
-        stop_lines,
-        crosswalks,
-        coordinates,
-        job,
-        all_created,
-        all_modified,
-        all_deleted,
-        warnings,
-        n,
-        old_lanes,
-        old_boundaries,
-        old_roads,
-        old_junctions,
-        old_rules,
-        old_stop_lines,
-        old_crosswalks,
-        marks,
+    let created = &mut *own.created;
+    let modified = &mut *own.modified;
+    let deleted = &mut *own.deleted;
+    tell_again(
+        counter, tolerance, map, job, old, marks, created, modified, deleted, n, warnings,
     );
 }
 
 // The net lists of a job that is made, from where they stand ready.
-pub fn tell_lists(
-    all_created: &[u64],
-    all_modified: &[u64],
-    all_deleted: &[u64],
-    n: Counts,
-    created: &mut [u64],
-    modified: &mut [u64],
-    deleted: &mut [u64],
-)
-    requires { ((n.created * 2 ≤ length all_created.now) × ((n.modified * 2 ≤ length all_modified.now) × (n.deleted * 2 ≤ length all_deleted.now))) × ((n.created * 2 ≤ length created.old) × ((n.modified * 2 ≤ length modified.old) × (n.deleted * 2 ≤ length deleted.old))) }
-    ensures { (created.new ≡ over created.old 0 (take (n.created * 2) all_created.now)) × ((modified.new ≡ over modified.old 0 (take (n.modified * 2) all_modified.now)) × (deleted.new ≡ over deleted.old 0 (take (n.deleted * 2) all_deleted.now))) }
+pub fn tell_lists(own: &Lists, n: Counts, lists: &mut Lists)
+    requires { ((n.created * 2 ≤ length own.now.created.now) × ((n.modified * 2 ≤ length own.now.modified.now) × (n.deleted * 2 ≤ length own.now.deleted.now))) × ((n.created * 2 ≤ length lists.old.created.now) × ((n.modified * 2 ≤ length lists.old.modified.now) × (n.deleted * 2 ≤ length lists.old.deleted.now))) }
+    ensures made { (lists.new.created.now ≡ over lists.old.created.now 0 (take (n.created * 2) own.now.created.now)) × ((lists.new.modified.now ≡ over lists.old.modified.now 0 (take (n.modified * 2) own.now.modified.now)) × (lists.new.deleted.now ≡ over lists.old.deleted.now 0 (take (n.deleted * 2) own.now.deleted.now))) }
+    ensures rest { lists.new.warnings.now ≡ lists.old.warnings.now }
+    ensures same_lists { SameLists lists.old lists.new }
 {
-    slots::copy(&all_created[..n.created * ENTITY], created, 0);
-    slots::copy(&all_modified[..n.modified * ENTITY], modified, 0);
-    slots::copy(&all_deleted[..n.deleted * ENTITY], deleted, 0);
+    let created = &mut *lists.created;
+    let modified = &mut *lists.modified;
+    let deleted = &mut *lists.deleted;
+    slots::copy(&own.created[..n.created * ENTITY], created, 0);
+    slots::copy(&own.modified[..n.modified * ENTITY], modified, 0);
+    slots::copy(&own.deleted[..n.deleted * ENTITY], deleted, 0);
 }

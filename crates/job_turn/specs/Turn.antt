@@ -7,7 +7,7 @@ use Rattle.rules.specs.Edit.{Res, Edited}
 use Rattle.rules.specs.Ops.{Command}
 use Rattle.tables.specs.View.{Tables}
 use Rattle.store.specs.Store.{room_of}
-use Rattle.report.specs.Report.{warned_at, counter_behind, Answer, changed, divided}
+use Rattle.report.specs.Report.{warned_at, counter_behind, Answer}
 use Rattle.step.specs.Run.{Held, map_in}
 use Rattle.jobs.specs.Job.{edit_once}
 use Rattle.job_step.specs.Job.{written}

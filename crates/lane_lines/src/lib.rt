@@ -16,7 +16,28 @@ use tables::{LANE, LANE_CENTERLINE, POINT};
 // Floats in the longest line, of 256 points.
 const LINE_FLOATS: usize = 768;
 
-// The first point of a boundary's line along the lane in row i: the last of one that the lane runs against.
+// An end of a boundary's line along the lane in row i, the first or the last point: a line that the lane runs against is stored the other way round.
+fn oriented_end(
+    lanes: &[u64],
+    i: usize,
+    side: Side,
+    first: bool,
+    boundaries: &[u64],
+    coordinates: &[f64],
+) -> Option<Point3>
+    requires { (K.sorted_table 1024 52 lanes.now ≡ true) × ((i < word 0 lanes.now) × ((K.sorted_table 4096 5 boundaries.now ≡ true) × (K.all_stored 5 2 coordinates.now boundaries.now ≡ true))) }
+    ensures { result ≡ cond first (first_of (K.side_line coordinates.now lanes.now boundaries.now i side)) (last_of (K.side_line coordinates.now lanes.now boundaries.now i side)) }
+{
+    let r = lookup::boundary_ref(lanes, i, side);
+    let j = lookup::boundary(boundaries, r.boundary)?;
+    let line = lookup::boundary_line(boundaries, j, coordinates);
+    if first == r.reversed {
+        return polyline::last(line);
+    }
+    polyline::first(line)
+}
+
+// The first point of that line.
 pub fn oriented_first(
     lanes: &[u64],
     i: usize,
@@ -27,13 +48,7 @@ pub fn oriented_first(
     requires { (K.sorted_table 1024 52 lanes.now ≡ true) × ((i < word 0 lanes.now) × ((K.sorted_table 4096 5 boundaries.now ≡ true) × (K.all_stored 5 2 coordinates.now boundaries.now ≡ true))) }
     ensures { result ≡ first_of (K.side_line coordinates.now lanes.now boundaries.now i side) }
 {
-    let r = lookup::boundary_ref(lanes, i, side);
-    let j = lookup::boundary(boundaries, r.boundary)?;
-    let line = lookup::boundary_line(boundaries, j, coordinates);
-    if r.reversed {
-        return polyline::last(line);
-    }
-    polyline::first(line)
+    oriented_end(lanes, i, side, true, boundaries, coordinates)
 }
 
 // The last point of that line.
@@ -47,13 +62,7 @@ pub fn oriented_last(
     requires { (K.sorted_table 1024 52 lanes.now ≡ true) × ((i < word 0 lanes.now) × ((K.sorted_table 4096 5 boundaries.now ≡ true) × (K.all_stored 5 2 coordinates.now boundaries.now ≡ true))) }
     ensures { result ≡ last_of (K.side_line coordinates.now lanes.now boundaries.now i side) }
 {
-    let r = lookup::boundary_ref(lanes, i, side);
-    let j = lookup::boundary(boundaries, r.boundary)?;
-    let line = lookup::boundary_line(boundaries, j, coordinates);
-    if r.reversed {
-        return polyline::first(line);
-    }
-    polyline::last(line)
+    oriented_end(lanes, i, side, false, boundaries, coordinates)
 }
 
 // A line's points in their order.

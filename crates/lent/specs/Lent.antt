@@ -1,9 +1,9 @@
 -- What the slices of a map and of a call's lists hold, and that a call leaves each slice where it is and as long as it was.
-use Rattle.std.specs.Prelude.{◌≡◌, ℕ, length}
+use Rattle.std.specs.Prelude.{◌≡◌, [], length}
 use Rattle.tables.specs.View.{Tables, tables_of}
-use Rattle.step.specs.Step.{Lent, lent_of}
 use Rattle.lent.specs.declared.MapView.{MapView}
 use Rattle.lent.specs.declared.Map.{Map}
+use Rattle.lent.specs.declared.Lines.{Lines}
 use Rattle.lent.specs.declared.Lists.{Lists}
 
 abbrev pub view_tables : MapView → Tables
@@ -12,9 +12,16 @@ view_tables m = tables_of m.lanes.now m.boundaries.now m.roads.now m.junctions.n
 abbrev pub map_tables : Map → Tables
 map_tables m = tables_of m.lanes.now m.boundaries.now m.roads.now m.junctions.now m.rules.now m.stop_lines.now m.crosswalks.now m.coordinates.now
 
--- all that a call is lent, with the counter that it is given
-abbrev pub given : ℕ → Map → Lists → Lent
-given counter m l = lent_of counter m.lanes.now m.boundaries.now m.roads.now m.junctions.now m.rules.now m.stop_lines.now m.crosswalks.now m.coordinates.now l.created.now l.modified.now l.deleted.now l.warnings.now
+-- the same without the coordinates
+abbrev pub view_rows : MapView → Tables
+view_rows m = tables_of m.lanes.now m.boundaries.now m.roads.now m.junctions.now m.rules.now m.stop_lines.now m.crosswalks.now []
+
+abbrev pub map_rows : Map → Tables
+map_rows m = tables_of m.lanes.now m.boundaries.now m.roads.now m.junctions.now m.rules.now m.stop_lines.now m.crosswalks.now []
+
+-- the tables with lines alone; the others have no part in a layout
+abbrev pub lines_tables : Lines → Tables
+lines_tables m = tables_of m.lanes.now m.boundaries.now [] [] [] m.stop_lines.now m.crosswalks.now m.coordinates.now
 
 -- n's fields are the slices of m, each as long as it was
 pub record SameSlices (m n : Map) : Type 0 where
@@ -44,3 +51,15 @@ pub record SameLists (m n : Lists) : Type 0 where
   pub modified_length : length n.modified.now ≡ length m.modified.now
   pub deleted_length : length n.deleted.now ≡ length m.deleted.now
   pub warnings_length : length n.warnings.now ≡ length m.warnings.now
+
+pub record SameLines (m n : Lines) : Type 0 where
+  pub lanes : n.lanes.ghost_name ≡ m.lanes.ghost_name
+  pub boundaries : n.boundaries.ghost_name ≡ m.boundaries.ghost_name
+  pub stop_lines : n.stop_lines.ghost_name ≡ m.stop_lines.ghost_name
+  pub crosswalks : n.crosswalks.ghost_name ≡ m.crosswalks.ghost_name
+  pub coordinates : n.coordinates.ghost_name ≡ m.coordinates.ghost_name
+  pub lanes_length : length n.lanes.now ≡ length m.lanes.now
+  pub boundaries_length : length n.boundaries.now ≡ length m.boundaries.now
+  pub stop_lines_length : length n.stop_lines.now ≡ length m.stop_lines.now
+  pub crosswalks_length : length n.crosswalks.now ≡ length m.crosswalks.now
+  pub coordinates_length : length n.coordinates.now ≡ length m.coordinates.now

@@ -47,6 +47,16 @@ impl<'a> Map<'a> {
     }
 }
 
+// Those of its slices that have lines, and the coordinates.
+#[derive(Drop)]
+pub struct Lines<'a> {
+    pub lanes: &'a mut [u64],
+    pub boundaries: &'a mut [u64],
+    pub stop_lines: &'a mut [u64],
+    pub crosswalks: &'a mut [u64],
+    pub coordinates: &'a mut [f64],
+}
+
 // The lists that an accepted call fills.
 #[derive(Drop)]
 pub struct Lists<'a> {

@@ -134,7 +134,7 @@ fn read_line(s: &[u8], from: usize, line: &mut [f64]) -> Part
         },
     );
     let next = n.next;
-    let size = stream::least(n.value * 3, line.len());
+    let size = (n.value * 3).min(line.len());
     let mut at = next.at;
     for place in &mut line[..size] {
         *place = bits::double(stream::word(s, at));

@@ -87,7 +87,7 @@ fn links_returned(t: &[u64], ids: &[u64]) -> bool
 }
 
 // The slot that answers a slot at place k.
-fn answer_place(k: usize, mark: u64) -> usize
+pub fn answer_place(k: usize, mark: u64) -> usize
     requires { (k ≡ 14) ⊎ (k ≡ 16) }
     ensures { result ≡ R.answer_place k mark }
 {

@@ -5,7 +5,7 @@ use Rattle.lists.specs.Rows.{keys, row_with}
 use Rattle.lists.specs.Select.{keep, any, ascending}
 use Rattle.polyline.specs.Polyline.{line_length}
 use Rattle.entities.specs.Records.{Line, Map}
-use Rattle.rules.specs.Names.{Side, Left, Right, Point2}
+use Rattle.rules.specs.Names.{Side, Left, Right}
 use Rattle.rules.specs.Map.{oriented_boundary, centerline}
 use Rattle.tables.specs.View.{word, mark, rows, lane_of, boundary_of, stop_line_of, crosswalk_of}
 use Rattle.tables.specs.Formed.{counted, span_at, stored}

@@ -15,7 +15,7 @@ use merge_plan::{Joined, Plan};
 use report::Notice;
 use tables::{
     BOUNDARY, BOUNDARY_SIZE, LANE, LANE_CENTERLINE, LANE_CENTERLINE_SIZE, LANE_CENTERLINE_START,
-    LANE_KIND, LANE_SPEED, LANE_TURN, LEFT_SLOT, NONE, RIGHT_SLOT,
+    LANE_KIND, LANE_SPEED, LANE_TURN, NONE,
 };
 
 // How many points the lines of two boundaries have when they are joined along their lanes; x and y are the boundaries' rows.
@@ -138,29 +138,20 @@ pub fn conflict(lanes: &[u64], i: usize, j: usize) -> bool
     merge_plan::speeds_differ(lanes[one], lanes[one + 1], lanes[two], lanes[two + 1])
 }
 
-fn slot_word(side: Side) -> usize
-    ensures { result ≡ P.slot_word side }
-{
-    match side {
-        Side::Left => LEFT_SLOT,
-        Side::Right => RIGHT_SLOT,
-    }
-}
-
 // The warning that a neighbour of the lane in row j is dropped: the slot of the lane in row i on that side names another lane, or none.
-pub fn dropped(lanes: &[u64], i: usize, j: usize, side: Side) -> Notice
+pub fn dropped(lanes: &[u64], i: usize, j: usize, side: Side) -> Option<Notice>
     requires { (K.sorted_table 1024 52 lanes.now ≡ true) × ((i < word 0 lanes.now) × (j < word 0 lanes.now)) }
     ensures { issues result ≡ M.dropped (P.lane_in [] lanes.now i).id (neighbor_on side (P.lane_in [] lanes.now j)) (neighbor_on side (P.lane_in [] lanes.now i)) }
 {
-    let k = slot_word(side);
+    let k = topology::slot_place(side);
     let a = 1 + i * LANE;
     let b = 1 + j * LANE;
     if lanes[b + k] == NONE {
-        return Notice::Nothing;
+        return None;
     }
     let other = lanes[b + k + 1];
     if both(lanes[a + k] != NONE, lanes[a + k + 1] == other) {
-        return Notice::Nothing;
+        return None;
     }
-    Notice::Pair(IssueCode::NeighborDropped, lanes[a], other)
+    Some(Notice::Pair(IssueCode::NeighborDropped, lanes[a], other))
 }

@@ -69,6 +69,7 @@ fn goes(
 }
 
 // A boundary put among the first n that go, if it goes; how many there are then.
+// The list lies at the front of its slots, which are fixed memory: the count stands beside it.
 fn add_gone(
     lanes: &[u64],
     i: usize,

@@ -10,6 +10,7 @@ ghost use Rattle.report.specs.Report.{listed};
 ghost use Rattle.merge_lists.specs.Changes as C;
 
 use entities::EntityKind;
+use lent::MapView;
 use mentions::Rows;
 use merge_plan::Joined;
 use report::Notice;
@@ -17,11 +18,11 @@ use report::Notice;
 // What a merge warns of, in the order raised: attributes that differ, the neighbours that are dropped left and right, the new boundaries left and right.
 #[derive(Clone, Copy)]
 pub struct Notices {
-    pub conflict: Notice,
-    pub left: Notice,
-    pub right: Notice,
-    pub one: Notice,
-    pub other: Notice,
+    pub conflict: Option<Notice>,
+    pub left: Option<Notice>,
+    pub right: Option<Notice>,
+    pub one: Option<Notice>,
+    pub other: Option<Notice>,
 }
 
 // ---- created
@@ -38,6 +39,7 @@ pub fn list_created(next: u64, ids: usize, created: &mut [u64])
 // ---- modified
 
 // A boundary put among the first n, if it is joined in place; how many there are then.
+// The list lies at the front of its slots, which are fixed memory: the count stands beside it.
 fn add_joined(plan: Joined, id: u64, out: &mut [u64], n: usize) -> usize
     requires { (n < length out.old) × (ascending (take n out.old) ≡ true) }
     ensures { (result ≡ length (C.with_joined plan id (take n out.old))) × (out.new ≡ over out.old 0 (C.with_joined plan id (take n out.old))) }
@@ -65,43 +67,28 @@ pub fn joined_ids(
 }
 
 // How many lanes, boundaries, roads, junctions and rules are modified.
-pub fn count_modified(
-    second: u64,
-    joined: &[u64],
-    lanes: &[u64],
-    roads: &[u64],
-    junctions: &[u64],
-    rules: &[u64],
-) -> usize
-    requires { (C.Formed lanes.now roads.now junctions.now rules.now) × (length joined.now ≤ 2) }
-    ensures { result ≡ length (C.touched second joined.now lanes.now roads.now junctions.now rules.now) }
+pub fn count_modified(second: u64, joined: &[u64], map: MapView) -> usize
+    requires { (C.Formed map.lanes.now map.roads.now map.junctions.now map.rules.now) × (length joined.now ≤ 2) }
+    ensures { result ≡ length (C.touched second joined.now map.entry.lanes.now map.entry.roads.now map.entry.junctions.now map.entry.rules.now) }
 {
-    let a = mentions::count(lanes, Rows::Lanes, second);
-    let b = mentions::count(roads, Rows::Roads, second);
-    let c = mentions::count(junctions, Rows::Junctions, second);
-    let d = mentions::count(rules, Rows::Rules, second);
+    let a = mentions::count(map.lanes, Rows::Lanes, second);
+    let b = mentions::count(map.roads, Rows::Roads, second);
+    let c = mentions::count(map.junctions, Rows::Junctions, second);
+    let d = mentions::count(map.rules, Rows::Rules, second);
     a + joined.len() + b + c + d
 }
 
 // Their list.
-pub fn list_modified(
-    second: u64,
-    joined: &[u64],
-    lanes: &[u64],
-    roads: &[u64],
-    junctions: &[u64],
-    rules: &[u64],
-    modified: &mut [u64],
-)
-    requires { (C.Formed lanes.now roads.now junctions.now rules.now) × (length (C.touched second joined.now lanes.now roads.now junctions.now rules.now) * 2 ≤ length modified.old) }
-    ensures { modified.new ≡ listed modified.old (C.touched second joined.now lanes.now roads.now junctions.now rules.now) }
+pub fn list_modified(second: u64, joined: &[u64], map: MapView, modified: &mut [u64])
+    requires { (C.Formed map.lanes.now map.roads.now map.junctions.now map.rules.now) × (length (C.touched second joined.now map.lanes.now map.roads.now map.junctions.now map.rules.now) * 2 ≤ length modified.old) }
+    ensures { modified.new ≡ listed modified.old (C.touched second joined.now map.entry.lanes.now map.entry.roads.now map.entry.junctions.now map.entry.rules.now) }
 {
     let kind = EntityKind::Boundary;
-    let a = mentions::list(lanes, Rows::Lanes, second, modified, 0);
+    let a = mentions::list(map.lanes, Rows::Lanes, second, modified, 0);
     let b = report::list_ids(kind, joined, modified, a);
-    let c = mentions::list(roads, Rows::Roads, second, modified, b);
-    let d = mentions::list(junctions, Rows::Junctions, second, modified, c);
-    mentions::list(rules, Rows::Rules, second, modified, d);
+    let c = mentions::list(map.roads, Rows::Roads, second, modified, b);
+    let d = mentions::list(map.junctions, Rows::Junctions, second, modified, c);
+    mentions::list(map.rules, Rows::Rules, second, modified, d);
 }
 
 // ---- deleted

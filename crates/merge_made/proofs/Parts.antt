@@ -16,7 +16,6 @@ use Rattle.rules.specs.Names.{BoundaryRef, LaneKind, BoundaryKind, NoRoom, NoIds
 use Rattle.rules.specs.Sound.{next_id}
 use Rattle.rules.specs.Edit.{refs, up_from}
 use Rattle.tables.specs.View.{Tables, word, tables_of}
-use Rattle.layout.specs.Layout.{line_tables}
 use Rattle.lookup.specs.Lookup.{row_at}
 use Rattle.report.specs.Report.{listed, warned, counter_behind, changed}
 use Rattle.report.specs.declared.Counts.{Counts}
@@ -61,16 +60,17 @@ module _ (join : Float) (p : Plan) (next : ℕ) (gone : List ℕ) (i j : ℕ) (t
       → tables_of l o r u v s x c ≡ tables_of l₁ o₁ r₁ u₁ v₁ s₁ x₁ c₁
   tables-fields a b c d e f g h = rw (a, b, c, d, e, f, g, h)
 
+  -- the tables with lines as `z` has them
   pub all-written : (reach : ℕ) → reach ≡ reach_of t → (rs js us : List ℕ)
-      → named rs js us ≡ named_written (get_or t.lanes (1 + i * 52) 0) (get_or t.lanes (1 + j * 52) 0) (named_in t) → (ls bs ss xs : List ℕ) (c : List Float)
-      → line_tables ls bs ss xs c ≡ relaid join p next reach gone i j blank (lined t) → tables_of ls bs rs js us ss xs c ≡ written join p next gone i j t
+      → named rs js us ≡ named_written (get_or t.lanes (1 + i * 52) 0) (get_or t.lanes (1 + j * 52) 0) (named_in t) → (z : Tables) → z ≡ relaid join p next reach gone i j blank (lined t)
+      → (ls bs ss xs : List ℕ) (c : List Float) → ls ≡ z.lanes → bs ≡ z.boundaries → ss ≡ z.stop_lines → xs ≡ z.crosswalks → c ≡ z.coordinates → tables_of ls bs rs js us ss xs c ≡ written join p next gone i j t
   unfolding written
-  all-written reach e rs js us n ls bs ss xs c q =
-      let z : 0 < 52 = omega arith in
+  all-written reach e rs js us n z q ls bs ss xs c el eb es ex ec =
+      let o : 0 < 52 = omega arith in
       let r = q ∙ ap (λ k. relaid join p next k gone i j blank (lined t)) e in
-      let m = n ∙ (ap (λ a. named_written a (get_or t.lanes (1 + j * 52) 0) (named_in t)) (id-read 52 t.lanes i z) ∙ ap (λ b. named_written (word 0 (row_at 52 t.lanes i)) b (named_in t)) (id-read 52 t.lanes j z)) in
-      tables-fields (ap (λ (x : Tables). x.lanes) r) (ap (λ (x : Tables). x.boundaries) r) (ap (λ (x : Naming). x.roads) m) (ap (λ (x : Naming). x.junctions) m) (ap (λ (x : Naming). x.rules) m)
-      (ap (λ (x : Tables). x.stop_lines) r) (ap (λ (x : Tables). x.crosswalks) r) (ap (λ (x : Tables). x.coordinates) r)
+      let m = n ∙ (ap (λ a. named_written a (get_or t.lanes (1 + j * 52) 0) (named_in t)) (id-read 52 t.lanes i o) ∙ ap (λ b. named_written (word 0 (row_at 52 t.lanes i)) b (named_in t)) (id-read 52 t.lanes j o)) in
+      tables-fields (el ∙ ap (λ (x : Tables). x.lanes) r) (eb ∙ ap (λ (x : Tables). x.boundaries) r) (ap (λ (x : Naming). x.roads) m) (ap (λ (x : Naming). x.junctions) m) (ap (λ (x : Naming). x.rules) m)
+      (es ∙ ap (λ (x : Tables). x.stop_lines) r) (ex ∙ ap (λ (x : Tables). x.crosswalks) r) (ec ∙ ap (λ (x : Tables). x.coordinates) r)
 
 -- ---- the two tests of room
 

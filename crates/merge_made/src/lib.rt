@@ -2,13 +2,15 @@
 #![tactic(auto)]
 
 ghost use Rattle.std.specs.Prelude.{◌≡◌, ◌+◌, ◌*◌, ◌≤◌, length};
+ghost use Rattle.step.specs.Step.{given};
 ghost use Rattle.report.specs.Report.{counter_behind};
 ghost use Rattle.step.specs.Step as S;
-ghost use Rattle.lent.specs.Lent.{map_tables, given, SameSlices, SameLists};
+ghost use Rattle.lent.specs.Lent.{map_tables, SameSlices, SameLists};
 ghost use Rattle.merge_lists.specs.Changes as C;
 ghost use Rattle.merge_made.specs.Parts as P;
 
 use entities::{Refusal, Side};
+use lent::MapView;
 use mentions::Rows;
 use merge_lists::Notices;
 use merge_plan::{Plan, side_ids};
@@ -29,19 +31,16 @@ fn count(
     gone: usize,
     joined: &[u64],
     warnings: usize,
-    lanes: &[u64],
-    roads: &[u64],
-    junctions: &[u64],
-    rules: &[u64],
+    map: MapView,
 ) -> Counts
-    requires { (C.Formed lanes.now roads.now junctions.now rules.now) × ((length joined.now ≤ 2) × (gone ≤ 4)) }
-    ensures { result ≡ P.counts_of second plan gone joined.now warnings lanes.now roads.now junctions.now rules.now }
+    requires { (C.Formed map.lanes.now map.roads.now map.junctions.now map.rules.now) × ((length joined.now ≤ 2) × (gone ≤ 4)) }
+    ensures { result ≡ P.counts_of second plan gone joined.now warnings map.entry.lanes.now map.entry.roads.now map.entry.junctions.now map.entry.rules.now }
 {
     let left = plan.left;
     let right = plan.right;
     Counts {
         created: side_ids(left) + side_ids(right),
-        modified: merge_lists::count_modified(second, joined, lanes, roads, junctions, rules),
+        modified: merge_lists::count_modified(second, joined, map),
         deleted: gone + 1,
         warnings,
     }
@@ -55,20 +54,19 @@ fn write_lists(
     gone: &[u64],
     joined: &[u64],
     notices: Notices,
-    lanes: &[u64],
-    roads: &[u64],
-    junctions: &[u64],
-    rules: &[u64],
-    created: &mut [u64],
-    modified: &mut [u64],
-    deleted: &mut [u64],
-    warnings: &mut [u64],
+    map: MapView,
+    lists: &mut lent::Lists,
 )
-    requires { P.Listable second next ids gone.now joined.now notices lanes.now roads.now junctions.now rules.now created.old modified.old deleted.old warnings.old }
-    ensures { P.lists created.new modified.new deleted.new warnings.new ≡ P.lists_written second next ids gone.now joined.now notices lanes.now roads.now junctions.now rules.now (P.lists created.old modified.old deleted.old warnings.old) }
+    requires { P.Listable second next ids gone.now joined.now notices map.lanes.now map.roads.now map.junctions.now map.rules.now lists.old.created.now lists.old.modified.now lists.old.deleted.now lists.old.warnings.now }
+    ensures made { P.lists lists.new.created.now lists.new.modified.now lists.new.deleted.now lists.new.warnings.now ≡ P.lists_written second next ids gone.now joined.now notices map.entry.lanes.now map.entry.roads.now map.entry.junctions.now map.entry.rules.now (P.lists lists.old.created.now lists.old.modified.now lists.old.deleted.now lists.old.warnings.now) }
+    ensures same_lists { SameLists lists.old lists.new }
 {
+    let created = &mut *lists.created;
+    let modified = &mut *lists.modified;
+    let deleted = &mut *lists.deleted;
+    let warnings = &mut *lists.warnings;
     merge_lists::list_created(next, ids, created);
-    merge_lists::list_modified(second, joined, lanes, roads, junctions, rules, modified);
+    merge_lists::list_modified(second, joined, map, modified);
     merge_lists::list_deleted(second, gone, deleted);
     merge_notices::warn(notices, warnings);
 }
@@ -103,20 +101,14 @@ fn write(join: f64, map: &mut lent::Map, i: usize, j: usize, plan: Plan, next: u
     let second = lanes[1 + j * LANE];
     let reach = reach::lines_reach(lanes, boundaries, stop_lines, crosswalks);
     write_named(roads, junctions, rules, first, second);
-    merge_relay::relay(
-        join,
-        lanes,
-        i,
-        j,
-        boundaries,
-        stop_lines,
-        crosswalks,
-        coordinates,
-        plan,
-        next,
-        reach,
-        gone,
-    );
+    let mut lines = lent::Lines {
+        lanes: &mut *map.lanes,
+        boundaries: &mut *map.boundaries,
+        stop_lines: &mut *map.stop_lines,
+        crosswalks: &mut *map.crosswalks,
+        coordinates: &mut *map.coordinates,
+    };
+    merge_relay::relay(join, &mut lines, i, j, plan, next, reach, gone);
 }
 
 // ---- the edit
@@ -140,9 +132,6 @@ fn merge_with(
 {
     let lanes = &mut *map.lanes;
     let boundaries = &mut *map.boundaries;
-    let roads = &mut *map.roads;
-    let junctions = &mut *map.junctions;
-    let rules = &mut *map.rules;
     let stop_lines = &mut *map.stop_lines;
     let crosswalks = &mut *map.crosswalks;
     let coordinates = &mut *map.coordinates;
@@ -155,17 +144,6 @@ fn merge_with(
     let right = plan.right;
     let second = lanes[1 + j * LANE];
     let notices = merge_notices::notices_of(lanes, i, j, left, right, next);
-    let counts = count(
-        second,
-        plan,
-        gone.len(),
-        joined,
-        merge_notices::count_notices(notices),
-        lanes,
-        roads,
-        junctions,
-        rules,
-    );
     if !merge_room::fits(
         lanes,
         i,
@@ -179,6 +157,14 @@ fn merge_with(
     ) {
         return Err(Refusal::NoRoom);
     }
+    let counts = count(
+        second,
+        plan,
+        gone.len(),
+        joined,
+        merge_notices::count_notices(notices),
+        map.view(),
+    );
     if !room::lists_fit(counts, created, modified, deleted, warnings) {
         return Err(Refusal::NoRoom);
     }
@@ -189,14 +175,8 @@ fn merge_with(
         gone,
         joined,
         notices,
-        lanes,
-        roads,
-        junctions,
-        rules,
-        created,
-        modified,
-        deleted,
-        warnings,
+        map.view(),
+        lists,
     );
     write(join, map, i, j, plan, next, gone);
     Ok(Change {

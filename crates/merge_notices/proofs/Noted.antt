@@ -1,4 +1,5 @@
 -- The warnings of a merge, one row behind the other. Assumes nothing.
+use Rattle.std.specs.Prelude.{Option, None, Some}
 use mathlib.Core.Path.{◌≡◌, refl, ap, ◌∙◌}
 use Prim.Native.Nat.{ℕ, ◌+◌, ◌*◌, ◌≤◌, ◌<◌}
 use native.Mathlib.Omega.{arith}
@@ -8,7 +9,7 @@ use lib.ListN.{length, get_or, length-append}
 use Rattle.entities.specs.Records.{Issue}
 use Rattle.report.specs.Report.{issues, warned, warned_at}
 use Rattle.report.specs.declared.Notice.{Notice}
-use Rattle.report.specs.declared.Notice.TheVariants.{Pair, Nothing}
+use Rattle.report.specs.declared.Notice.TheVariants.{Pair}
 use Rattle.entities.specs.Types.{lane_entity}
 use Rattle.rules.specs.Names.{Left, Right, AttributeConflict}
 use Rattle.rules.specs.Map.{neighbor_on}
@@ -49,7 +50,7 @@ pub record Stand (w : List ℕ) (is : List Issue) (v : List ℕ) (at : ℕ) : Ty
 pub none-noted : (w : List ℕ) → Stand w [] w 0
 none-noted w = record { behind = refl; words = none-put 0 w; shorts = all_nil short }
 
-module _ (w : List ℕ) (is : List Issue) (v : List ℕ) (at : ℕ) (s : Stand w is v at) (n : Notice) (room : (length is + length (issues n)) * 10 ≤ length w) where
+module _ (w : List ℕ) (is : List Issue) (v : List ℕ) (at : ℕ) (s : Stand w is v at) (n : Option Notice) (room : (length is + length (issues n)) * 10 ≤ length w) where
   pub note-room : (at + length (issues n)) * 10 ≤ length v
   note-room = omega (arith, s.behind, ap length s.words, length-warned-at 0 w is s.shorts (omega arith))
 
@@ -120,19 +121,19 @@ module _ (n : Notices) (w : List ℕ) (h : length (issues_of n) * 10 ≤ length 
 
 -- ---- what is noticed
 
-pub conflict-noted : (lanes : List ℕ) (i j : ℕ) (b : Bool) → b ≡ M.conflict (lane_in [] lanes i) (lane_in [] lanes j) → (r : Notice)
-    → r ≡ cond b (Pair AttributeConflict (get_or lanes (1 + i * 52) 0) (get_or lanes (1 + j * 52) 0)) Nothing → issues r ≡ conflicting lanes i j
+pub conflict-noted : (lanes : List ℕ) (i j : ℕ) (b : Bool) → b ≡ M.conflict (lane_in [] lanes i) (lane_in [] lanes j) → (r : Option Notice)
+    → r ≡ cond b (Some (Pair AttributeConflict (get_or lanes (1 + i * 52) 0) (get_or lanes (1 + j * 52) 0))) None → issues r ≡ conflicting lanes i j
 unfolding lane_of
 conflict-noted lanes i j b e r f =
     let p : 0 < 52 = omega arith in
     f' b (rw (id-read 52 lanes i p, id-read 52 lanes j p) at f) ∙ ap (λ z. when z (warning AttributeConflict (lane_entity (lane_in [] lanes i).id) (lane_entity (lane_in [] lanes j).id ∷ []))) e
   where
-    f' : (b : Bool) → r ≡ cond b (Pair AttributeConflict (word 0 (row_at 52 lanes i)) (word 0 (row_at 52 lanes j))) Nothing
+    f' : (b : Bool) → r ≡ cond b (Some (Pair AttributeConflict (word 0 (row_at 52 lanes i)) (word 0 (row_at 52 lanes j)))) None
         → issues r ≡ when b (warning AttributeConflict (lane_entity (word 0 (row_at 52 lanes i))) (lane_entity (word 0 (row_at 52 lanes j)) ∷ []))
     f' true q = rw q
     f' false q = rw q
 
-pub all_noted : (lanes : List ℕ) (i j : ℕ) (l r : Joined) (next k : ℕ) → k ≡ side_ids l → (a b c d e : Notice) → issues a ≡ conflicting lanes i j
+pub all_noted : (lanes : List ℕ) (i j : ℕ) (l r : Joined) (next k : ℕ) → k ≡ side_ids l → (a b c d e : Option Notice) → issues a ≡ conflicting lanes i j
     → issues b ≡ M.dropped (lane_in [] lanes i).id (neighbor_on Left (lane_in [] lanes j)) (neighbor_on Left (lane_in [] lanes i))
     → issues c ≡ M.dropped (lane_in [] lanes i).id (neighbor_on Right (lane_in [] lanes j)) (neighbor_on Right (lane_in [] lanes i)) → issues d ≡ unshared l next → issues e ≡ unshared r (next + k)
     → issues_of (record { conflict = a; left = b; right = c; one = d; other = e }) ≡ warnings_of lanes i j l r next

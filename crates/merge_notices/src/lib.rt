@@ -13,18 +13,18 @@ use report::Notice;
 use tables::LANE;
 
 // The warning of a new boundary.
-fn unshared(plan: Joined, id: u64) -> Notice
+fn unshared(plan: Joined, id: u64) -> Option<Notice>
     ensures { issues result ≡ C.unshared plan id }
 {
     match plan {
-        Joined::Kept => Notice::Nothing,
-        Joined::InPlace(_) => Notice::Nothing,
-        Joined::Fresh(_) => Notice::Unshared(id),
+        Joined::Kept => None,
+        Joined::InPlace(_) => None,
+        Joined::Fresh(_) => Some(Notice::Unshared(id)),
     }
 }
 
 // The warning that kind, speed limit or turn of the lanes in rows i and j differ.
-fn conflicting(lanes: &[u64], i: usize, j: usize) -> Notice
+fn conflicting(lanes: &[u64], i: usize, j: usize) -> Option<Notice>
     requires { C.Looked lanes.now i j }
     ensures { issues result ≡ C.conflicting lanes.now i j }
 {

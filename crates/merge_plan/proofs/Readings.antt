@@ -26,7 +26,8 @@ use Rattle.store.proofs.Marks.{LaneMarks, lane-marks}
 use Rattle.lookup.specs.Lookup.{row_at, centers_stored, count_of}
 use Rattle.lookup.proofs.Laws.{word_in, next_in, row_line, row-passes}
 use Rattle.lookup.proofs.Center.{center_stored, center_short}
-use Rattle.merge_plan.specs.Deciding.{lane_in, counted, holds_only, follows, side_told, center_plan, both_plans, plan_told, speed_of, speed_words, slot_word}
+use Rattle.merge_plan.specs.Deciding.{lane_in, counted, holds_only, follows, side_told, center_plan, both_plans, plan_told, speed_of, speed_words}
+use Rattle.topology.specs.Topology.{slot_place}
 use Rattle.merge_plan.specs.declared.Joined.{Joined}
 use Rattle.merge_plan.proofs.Laws.{id-read, stored-long, met-few, joined-long}
 
@@ -233,7 +234,7 @@ module _ (lanes : List ℕ) (i j : ℕ) where
 
 -- ---- neighbours
 
-slot-on : (side : Side) (w : List ℕ) → neighbor_on side (lane_of [] w) ≡ slot_at (slot_word side) w
+slot-on : (side : Side) (w : List ℕ) → neighbor_on side (lane_of [] w) ≡ slot_at (slot_place side) w
 unfolding lane_of
 slot-on Left w = refl
 slot-on Right w = refl
@@ -256,11 +257,11 @@ dropped-slot a k w f e = rw e (go (eqb (word k w) 1))
     go true = refl
     go false = refl
 
-module _ (lanes : List ℕ) (i j k : ℕ) (side : Side) (ek : k ≡ slot_word side) where
+module _ (lanes : List ℕ) (i j k : ℕ) (side : Side) (ek : k ≡ slot_place side) where
   pub slot_small : suc k < 52
   slot_small = go side ek
     where
-      go : (s : Side) → k ≡ slot_word s → suc k < 52
+      go : (s : Side) → k ≡ slot_place s → suc k < 52
       go Left e = omega arith
       go Right e = omega arith
 

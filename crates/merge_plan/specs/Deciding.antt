@@ -109,11 +109,6 @@ speed_of m x = cond (eqb m 0) None (Some x)
 abbrev pub speed_words : ℕ → ℕ → ℕ → ℕ → Bool
 speed_words one x two y = speeds_differ (speed_of one x) (speed_of two y)
 
--- the word of a lane's row where a slot stands
-abbrev pub slot_word : Side → ℕ
-slot_word Left = 14
-slot_word Right = 16
-
 -- the whole plan
 abbrev pub planned : Float → List Float → List ℕ → List ℕ → ℕ → ℕ → Res Plan
 planned join c lanes boundaries i j =

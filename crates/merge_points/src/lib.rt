@@ -1,7 +1,10 @@
 // How many points the map has after a merge. The Rust counts none: room is lent here.
 #![tactic(auto)]
 
-ghost use Rattle.std.specs.Prelude.{◌≡◌, true, ◌+◌, ◌*◌, ◌≤◌, ◌<◌, length};
+ghost use Rattle.std.specs.Prelude.{◌≡◌, true, ℕ, ◌+◌, ◌*◌, ◌≤◌, ◌<◌, List, length};
+ghost use Rattle.std.specs.Fn.{FnReturnsAt};
+ghost use Rattle.rules.specs.Sound.{total};
+ghost use Rattle.tables.specs.View.{word, rows};
 ghost use Rattle.lookup.specs.Lookup as K;
 ghost use Rattle.merge_plan.specs.Sides.{side_points, center_points};
 ghost use Rattle.merge_gone.specs.Leaving as R;
@@ -34,6 +37,24 @@ fn new_points(plan: Joined) -> usize
     }
 }
 
+// What a table's rows count together, at most 512 each. A row has `row` words.
+fn rows_sum<F: Fn(&[u64]) -> usize>(t: &[u64], row: usize, counts: F) -> usize
+    requires room { (word 0 t.now ≤ 4096) × (1 + word 0 t.now * row ≤ length t.now) }
+    requires takes_rows { (w : _) → length w.now ≡ row → F.pre counts w }
+    requires few { (i : ℕ) → i < word 0 t.now → (n : ℕ) → FnReturnsAt F.Fn counts (K.row_at row t.now i) n → n ≤ 512 }
+    ensures few { result ≤ word 0 t.now * 512 }
+    ensures sum { (g : List ℕ → ℕ) → ((w : List ℕ) (n : ℕ) → length w ≡ row → FnReturnsAt F.Fn counts w n → n ≡ g w) → result ≡ total (rows row g t.now) }
+{
+    let n = t[0] as usize;
+    let mut sum = 0;
+    for i in 0..n {
+        let at = 1 + i * row;
+        let end = at + row;
+        sum += counts(&t[at..end]);
+    }
+    sum
+}
+
 // Points of the row of a boundary after the merge.
 fn row_points(row: &[u64], gone: &[u64], sides: Sides) -> usize
     requires { length row.now ≡ 5 }
@@ -59,14 +80,7 @@ fn boundary_points(boundaries: &[u64], gone: &[u64], sides: Sides) -> usize
     requires { (K.sorted_table 4096 5 boundaries.now ≡ true) × ((K.all_short 5 2 boundaries.now ≡ true) × ((side_points sides.left ≤ 512) × (side_points sides.right ≤ 512))) }
     ensures { (result ≡ R.boundary_points gone.now sides boundaries.now) × (result ≤ 2097152) }
 {
-    let n = boundaries[0] as usize;
-    let mut points = 0;
-    for i in 0..n {
-        let at = 1 + i * BOUNDARY;
-        let end = at + BOUNDARY;
-        points += row_points(&boundaries[at..end], gone, sides);
-    }
-    points
+    rows_sum(boundaries, BOUNDARY, |row| row_points(row, gone, sides))
 }
 
 // Points of a lane's explicit centreline after the merge.
@@ -92,14 +106,7 @@ fn lane_points(lanes: &[u64], first: u64, second: u64, center: Option<usize>) ->
     requires { (K.sorted_table 1024 52 lanes.now ≡ true) × ((R.centers_short lanes.now ≡ true) × (center_points center ≤ 512)) }
     ensures { (result ≡ R.lane_points first second center lanes.now) × (result ≤ 524288) }
 {
-    let n = lanes[0] as usize;
-    let mut points = 0;
-    for i in 0..n {
-        let at = 1 + i * LANE;
-        let end = at + LANE;
-        points += center_after(&lanes[at..end], first, second, center);
-    }
-    points
+    rows_sum(lanes, LANE, |row| center_after(row, first, second, center))
 }
 
 // Points of the finished map.

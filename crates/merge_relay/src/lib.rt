@@ -2,7 +2,7 @@
 #![tactic(auto)]
 
 ghost use Rattle.std.specs.Prelude.{◌≡◌, length};
-ghost use Rattle.layout.specs.Layout as L;
+ghost use Rattle.lent.specs.Lent.{lines_tables, SameLines};
 ghost use Rattle.merge_redraw.specs.Relaying as W;
 
 use entities::Side;
@@ -14,22 +14,22 @@ const WORK: usize = 4608;
 // The tables with lines after the merge of the lanes in rows i and j; `work` is an array of work.
 fn relay_in(
     join: f64,
-    lanes: &mut [u64],
+    lines: &mut lent::Lines,
     i: usize,
     j: usize,
-    boundaries: &mut [u64],
-    stop_lines: &mut [u64],
-    crosswalks: &mut [u64],
-    coordinates: &mut [f64],
     plan: Plan,
     next: u64,
     reach: usize,
     gone: &[u64],
     work: &mut [f64],
 )
-    requires { (W.Relayable join plan next reach gone.now i j (L.line_tables lanes.old boundaries.old stop_lines.old crosswalks.old coordinates.old)) × (length work.old ≡ 4608) }
-    ensures { L.line_tables lanes.new boundaries.new stop_lines.new crosswalks.new coordinates.new ≡ W.relaid join plan next reach gone.now i j work.old (L.line_tables lanes.old boundaries.old stop_lines.old crosswalks.old coordinates.old) }
+    requires { (W.Relayable join plan next reach gone.now i j (lines_tables lines.old)) × (length work.old ≡ 4608) }
+    ensures made { lines_tables lines.new ≡ W.relaid join plan next reach gone.now i j work.old (lines_tables lines.old) }
+    ensures same { SameLines lines.old lines.new }
 {
+    let lanes = &mut *lines.lanes;
+    let boundaries = &mut *lines.boundaries;
+    let coordinates = &mut *lines.coordinates;
     let left = plan.left;
     let right = plan.right;
     let taken = merge_rows::taken_of(plan, next, reach);
@@ -40,49 +40,24 @@ fn relay_in(
     let two = merge_rows::redrawn_of(lanes, i, Side::Right, boundaries, right, other, right_at);
     merge_rows::redraw_boundaries(boundaries, gone, one, two);
     merge_rows::redraw_followed(lanes, i, j, taken);
-    lay_out::lay_out(
-        lanes,
-        boundaries,
-        stop_lines,
-        crosswalks,
-        coordinates,
-        reach,
-        work,
-    );
+    lay_out::lay_out(lines, reach, work);
 }
 
 // The same with an array of its own.
 pub fn relay(
     join: f64,
-    lanes: &mut [u64],
+    lines: &mut lent::Lines,
     i: usize,
     j: usize,
-    boundaries: &mut [u64],
-    stop_lines: &mut [u64],
-    crosswalks: &mut [u64],
-    coordinates: &mut [f64],
     plan: Plan,
     next: u64,
     reach: usize,
     gone: &[u64],
 )
-    requires { W.Relayable join plan next reach gone.now i j (L.line_tables lanes.old boundaries.old stop_lines.old crosswalks.old coordinates.old) }
-    ensures { L.line_tables lanes.new boundaries.new stop_lines.new crosswalks.new coordinates.new ≡ W.relaid join plan next reach gone.now i j W.blank (L.line_tables lanes.old boundaries.old stop_lines.old crosswalks.old coordinates.old) }
+    requires { W.Relayable join plan next reach gone.now i j (lines_tables lines.old) }
+    ensures made { lines_tables lines.new ≡ W.relaid join plan next reach gone.now i j W.blank (lines_tables lines.old) }
+    ensures same { SameLines lines.old lines.new }
 {
     let mut work = [0.0; WORK];
-    relay_in(
-        join,
-        lanes,
-        i,
-        j,
-        boundaries,
-        stop_lines,
-        crosswalks,
-        coordinates,
-        plan,
-        next,
-        reach,
-        gone,
-        &mut work,
-    );
+    relay_in(join, lines, i, j, plan, next, reach, gone, &mut work);
 }

@@ -30,12 +30,7 @@ pub fn point_boundary(t: &mut [u64], id: u64, start: usize, size: usize)
     requires { counted 4096 5 t.old ≡ true }
     ensures { t.new ≡ on_rows 5 (D.pointed_row id start size) t.old }
 {
-    let n = t[0] as usize;
-    for i in 0..n {
-        let at = 1 + i * BOUNDARY;
-        let end = at + BOUNDARY;
-        point_row(&mut t[at..end], id, start, size);
-    }
+    row_walk::each_row(t, BOUNDARY, |row| point_row(row, id, start, size));
 }
 
 // A new boundary behind the last row.
@@ -124,10 +119,9 @@ pub fn merge_rows(t: &mut [u64], first: u64, second: u64, taken: Taken, successo
     requires { (D.LanesLinked t.old) × (length successors.now ≤ 16) }
     ensures { t.new ≡ on_rows 52 (D.row_merged first second taken successors.now) t.old }
 {
-    let n = t[0] as usize;
-    for i in 0..n {
-        let at = 1 + i * LANE;
-        let end = at + LANE;
-        merge_row(&mut t[at..end], first, second, taken, successors);
-    }
+    row_walk::each_row(
+        t,
+        LANE,
+        |row| merge_row(row, first, second, taken, successors),
+    );
 }

@@ -11,7 +11,13 @@ use lists::both;
 use report::{Counts, ENTITY, Notice, WARNING};
 
 // Whether the lists have places for so many lanes and for two notices.
-pub fn fits(ids: usize, first: Notice, second: Notice, modified: &[u64], warnings: &[u64]) -> bool
+pub fn fits(
+    ids: usize,
+    first: Option<Notice>,
+    second: Option<Notice>,
+    modified: &[u64],
+    warnings: &[u64],
+) -> bool
     ensures { result ≡ R.report_fits ids (length (R.issues first ++ R.issues second)) modified.now warnings.now }
 {
     let ws = report::notice_count(first) + report::notice_count(second);
@@ -24,8 +30,8 @@ pub fn fits(ids: usize, first: Notice, second: Notice, modified: &[u64], warning
 // The lanes and the notices in the lists, and how many there are.
 pub fn report(
     ids: &[u64],
-    first: Notice,
-    second: Notice,
+    first: Option<Notice>,
+    second: Option<Notice>,
     modified: &mut [u64],
     warnings: &mut [u64],
 ) -> Counts

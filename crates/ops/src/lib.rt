@@ -9,7 +9,8 @@ use entities::{Command, Counter, Refusal, Tolerance};
 use lent::{Lists, Map};
 use report::Answer;
 
-// Map::apply: makes a command on the map that is lent, or refuses it. Every list of contents, whatever its length, has its answer.
+// Map::apply: makes a command on the map that is lent, or refuses it. Every list of contents, whatever its length, has its answer. The slices are lent one
+// by one, as hosts lend them (README), and become a `Map` and `Lists` here.
 pub fn apply(
     counter: Counter,
     tolerance: Tolerance,

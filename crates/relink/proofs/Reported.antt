@@ -1,4 +1,5 @@
 -- What an edit of links and neighbours leaves, from what its parts leave. Assumes nothing.
+use Rattle.std.specs.Prelude.{Option, None, Some}
 use Rattle.std.specs.Prelude.{Err}
 use mathlib.Core.Path.{◌≡◌, refl, sym, ap, ◌∙◌}
 use Prim.Native.Nat.{ℕ, ◌+◌, ◌*◌, ◌≤◌, ◌<◌}
@@ -24,11 +25,11 @@ use Rattle.relink.specs.Parts.{links_written, writing_links, pair_of, link_room,
 
 -- ---- notices
 
-pub no-op-issues : (on : Bool) (l : ℕ) → issues (cond on (N.NoOp l) N.Nothing) ≡ E.when on (E.no_op l)
+pub no-op-issues : (on : Bool) (l : ℕ) → issues (cond on (Some (N.NoOp l)) None) ≡ E.when on (E.no_op l)
 no-op-issues true l = refl
 no-op-issues false l = refl
 
-pub pair-issues : (on : Bool) (c : IssueCode) (l o : ℕ) → issues (cond on (N.Pair c l o) N.Nothing) ≡ E.when on (E.warning c (lane_entity l) (lane_entity o ∷ []))
+pub pair-issues : (on : Bool) (c : IssueCode) (l o : ℕ) → issues (cond on (Some (N.Pair c l o)) None) ≡ E.when on (E.warning c (lane_entity l) (lane_entity o ∷ []))
 pair-issues true c l o = refl
 pair-issues false c l o = refl
 
@@ -76,8 +77,8 @@ module _ (room : Bool) (after ids lanes modified warnings : List ℕ) (is : List
 
 -- ---- link and unlink, with the ids and notices as they are found
 
-module _ (t : List ℕ) (i j : ℕ) (linked gap : Bool) (md ws : List ℕ) (first second : Notice) (n : ℕ) (arr : List ℕ)
-    (e1 : first ≡ cond gap (N.Pair GeometricGap (get_or t (1 + i * 52) 0) (get_or t (1 + j * 52) 0)) N.Nothing) (e2 : second ≡ cond linked (N.NoOp (get_or t (1 + i * 52) 0)) N.Nothing)
+module _ (t : List ℕ) (i j : ℕ) (linked gap : Bool) (md ws : List ℕ) (first second : Option Notice) (n : ℕ) (arr : List ℕ)
+    (e1 : first ≡ cond gap (Some (N.Pair GeometricGap (get_or t (1 + i * 52) 0) (get_or t (1 + j * 52) 0))) None) (e2 : second ≡ cond linked (Some (N.NoOp (get_or t (1 + i * 52) 0))) None)
     (p : (take n arr ≡ cond linked [] (pair_of (get_or t (1 + i * 52) 0) (get_or t (1 + j * 52) 0))) × (n ≡ length (cond linked [] (pair_of (get_or t (1 + i * 52) 0) (get_or t (1 + j * 52) 0)))))
     (room fit r : Bool) (er : room ≡ (linked || link_room t i j)) (ef : fit ≡ report_fits n (length (issues first ++ issues second)) md ws) (eb : r ≡ (room && fit)) where
   abbrev a : ℕ
@@ -93,7 +94,7 @@ module _ (t : List ℕ) (i j : ℕ) (linked gap : Bool) (md ws : List ℕ) (firs
   is = E.when gap (E.warning GeometricGap (lane_entity a) (lane_entity b ∷ [])) ++ E.when linked (E.no_op a)
 
   told : issues first ++ issues second ≡ is
-  told = ap (λ z. issues z ++ issues second) e1 ∙ (ap (λ z. issues (cond gap (N.Pair GeometricGap (get_or t (1 + i * 52) 0) (get_or t (1 + j * 52) 0)) N.Nothing) ++ issues z) e2 ∙ rw (pair-issues gap GeometricGap (get_or t (1 + i * 52) 0) (get_or t (1 + j * 52) 0), no-op-issues linked (get_or t (1 + i * 52) 0), id-at t i, id-at t j))
+  told = ap (λ z. issues z ++ issues second) e1 ∙ (ap (λ z. issues (cond gap (Some (N.Pair GeometricGap (get_or t (1 + i * 52) 0) (get_or t (1 + j * 52) 0))) None) ++ issues z) e2 ∙ rw (pair-issues gap GeometricGap (get_or t (1 + i * 52) 0) (get_or t (1 + j * 52) 0), no-op-issues linked (get_or t (1 + i * 52) 0), id-at t i, id-at t j))
 
   named-ids : take n arr ≡ ids
   named-ids = p.0 ∙ rw (id-at t i, id-at t j)
@@ -127,10 +128,10 @@ module _ (t : List ℕ) (i j : ℕ) (linked gap : Bool) (md ws : List ℕ) (firs
   pub link-full : r ≡ false → links_written t md ws (Err NoRoom) ≡ linking t i j linked gap md ws
   link-full q = full (linked || link_room t i j) (lanes_changed (E.link_in a b) t) ids t md ws is r test q
 
-module _ (t : List ℕ) (i j : ℕ) (linked : Bool) (md ws : List ℕ) (note : Notice) (n : ℕ) (arr : List ℕ)
-    (e1 : note ≡ cond (not linked) (N.NoOp (get_or t (1 + i * 52) 0)) N.Nothing)
+module _ (t : List ℕ) (i j : ℕ) (linked : Bool) (md ws : List ℕ) (note : Option Notice) (n : ℕ) (arr : List ℕ)
+    (e1 : note ≡ cond (not linked) (Some (N.NoOp (get_or t (1 + i * 52) 0))) None)
     (p : (take n arr ≡ cond (not linked) [] (pair_of (get_or t (1 + i * 52) 0) (get_or t (1 + j * 52) 0))) × (n ≡ length (cond (not linked) [] (pair_of (get_or t (1 + i * 52) 0) (get_or t (1 + j * 52) 0)))))
-    (r : Bool) (ef : r ≡ report_fits n (length (issues note ++ issues N.Nothing)) md ws) where
+    (r : Bool) (ef : r ≡ report_fits n (length (issues note ++ issues None)) md ws) where
   abbrev from : ℕ
   from = id_at t i
 
@@ -140,7 +141,7 @@ module _ (t : List ℕ) (i j : ℕ) (linked : Bool) (md ws : List ℕ) (note : N
   abbrev left_out : List ℕ
   left_out = cond linked (pair_of from to) []
 
-  noted : issues note ++ issues N.Nothing ≡ E.when (not linked) (E.no_op from)
+  noted : issues note ++ issues None ≡ E.when (not linked) (E.no_op from)
   noted = ap (λ z. issues z ++ []) e1 ∙ (ap (λ z. z ++ []) (no-op-issues (not linked) (get_or t (1 + i * 52) 0)) ∙ (append-nil (E.when (not linked) (E.no_op (get_or t (1 + i * 52) 0))) ∙ rw (id-at t i)))
 
   out-ids : take n arr ≡ left_out
@@ -159,12 +160,12 @@ module _ (t : List ℕ) (i j : ℕ) (linked : Bool) (md ws : List ℕ) (note : N
   pub unlink_counted : n ≡ length (take n arr)
   unlink_counted = sym out-count
 
-  pub unlink_fits : r ≡ true → report_fits (length (take n arr)) (length (issues note ++ issues N.Nothing)) md ws ≡ true
+  pub unlink_fits : r ≡ true → report_fits (length (take n arr)) (length (issues note ++ issues None)) md ws ≡ true
   unlink_fits q = rw out-count (sym ef ∙ q)
 
   pub unlink_done : r ≡ true → (t' md' ws' : List ℕ) (c : Counts) → t' ≡ lanes_changed (E.link_out from to) t
-      → (c ≡ record { created = 0; modified = length (take n arr); deleted = 0; warnings = length (issues note ++ issues N.Nothing) })
-      × ((md' ≡ listed md (E.refs LaneKind (take n arr))) × (ws' ≡ warned ws (issues note ++ issues N.Nothing)))
+      → (c ≡ record { created = 0; modified = length (take n arr); deleted = 0; warnings = length (issues note ++ issues None) })
+      × ((md' ≡ listed md (E.refs LaneKind (take n arr))) × (ws' ≡ warned ws (issues note ++ issues None)))
       → links_written t' md' ws' (changed c) ≡ unlinking t i j linked md ws
   unlink_done q t' md' ws' c f g =
       done true (lanes_changed (E.link_out from to) t) left_out t md ws (E.when (not linked) (E.no_op from)) r out-test q t' md' ws' c f

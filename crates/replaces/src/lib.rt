@@ -42,10 +42,5 @@ pub fn replace(rules: &mut [u64], to: u64, from: u64)
     requires { N.table_formed Rules rules.old ≡ true }
     ensures { rules.new ≡ on_rows 330 (N.rule_replaces to from) rules.old }
 {
-    let n = rules[0] as usize;
-    for i in 0..n {
-        let at = 1 + i * RULE;
-        let end = at + RULE;
-        replace_rule(&mut rules[at..end], to, from);
-    }
+    row_walk::each_row(rules, RULE, |row| replace_rule(row, to, from));
 }

@@ -6,6 +6,7 @@ ghost use Rattle.std.specs.Prelude.{◌≤◌};
 
 use entities::{Counter, Tolerance};
 use job_words::ToldJob;
+use lent::{Lists, Map, MapView};
 use report::{ENTITY, WARNING};
 use std::fs::File;
 use std::rt::Files;
@@ -26,7 +27,7 @@ struct Behind {
 }
 
 // What is lent for list k, of the `most` words that its array has: the call's row has the entries behind its command, each of so many words.
-fn lent(row: &[u64], k: usize, words: usize, most: usize) -> usize
+fn words_lent(row: &[u64], k: usize, words: usize, most: usize) -> usize
     requires { (k ≤ 4) × ((words ≤ 16) × (most ≤ 1024)) }
     ensures { result ≤ most }
 {
@@ -37,59 +38,57 @@ fn lent(row: &[u64], k: usize, words: usize, most: usize) -> usize
     if 64 < entries {
         return most;
     }
-    stream::least(entries as usize * words, most)
+    (entries as usize * words).min(most)
 }
 
 // The words lent for the four lists.
 #[derive(Clone, Copy)]
-struct Lists {
+struct Sizes {
     created: usize,
     modified: usize,
     deleted: usize,
     warnings: usize,
 }
 
-fn room(row: &[u64; 9]) -> Lists
+fn room(row: &[u64; 9]) -> Sizes
     ensures { (result.created ≤ 64) × ((result.modified ≤ 64) × ((result.deleted ≤ 64) × (result.warnings ≤ 160))) }
 {
-    Lists {
-        created: lent(row, 0, ENTITY, 64),
-        modified: lent(row, 1, ENTITY, 64),
-        deleted: lent(row, 2, ENTITY, 64),
-        warnings: lent(row, 3, WARNING, 160),
+    Sizes {
+        created: words_lent(row, 0, ENTITY, 64),
+        modified: words_lent(row, 1, ENTITY, 64),
+        deleted: words_lent(row, 2, ENTITY, 64),
+        warnings: words_lent(row, 3, WARNING, 160),
     }
+}
+
+// The slices of a map, into a digest.
+fn digest_map(start: u64, map: MapView) -> u64 {
+    digest::tables(
+        start,
+        map.lanes,
+        map.boundaries,
+        map.roads,
+        map.junctions,
+        map.rules,
+        map.stop_lines,
+        map.crosswalks,
+        map.coordinates,
+    )
 }
 
 // All that is lent, and the rest of the lists' arrays, in one word.
 fn digest_of(
-    lanes: &[u64],
-    boundaries: &[u64],
-    roads: &[u64],
-    junctions: &[u64],
-    rules: &[u64],
-    stop_lines: &[u64],
-    crosswalks: &[u64],
-    coordinates: &[f64],
+    map: MapView,
     created: &[u64; 64],
     modified: &[u64; 64],
     deleted: &[u64; 64],
     warnings: &[u64; 160],
 ) -> u64 {
-    let map = digest::tables(
-        digest::START,
-        lanes,
-        boundaries,
-        roads,
-        junctions,
-        rules,
-        stop_lines,
-        crosswalks,
-        coordinates,
-    );
-    let a = digest::items(map, created);
-    let b = digest::items(a, modified);
-    let c = digest::items(b, deleted);
-    digest::items(c, warnings)
+    let a = digest_map(digest::START, map);
+    let b = digest::items(a, created);
+    let c = digest::items(b, modified);
+    let d = digest::items(c, deleted);
+    digest::items(d, warnings)
 }
 
 // The answer's numbers and the digest, as a line.
@@ -104,21 +103,30 @@ fn print(rt: &impl Print, t: Told, digest: u64) -> io::Result<()> {
     rt.write_all(b"\n")
 }
 
+// The call of a row. `ops::apply` is lent each slice by itself, as by a host.
+fn make_call(counter: u64, map: &mut Map, row: &[u64; 9], lists: &mut Lists) -> Told {
+    let answer = ops::apply(
+        Counter { next: counter },
+        Tolerance::preset(),
+        map.lanes,
+        map.boundaries,
+        map.roads,
+        map.junctions,
+        map.rules,
+        map.stop_lines,
+        map.crosswalks,
+        map.coordinates,
+        words::command_of(row),
+        lists.created,
+        lists.modified,
+        lists.deleted,
+        lists.warnings,
+    );
+    words::tell(counter, answer)
+}
+
 // Makes the call at a place of the stream, with the room for its lists that the stream gives, and writes its line.
-fn make(
-    rt: &impl Print,
-    s: &[u8],
-    at: usize,
-    counter: u64,
-    lanes: &mut [u64],
-    boundaries: &mut [u64],
-    roads: &mut [u64],
-    junctions: &mut [u64],
-    rules: &mut [u64],
-    stop_lines: &mut [u64],
-    crosswalks: &mut [u64],
-    coordinates: &mut [f64],
-) -> io::Result<Behind> {
+fn make(rt: &impl Print, s: &[u8], at: usize, counter: u64, map: &mut Map) -> io::Result<Behind> {
     let mut row = [0; 9];
     let mut created = [PATTERN; 64];
     let mut modified = [PATTERN; 64];
@@ -126,43 +134,14 @@ fn make(
     let mut warnings = [PATTERN; 160];
     let next = stream::fill(s, at, &mut row);
     let r = room(&row);
-    let a = r.created;
-    let b = r.modified;
-    let c = r.deleted;
-    let d = r.warnings;
-    let command = words::command_of(&row);
-    let answer = ops::apply(
-        Counter { next: counter },
-        Tolerance::preset(),
-        lanes,
-        boundaries,
-        roads,
-        junctions,
-        rules,
-        stop_lines,
-        crosswalks,
-        coordinates,
-        command,
-        &mut created[..a],
-        &mut modified[..b],
-        &mut deleted[..c],
-        &mut warnings[..d],
-    );
-    let digest = digest_of(
-        lanes,
-        boundaries,
-        roads,
-        junctions,
-        rules,
-        stop_lines,
-        crosswalks,
-        coordinates,
-        &created,
-        &modified,
-        &deleted,
-        &warnings,
-    );
-    let told = words::tell(counter, answer);
+    let mut lists = Lists {
+        created: &mut created[..r.created],
+        modified: &mut modified[..r.modified],
+        deleted: &mut deleted[..r.deleted],
+        warnings: &mut warnings[..r.warnings],
+    };
+    let told = make_call(counter, map, &row, &mut lists);
+    let digest = digest_of(map.view(), &created, &modified, &deleted, &warnings);
     print(rt, told, digest)?;
     Ok(Behind {
         counter: told.counter,
@@ -191,146 +170,102 @@ fn print_job(rt: &impl Print, t: ToldJob, digest: u64) -> io::Result<()> {
     rt.write_all(b"\n")
 }
 
+// The job of some rows. `job::apply` is lent each slice by itself, as by a host.
+fn apply_rows(
+    counter: u64,
+    map: &mut Map,
+    rows: &[u64],
+    area: &mut Map,
+    lists: &mut Lists,
+) -> ToldJob {
+    let end = job::apply(
+        counter,
+        Tolerance::preset(),
+        map.lanes,
+        map.boundaries,
+        map.roads,
+        map.junctions,
+        map.rules,
+        map.stop_lines,
+        map.crosswalks,
+        map.coordinates,
+        job_words::job_of(rows),
+        area.lanes,
+        area.boundaries,
+        area.roads,
+        area.junctions,
+        area.rules,
+        area.stop_lines,
+        area.crosswalks,
+        area.coordinates,
+        lists.created,
+        lists.modified,
+        lists.deleted,
+        lists.warnings,
+    );
+    let answer = end.answer;
+    job_words::tell(end.counter, answer)
+}
+
 // The job with lists of the sizes that the stream gives, the last four of twelve; what it leaves of the counter. Digested is what is lent.
 fn job_with_lists(
     rt: &impl Print,
     counter: u64,
-    lanes: &mut [u64],
-    boundaries: &mut [u64],
-    roads: &mut [u64],
-    junctions: &mut [u64],
-    rules: &mut [u64],
-    stop_lines: &mut [u64],
-    crosswalks: &mut [u64],
-    coordinates: &mut [f64],
+    map: &mut Map,
     rows: &[u64],
-    old_lanes: &mut [u64],
-    old_boundaries: &mut [u64],
-    old_roads: &mut [u64],
-    old_junctions: &mut [u64],
-    old_rules: &mut [u64],
-    old_stop_lines: &mut [u64],
-    old_crosswalks: &mut [u64],
-    old_coordinates: &mut [f64],
+    area: &mut Map,
     sizes: &[u64; 12],
 ) -> io::Result<u64> {
     let mut created = [PATTERN; 256];
     let mut modified = [PATTERN; 256];
     let mut deleted = [PATTERN; 256];
     let mut warnings = [PATTERN; 640];
-    let a = stream::least(sizes[8] as usize, 256);
-    let b = stream::least(sizes[9] as usize, 256);
-    let c = stream::least(sizes[10] as usize, 256);
-    let d = stream::least(sizes[11] as usize, 640);
-    let end = job::apply(
-        counter,
-        Tolerance::preset(),
-        lanes,
-        boundaries,
-        roads,
-        junctions,
-        rules,
-        stop_lines,
-        crosswalks,
-        coordinates,
-        job_words::job_of(rows),
-        old_lanes,
-        old_boundaries,
-        old_roads,
-        old_junctions,
-        old_rules,
-        old_stop_lines,
-        old_crosswalks,
-        old_coordinates,
-        &mut created[..a],
-        &mut modified[..b],
-        &mut deleted[..c],
-        &mut warnings[..d],
-    );
-    let map = digest::tables(
-        digest::START,
-        lanes,
-        boundaries,
-        roads,
-        junctions,
-        rules,
-        stop_lines,
-        crosswalks,
-        coordinates,
-    );
-    let area = digest::tables(
-        map,
-        old_lanes,
-        old_boundaries,
-        old_roads,
-        old_junctions,
-        old_rules,
-        old_stop_lines,
-        old_crosswalks,
-        old_coordinates,
-    );
-    let e = digest::items(area, &created[..a]);
+    let a = (sizes[8] as usize).min(256);
+    let b = (sizes[9] as usize).min(256);
+    let c = (sizes[10] as usize).min(256);
+    let d = (sizes[11] as usize).min(640);
+    let mut lists = Lists {
+        created: &mut created[..a],
+        modified: &mut modified[..b],
+        deleted: &mut deleted[..c],
+        warnings: &mut warnings[..d],
+    };
+    let told = apply_rows(counter, map, rows, area, &mut lists);
+    let tables = digest_map(digest_map(digest::START, map.view()), area.view());
+    let e = digest::items(tables, &created[..a]);
     let f = digest::items(e, &modified[..b]);
     let g = digest::items(f, &deleted[..c]);
-    let answer = end.answer;
-    let told = job_words::tell(end.counter, answer);
     print_job(rt, told, digest::items(g, &warnings[..d]))?;
-    Ok(end.counter)
+    Ok(told.counter)
 }
 
 // The job with an area of the sizes that the stream gives.
 fn job_with_area(
     rt: &impl Print,
     counter: u64,
-    lanes: &mut [u64],
-    boundaries: &mut [u64],
-    roads: &mut [u64],
-    junctions: &mut [u64],
-    rules: &mut [u64],
-    stop_lines: &mut [u64],
-    crosswalks: &mut [u64],
-    coordinates: &mut [f64],
+    map: &mut Map,
     rows: &[u64],
     sizes: &[u64; 12],
 ) -> io::Result<u64> {
-    let mut old_lanes = [PATTERN; 1312];
-    let mut old_boundaries = [PATTERN; 416];
-    let mut old_roads = [PATTERN; 352];
-    let mut old_junctions = [PATTERN; 288];
-    let mut old_rules = [PATTERN; 1696];
-    let mut old_stop_lines = [PATTERN; 64];
-    let mut old_crosswalks = [PATTERN; 64];
-    let mut old_coordinates = [BLANK; 4128];
-    let a = stream::least(sizes[0] as usize, 1312);
-    let b = stream::least(sizes[1] as usize, 416);
-    let c = stream::least(sizes[2] as usize, 352);
-    let d = stream::least(sizes[3] as usize, 288);
-    let e = stream::least(sizes[4] as usize, 1696);
-    let f = stream::least(sizes[5] as usize, 64);
-    let g = stream::least(sizes[6] as usize, 64);
-    let h = stream::least(sizes[7] as usize, 4128);
-    job_with_lists(
-        rt,
-        counter,
-        lanes,
-        boundaries,
-        roads,
-        junctions,
-        rules,
-        stop_lines,
-        crosswalks,
-        coordinates,
-        rows,
-        &mut old_lanes[..a],
-        &mut old_boundaries[..b],
-        &mut old_roads[..c],
-        &mut old_junctions[..d],
-        &mut old_rules[..e],
-        &mut old_stop_lines[..f],
-        &mut old_crosswalks[..g],
-        &mut old_coordinates[..h],
-        sizes,
-    )
+    let mut lanes = [PATTERN; 1312];
+    let mut boundaries = [PATTERN; 416];
+    let mut roads = [PATTERN; 352];
+    let mut junctions = [PATTERN; 288];
+    let mut rules = [PATTERN; 1696];
+    let mut stop_lines = [PATTERN; 64];
+    let mut crosswalks = [PATTERN; 64];
+    let mut coordinates = [BLANK; 4128];
+    let mut area = Map {
+        lanes: &mut lanes[..(sizes[0] as usize).min(1312)],
+        boundaries: &mut boundaries[..(sizes[1] as usize).min(416)],
+        roads: &mut roads[..(sizes[2] as usize).min(352)],
+        junctions: &mut junctions[..(sizes[3] as usize).min(288)],
+        rules: &mut rules[..(sizes[4] as usize).min(1696)],
+        stop_lines: &mut stop_lines[..(sizes[5] as usize).min(64)],
+        crosswalks: &mut crosswalks[..(sizes[6] as usize).min(64)],
+        coordinates: &mut coordinates[..(sizes[7] as usize).min(4128)],
+    };
+    job_with_lists(rt, counter, map, rows, &mut area, sizes)
 }
 
 // Makes the job at a place of the stream.
@@ -339,33 +274,13 @@ fn make_job(
     s: &[u8],
     at: usize,
     counter: u64,
-    lanes: &mut [u64],
-    boundaries: &mut [u64],
-    roads: &mut [u64],
-    junctions: &mut [u64],
-    rules: &mut [u64],
-    stop_lines: &mut [u64],
-    crosswalks: &mut [u64],
-    coordinates: &mut [f64],
+    map: &mut Map,
 ) -> io::Result<Behind> {
     let mut rows = [0; JOB_ROWS];
     let mut sizes = [0; 12];
     let job = stream::read_table(s, at, &mut rows);
     let next = stream::fill(s, job.next, &mut sizes);
-    let left = job_with_area(
-        rt,
-        counter,
-        lanes,
-        boundaries,
-        roads,
-        junctions,
-        rules,
-        stop_lines,
-        crosswalks,
-        coordinates,
-        &rows[..job.size],
-        &sizes,
-    )?;
+    let left = job_with_area(rt, counter, map, &rows[..job.size], &sizes)?;
     Ok(Behind {
         counter: left,
         next,
@@ -386,45 +301,12 @@ fn make_one(
     s: &[u8],
     at: usize,
     counter: u64,
-    lanes: &mut [u64],
-    boundaries: &mut [u64],
-    roads: &mut [u64],
-    junctions: &mut [u64],
-    rules: &mut [u64],
-    stop_lines: &mut [u64],
-    crosswalks: &mut [u64],
-    coordinates: &mut [f64],
+    map: &mut Map,
 ) -> io::Result<Behind> {
     if form == JOBS {
-        return make_job(
-            rt,
-            s,
-            at,
-            counter,
-            lanes,
-            boundaries,
-            roads,
-            junctions,
-            rules,
-            stop_lines,
-            crosswalks,
-            coordinates,
-        );
+        return make_job(rt, s, at, counter, map);
     }
-    make(
-        rt,
-        s,
-        at,
-        counter,
-        lanes,
-        boundaries,
-        roads,
-        junctions,
-        rules,
-        stop_lines,
-        crosswalks,
-        coordinates,
-    )
+    make(rt, s, at, counter, map)
 }
 
 // The calls or jobs of a map, each on what the last one left; the place behind them.
@@ -435,91 +317,20 @@ fn each_call(
     from: usize,
     calls: u64,
     first: u64,
-    lanes: &mut [u64],
-    boundaries: &mut [u64],
-    roads: &mut [u64],
-    junctions: &mut [u64],
-    rules: &mut [u64],
-    stop_lines: &mut [u64],
-    crosswalks: &mut [u64],
-    coordinates: &mut [f64],
+    map: &mut Map,
 ) -> io::Result<usize> {
     let mut at = from;
     let mut counter = first;
     for i in 0..calls {
-        let made = make_one(
-            rt,
-            form,
-            s,
-            at,
-            counter,
-            lanes,
-            boundaries,
-            roads,
-            junctions,
-            rules,
-            stop_lines,
-            crosswalks,
-            coordinates,
-        )?;
+        let made = make_one(rt, form, s, at, counter, map)?;
         at = made.next;
         counter = made.counter;
     }
     Ok(at)
 }
 
-// A map, read into the fronts of the arrays, and its calls; the place behind them.
-fn replay_map(
-    rt: &impl Print,
-    form: u64,
-    s: &[u8],
-    lanes: &mut [u64],
-    boundaries: &mut [u64],
-    roads: &mut [u64],
-    junctions: &mut [u64],
-    rules: &mut [u64],
-    stop_lines: &mut [u64],
-    crosswalks: &mut [u64],
-    coordinates: &mut [f64],
-) -> io::Result<usize> {
-    let a = stream::read_table(s, 0, lanes);
-    let b = stream::read_table(s, a.next, boundaries);
-    let c = stream::read_table(s, b.next, roads);
-    let d = stream::read_table(s, c.next, junctions);
-    let e = stream::read_table(s, d.next, rules);
-    let f = stream::read_table(s, e.next, stop_lines);
-    let g = stream::read_table(s, f.next, crosswalks);
-    let h = stream::read_table(s, g.next, coordinates);
-    let counter = stream::number(s, h.next);
-    let calls = stream::number(s, counter.next);
-    let lanes_lent = a.size;
-    let boundaries_lent = b.size;
-    let roads_lent = c.size;
-    let junctions_lent = d.size;
-    let rules_lent = e.size;
-    let stop_lines_lent = f.size;
-    let crosswalks_lent = g.size;
-    let coordinates_lent = h.size;
-    each_call(
-        rt,
-        form,
-        s,
-        calls.next,
-        calls.value,
-        counter.value,
-        &mut lanes[..lanes_lent],
-        &mut boundaries[..boundaries_lent],
-        &mut roads[..roads_lent],
-        &mut junctions[..junctions_lent],
-        &mut rules[..rules_lent],
-        &mut stop_lines[..stop_lines_lent],
-        &mut crosswalks[..crosswalks_lent],
-        &mut coordinates[..coordinates_lent],
-    )
-}
-
-// The arrays of a map.
-fn with_tables(rt: &impl Print, form: u64, s: &[u8]) -> io::Result<usize> {
+// A map, read into the fronts of its arrays, and its calls; the place behind them.
+fn replay_map(rt: &impl Print, form: u64, s: &[u8]) -> io::Result<usize> {
     let mut lanes = [0; 1280];
     let mut boundaries = [0; 384];
     let mut roads = [0; 320];
@@ -528,18 +339,34 @@ fn with_tables(rt: &impl Print, form: u64, s: &[u8]) -> io::Result<usize> {
     let mut stop_lines = [0; 32];
     let mut crosswalks = [0; 32];
     let mut coordinates = [0.0; 4096];
-    replay_map(
+    let a = stream::read_table(s, 0, &mut lanes);
+    let b = stream::read_table(s, a.next, &mut boundaries);
+    let c = stream::read_table(s, b.next, &mut roads);
+    let d = stream::read_table(s, c.next, &mut junctions);
+    let e = stream::read_table(s, d.next, &mut rules);
+    let f = stream::read_table(s, e.next, &mut stop_lines);
+    let g = stream::read_table(s, f.next, &mut crosswalks);
+    let h = stream::read_table(s, g.next, &mut coordinates);
+    let counter = stream::number(s, h.next);
+    let calls = stream::number(s, counter.next);
+    let mut map = Map {
+        lanes: &mut lanes[..a.size],
+        boundaries: &mut boundaries[..b.size],
+        roads: &mut roads[..c.size],
+        junctions: &mut junctions[..d.size],
+        rules: &mut rules[..e.size],
+        stop_lines: &mut stop_lines[..f.size],
+        crosswalks: &mut crosswalks[..g.size],
+        coordinates: &mut coordinates[..h.size],
+    };
+    each_call(
         rt,
         form,
         s,
-        &mut lanes,
-        &mut boundaries,
-        &mut roads,
-        &mut junctions,
-        &mut rules,
-        &mut stop_lines,
-        &mut crosswalks,
-        &mut coordinates,
+        calls.next,
+        calls.value,
+        counter.value,
+        &mut map,
     )
 }
 
@@ -555,7 +382,7 @@ fn each_map(
     let mut at = from;
     for i in 0..maps {
         let n = file::window(file, at, bytes);
-        at = file::behind(at, with_tables(rt, form, &bytes[..n])?);
+        at = file::behind(at, replay_map(rt, form, &bytes[..n])?);
     }
     Ok(())
 }

@@ -1,4 +1,5 @@
 -- Warnings in rows of ten words. Assumes nothing.
+use Rattle.std.specs.Prelude.{Option, None, Some}
 use mathlib.Core.Path.{◌≡◌, refl, sym, ap, ◌∙◌}
 use mathlib.Core.Bool.{Bool, true, ◌&&◌}
 use mathlib.Core.List.{List, [], ◌∷◌, ◌++◌, append_assoc}
@@ -21,9 +22,9 @@ use Rattle.rules.specs.Names.{EntityKind, LaneKind, BoundaryKind, Severity, Warn
 use Rattle.rules.specs.Edit.{warning}
 use Rattle.store.specs.Store.{flag, writes}
 use Rattle.report.specs.declared.Notice.{Notice}
-use Rattle.report.specs.declared.Notice.TheVariants.{Nothing, NoOp as NoOpNotice, Pair, Unshared, Pieces}
+use Rattle.report.specs.declared.Notice.TheVariants.{NoOp as NoOpNotice, Pair, Unshared, Pieces}
 use Rattle.report.proofs.Laws.{length-entities}
-use Rattle.report.specs.Report.{entity_words, issue_onto, warned, warned_at, single, issues, report_fits}
+use Rattle.report.specs.Report.{entity_words, issue_onto, warned, warned_at, single, issue_of, issues, report_fits}
 
 -- ---- a row's words
 
@@ -92,7 +93,7 @@ abbrev pieces_stores : ℕ → ℕ → ℕ → ℕ → ℕ → ℕ → List (ℕ
 pieces_stores s c k b x y = (0, s) ∷ (1, c) ∷ (2, k) ∷ (3, b) ∷ (4, 2) ∷ (5, k) ∷ (6, x) ∷ (7, k) ∷ (8, y) ∷ (9, 0) ∷ []
 
 pub pieces-put : (w : List ℕ) (at b x y s c k : ℕ) → at * 10 + 10 ≤ length w → s ≡ severity_number Warning → c ≡ code_number BoundaryUnshared → k ≡ kind_number BoundaryKind
-    → stores w (at * 10) (pieces_stores s c k b x y) ≡ warned_at at w (issues (Pieces b x y))
+    → stores w (at * 10) (pieces_stores s c k b x y) ≡ warned_at at w (issue_of (Pieces b x y) ∷ [])
 unfolding warned writes issue_onto over each
 pieces-put w at b x y s c k h p q u =
     let i = warning BoundaryUnshared (boundary_entity b) (boundary_entity x ∷ boundary_entity y ∷ []) in
@@ -104,18 +105,12 @@ unfolding warned_at warned writes
 none-put at w = sym (take-append-drop (at * 10) w)
 
 -- the same notice, matched
-pub notice_room : (n m : Notice) (at l : ℕ) → n ≡ m → (at + length (issues n)) * 10 ≤ l → (at + length (issues m)) * 10 ≤ l
-notice_room n m at l e h = rw (← e) h
-
-pub notice_put : (n m : Notice) (at : ℕ) (w v : List ℕ) → n ≡ m → v ≡ warned_at at w (issues m) → v ≡ warned_at at w (issues n)
+pub notice_put : (n m : Notice) (at : ℕ) (w v : List ℕ) → n ≡ m → v ≡ warned_at at w (issue_of m ∷ []) → v ≡ warned_at at w (issue_of n ∷ [])
 notice_put n m at w v e p = rw e p
 
-pub few : (n : Notice) → length (issues n) ≤ 1
-few Nothing = omega arith
-few (NoOpNotice l) = omega arith
-few (Pair code l other) = omega arith
-few (Unshared b) = omega arith
-few (Pieces b x y) = omega arith
+pub few : (n : Option Notice) → length (issues n) ≤ 1
+few None = omega arith
+few (Some n) = omega arith
 
 -- ---- warnings one behind the other
 
@@ -123,13 +118,13 @@ few (Pieces b x y) = omega arith
 abbrev pub short : Issue → Bool
 short i = leb (length i.related) 2
 
-pub issues-short : (n : Notice) → all short (issues n) ≡ true
+pub issues-short : (n : Option Notice) → all short (issues n) ≡ true
 unfolding all
-issues-short Nothing = refl
-issues-short (NoOpNotice l) = refl
-issues-short (Pair code l other) = refl
-issues-short (Unshared b) = refl
-issues-short (Pieces b x y) = refl
+issues-short None = refl
+issues-short (Some (NoOpNotice l)) = refl
+issues-short (Some (Pair code l other)) = refl
+issues-short (Some (Unshared b)) = refl
+issues-short (Some (Pieces b x y)) = refl
 
 -- it fills its row
 ten_words : (w : List ℕ) (i : Issue) → short i ≡ true → 10 ≤ length w → length (issue_onto (take 10 w) i) ≡ 10
@@ -204,7 +199,7 @@ module _ (at : ℕ) (w : List ℕ) (is : List Issue) (a : all short is ≡ true)
 -- ---- two notices
 
 -- one behind the other from row 0 on
-pub notices_put : (w v u : List ℕ) (n : ℕ) (f s : Notice) → length (issues f) * 10 ≤ length w → n ≡ 0 + length (issues f)
+pub notices_put : (w v u : List ℕ) (n : ℕ) (f s : Option Notice) → length (issues f) * 10 ≤ length w → n ≡ 0 + length (issues f)
     → v ≡ warned_at 0 w (issues f) → u ≡ warned_at n v (issues s) → u ≡ warned w (issues f ++ issues s)
 notices_put w v u n f s h c p q =
     q
@@ -226,10 +221,10 @@ fits-room ids ws m w t =
     (room ids (length m) 2 (and-fst a b t), room ws (length w) 10 (and-snd a b t))
 
 -- two notices within the room for both
-pub notices_room : (f s : Notice) (l : ℕ) → length (issues f ++ issues s) * 10 ≤ l → (length (issues f) + length (issues s)) * 10 ≤ l
+pub notices_room : (f s : Option Notice) (l : ℕ) → length (issues f ++ issues s) * 10 ≤ l → (length (issues f) + length (issues s)) * 10 ≤ l
 notices_room f s l h = rw (← length-append (issues f) (issues s)) h
 
 -- the test by two counts
-pub fits-counted : (ids x y : ℕ) (f s : Notice) (m w : List ℕ) (r : Bool) → x ≡ length (issues f) → y ≡ length (issues s)
+pub fits-counted : (ids x y : ℕ) (f s : Option Notice) (m w : List ℕ) (r : Bool) → x ≡ length (issues f) → y ≡ length (issues s)
     → r ≡ (leb ids (length m / 2) && leb (x + y) (length w / 10)) → r ≡ report_fits ids (length (issues f ++ issues s)) m w
 fits-counted ids x y f s m w r p q e = rw (length-append (issues f) (issues s), ← p, ← q) e

@@ -11,7 +11,7 @@ use Rattle.store.specs.Store.{flag, writes}
 use Rattle.report.specs.declared.Counts.{Counts}
 use Rattle.report.specs.declared.Change.{Change}
 use Rattle.report.specs.declared.Notice.{Notice}
-use Rattle.report.specs.declared.Notice.TheVariants.{Nothing, NoOp, Pair, Unshared, Pieces}
+use Rattle.report.specs.declared.Notice.TheVariants.{NoOp, Pair, Unshared, Pieces}
 
 -- ---- answers
 
@@ -75,13 +75,16 @@ accepting cs second = Ok (record { counts = counts cs; second = second })
 
 -- ---- the parts of a report; nothing that a host calls rests on these
 
--- the warning that a notice stands for
-abbrev pub issues : Notice → List Issue
-issues Nothing = []
-issues (NoOp l) = no_op l ∷ []
-issues (Pair code l other) = warning code (lane_entity l) (lane_entity other ∷ []) ∷ []
-issues (Unshared b) = warning BoundaryUnshared (boundary_entity b) [] ∷ []
-issues (Pieces b x y) = warning BoundaryUnshared (boundary_entity b) (boundary_entity x ∷ boundary_entity y ∷ []) ∷ []
+-- the warning that a notice stands for, and those of one that may be missing
+abbrev pub issue_of : Notice → Issue
+issue_of (NoOp l) = no_op l
+issue_of (Pair code l other) = warning code (lane_entity l) (lane_entity other ∷ [])
+issue_of (Unshared b) = warning BoundaryUnshared (boundary_entity b) []
+issue_of (Pieces b x y) = warning BoundaryUnshared (boundary_entity b) (boundary_entity x ∷ boundary_entity y ∷ [])
+
+abbrev pub issues : Option Notice → List Issue
+issues None = []
+issues (Some n) = issue_of n ∷ []
 
 -- a warning of one entity; of a rule that a removal leaves with no lane
 abbrev pub single : Severity → IssueCode → EntityKind → ℕ → Bool → Issue

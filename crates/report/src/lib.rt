@@ -1,7 +1,7 @@
 // diagnostics.rs and the change set of edit/mod.rs: what an accepted edit writes into the lists that are lent for its answer.
 #![tactic(auto)]
 
-ghost use Rattle.std.specs.Prelude.{◌≡◌, true, cond, ◌+◌, ◌*◌, ◌^◌, ◌≤◌, ◌<◌, length, take};
+ghost use Rattle.std.specs.Prelude.{◌≡◌, true, cond, ◌+◌, ◌*◌, ◌^◌, ◌≤◌, ◌<◌, length, take, Some, None};
 ghost use Rattle.lists.specs.Rows.{over};
 ghost use Rattle.lists.specs.Select.{each, place, ascending};
 ghost use Rattle.rules.specs.Edit as E;
@@ -87,6 +87,7 @@ pub fn counter_behind(counter: u64, answer: Answer) -> u64
 // ---- lanes named as modified
 
 // An id put in its place among the first n, unless it is there; how many there are then.
+// The list lies at the front of its slots, which are fixed memory: the count stands beside it.
 pub fn named(ids: &mut [u64], n: usize, id: u64) -> usize
     requires { (n < length ids.old) × (ascending (take n ids.old) ≡ true) }
     ensures { (ids.new ≡ over ids.old 0 (place id (take n ids.old))) × (result ≡ length (place id (take n ids.old))) }
@@ -130,43 +131,33 @@ pub fn list_up(kind: EntityKind, from: u64, n: usize, out: &mut [u64], at: usize
 
 // ---- warnings
 
-// A warning of one lane or of two, of one boundary, or of one and the two pieces that cut lanes have in its place; or none.
+// A warning of one lane or of two, of one boundary, or of one and the two pieces that cut lanes have in its place.
 #[derive(Clone, Copy)]
 pub enum Notice {
-    Nothing,
     NoOp(u64),
     Pair(IssueCode, u64, u64),
     Unshared(u64),
     Pieces(u64, u64, u64),
 }
 
-pub fn no_op_where(on: bool, lane: u64) -> Notice
-    ensures { result ≡ cond on (N.NoOp lane) N.Nothing }
+pub fn no_op_where(on: bool, lane: u64) -> Option<Notice>
+    ensures { result ≡ cond on (Some (N.NoOp lane)) None }
 {
-    if on {
-        return Notice::NoOp(lane);
-    }
-    Notice::Nothing
+    on.then_some(Notice::NoOp(lane))
 }
 
-pub fn pair_where(on: bool, code: IssueCode, lane: u64, other: u64) -> Notice
-    ensures { result ≡ cond on (N.Pair code lane other) N.Nothing }
+pub fn pair_where(on: bool, code: IssueCode, lane: u64, other: u64) -> Option<Notice>
+    ensures { result ≡ cond on (Some (N.Pair code lane other)) None }
 {
-    if on {
-        return Notice::Pair(code, lane, other);
-    }
-    Notice::Nothing
+    on.then_some(Notice::Pair(code, lane, other))
 }
 
 // How many rows it takes.
-pub fn notice_count(notice: Notice) -> usize
+pub fn notice_count(notice: Option<Notice>) -> usize
     ensures { result ≡ length (R.issues notice) }
 {
     match notice {
-        Notice::Nothing => 0,
-        Notice::NoOp(_) => 1,
-        Notice::Pair(_, _, _) => 1,
-        Notice::Unshared(_) => 1,
-        Notice::Pieces(_, _, _) => 1,
+        None => 0,
+        Some(_) => 1,
     }
 }

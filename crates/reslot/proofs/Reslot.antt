@@ -168,24 +168,24 @@ module _ (t : List ℕ) (i : ℕ) (side : Side) (new other : Option Neighbor) (i
       }
 
 -- a slot freed
-abbrev pub FreeEnds : List ℕ → ℕ → Side → List ℕ → List ℕ → Bool → Notice → ℕ → List ℕ → Bool → Type 0
-FreeEnds t i side md ws free first n arr r = Ends t md ws n (take n arr) (issues first ++ issues N.Nothing) r free (after_slot t i side None None) (P.freeing t i side md ws)
+abbrev pub FreeEnds : List ℕ → ℕ → Side → List ℕ → List ℕ → Bool → Option Notice → ℕ → List ℕ → Bool → Type 0
+FreeEnds t i side md ws free first n arr r = Ends t md ws n (take n arr) (issues first ++ issues None) r free (after_slot t i side None None) (P.freeing t i side md ws)
 
-module _ (t : List ℕ) (i : ℕ) (side : Side) (md ws : List ℕ) (old : Option Neighbor) (free : Bool) (first : Notice) (n : ℕ) (arr : List ℕ) (r : Bool) where
-  pub free-ends : old ≡ slot_held t i side → free ≡ E.same_slot old None → first ≡ cond free (N.NoOp (get_or t (1 + i * 52) 0)) N.Nothing
+module _ (t : List ℕ) (i : ℕ) (side : Side) (md ws : List ℕ) (old : Option Neighbor) (free : Bool) (first : Option Notice) (n : ℕ) (arr : List ℕ) (r : Bool) where
+  pub free-ends : old ≡ slot_held t i side → free ≡ E.same_slot old None → first ≡ cond free (Some (N.NoOp (get_or t (1 + i * 52) 0))) None
       → (take n arr ≡ cond free [] (P.slot_ids (get_or t (1 + i * 52) 0) old None None)) × (n ≡ length (cond free [] (P.slot_ids (get_or t (1 + i * 52) 0) old None None)))
-      → r ≡ report_fits n (length (issues first ++ issues N.Nothing)) md ws → FreeEnds t i side md ws free first n arr r
+      → r ≡ report_fits n (length (issues first ++ issues None)) md ws → FreeEnds t i side md ws free first n arr r
   free-ends eo es e1 p er =
       let held : old ≡ slot_held t i side = eo in
       let told = ap (λ z. issues z ++ []) e1 ∙ ap (λ z. z ++ []) (no-op-issues free (get_or t (1 + i * 52) 0)) in
-      reslot_ends t i side None None [] md ws old free (issues first ++ issues N.Nothing) n (take n arr) r held es told p er
+      reslot_ends t i side None None [] md ws old free (issues first ++ issues None) n (take n arr) r held es told p er
 
 -- a lane set beside another
-abbrev pub SetEnds : List ℕ → ℕ → Side → ℕ → NeighborDirection → List ℕ → List ℕ → Bool → Notice → Notice → ℕ → List ℕ → Bool → Type 0
+abbrev pub SetEnds : List ℕ → ℕ → Side → ℕ → NeighborDirection → List ℕ → List ℕ → Bool → Option Notice → Option Notice → ℕ → List ℕ → Bool → Type 0
 SetEnds t i side j d md ws set first second n arr r =
     Ends t md ws n (take n arr) (issues first ++ issues second) r set (after_slot t i side (Some (beside_row t j d)) (slot_held t j (reciprocal_side side d))) (P.setting t i side j d md ws)
 
-module _ (t : List ℕ) (i : ℕ) (side : Side) (j : ℕ) (d : NeighborDirection) (md ws : List ℕ) (answer : Side) (old other : Option Neighbor) (set : Bool) (first : Notice) (apart : Bool) (second : Notice)
+module _ (t : List ℕ) (i : ℕ) (side : Side) (j : ℕ) (d : NeighborDirection) (md ws : List ℕ) (answer : Side) (old other : Option Neighbor) (set : Bool) (first : Option Notice) (apart : Bool) (second : Option Notice)
     (n : ℕ) (arr : List ℕ) (r : Bool) where
   abbrev a : ℕ
   a = get_or t (1 + i * 52) 0
@@ -214,7 +214,7 @@ module _ (t : List ℕ) (i : ℕ) (side : Side) (j : ℕ) (d : NeighborDirection
       ap (λ z. cond set [] (P.slot_ids a old (read z) other)) (id-at t j)
       ∙ ap (λ z. cond set [] (P.slot_ids a old new z)) h
 
-  set-warned : answer ≡ reciprocal_side side d → apart ≡ P.unshared_issues t i side j answer → second ≡ cond apart (N.Pair BoundaryUnshared a b) N.Nothing
+  set-warned : answer ≡ reciprocal_side side d → apart ≡ P.unshared_issues t i side j answer → second ≡ cond apart (Some (N.Pair BoundaryUnshared a b)) None
       → issues second ≡ apartness two (id_at t i) (id_at t j)
   set-warned ea ep e2 =
       ap issues e2
@@ -222,7 +222,7 @@ module _ (t : List ℕ) (i : ℕ) (side : Side) (j : ℕ) (d : NeighborDirection
       ∙ (ap (λ z. apartness z a b) (ep ∙ ap (P.unshared_issues t i side j) ea) ∙ (ap (λ z. apartness two z b) (id-at t i) ∙ ap (apartness two (id_at t i)) (id-at t j))))
 
   pub set-ends : answer ≡ reciprocal_side side d → old ≡ slot_held t i side → other ≡ slot_held t j answer → set ≡ E.same_slot old (read b)
-      → first ≡ cond set (N.NoOp a) N.Nothing → apart ≡ P.unshared_issues t i side j answer → second ≡ cond apart (N.Pair BoundaryUnshared a b) N.Nothing
+      → first ≡ cond set (Some (N.NoOp a)) None → apart ≡ P.unshared_issues t i side j answer → second ≡ cond apart (Some (N.Pair BoundaryUnshared a b)) None
       → (take n arr ≡ cond set [] (P.slot_ids a old (read b) other)) × (n ≡ length (cond set [] (P.slot_ids a old (read b) other)))
       → r ≡ report_fits n (length (issues first ++ issues second)) md ws → SetEnds t i side j d md ws set first second n arr r
   set-ends ea eo eh es e1 ep e2 p er =

@@ -40,6 +40,7 @@ pub fn unshared(lanes: &[u64], i: usize, side: Side, j: usize, answer: Side) -> 
 // ---- lanes named as modified
 
 // The lane in a slot put in its place among the first n ids.
+// The list lies at the front of its slots, which are fixed memory: the count stands beside it.
 fn named_slot(ids: &mut [u64], n: usize, slot: Option<Neighbor>) -> usize
     requires { (n < length ids.old) × (ascending (take n ids.old) ≡ true) }
     ensures { (take result ids.new ≡ P.place_slot slot (take n ids.old)) × (result ≡ length (P.place_slot slot (take n ids.old))) }

@@ -7,7 +7,7 @@ ghost use Rattle.row_tests.specs.Returned.{searchable};
 ghost use Rattle.relink.specs.Parts as P;
 
 use entities::{IssueCode, Neighbor, NeighborDirection, Refusal, Side, reciprocal_side};
-use report::{Answer, Change, Notice};
+use report::{Answer, Change};
 use tables::LANE;
 
 // Frees the slot of row i on a side.
@@ -26,7 +26,7 @@ pub fn free_slot(
     let old = topology::neighbor(lanes, i, side);
     let free = reslot::is_free(old);
     let first = report::no_op_where(free, lane);
-    let second = Notice::Nothing;
+    let second = None;
     let mut ids = [0; 4];
     let n = reslot::touched(free, lane, old, nobody, nobody, &mut ids);
     if notices::fits(n, first, second, modified, warnings) {

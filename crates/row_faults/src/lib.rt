@@ -1,7 +1,7 @@
 // Which row of a table fails a clause of soundness first. Clauses and tables are those of specs/Clauses.antt.
 #![tactic(auto)]
 
-ghost use Rattle.std.specs.Prelude.{◌≡◌, true, ◌+◌, ◌<◌, ◌≤◌, length, drop, get_or};
+ghost use Rattle.std.specs.Prelude.{◌≡◌, ℕ, Bool, true, ◌+◌, ◌<◌, ◌≤◌, List, length, drop, get_or};
 ghost use Rattle.lists.specs.Rows.{keys};
 ghost use Rattle.tables.specs.View.{rows, word};
 ghost use Rattle.tables.specs.Formed.{counted};
@@ -337,6 +337,38 @@ fn row_passes(clause: Clause, table: Table, w: &[u64], most: u64, coordinates: &
     }
 }
 
+// The first of n rows that fails a test, which is given the row's number; n where all pass.
+pub fn first_row<F: Fn(usize) -> bool>(n: usize, test: F) -> usize
+    requires { (i : ℕ) → i < n → F.pre test i }
+    ensures { (tests : List Bool) → length tests ≡ n → ((i : ℕ) (b : Bool) → i < n → F.post test i b → b ≡ get_or tests i true) → result ≡ first_false tests }
+{
+    for i in 0..n {
+        if !test(i) {
+            return i;
+        }
+    }
+    n
+}
+
+// Whether row i passes a clause.
+fn row_passes_at(
+    clause: Clause,
+    table: Table,
+    t: &[u64],
+    limit: u64,
+    row: usize,
+    i: usize,
+    most: u64,
+    coordinates: &[f64],
+) -> bool
+    requires { (row ≡ P.row_words table) × ((counted limit row t.now ≡ true) × (i < word 0 t.now)) }
+    ensures { result ≡ get_or (rows row (P.row_passes clause table most coordinates.now) t.now) i true }
+{
+    let at = 1 + i * row;
+    let end = at + row;
+    row_passes(clause, table, &t[at..end], most, coordinates)
+}
+
 // The first row of a table that does not pass a clause; the count of rows where all do.
 pub fn first_failing(
     clause: Clause,
@@ -351,14 +383,10 @@ pub fn first_failing(
     ensures { result ≡ first_false (rows row (P.row_passes clause table most coordinates.now) t.now) }
 {
     let n = t[0] as usize;
-    for i in 0..n {
-        let at = 1 + i * row;
-        let end = at + row;
-        if !row_passes(clause, table, &t[at..end], most, coordinates) {
-            return i;
-        }
-    }
-    n
+    first_row(
+        n,
+        |i| row_passes_at(clause, table, t, limit, row, i, most, coordinates),
+    )
 }
 
 // Whether the id of row i is above that of the row before it.
@@ -378,10 +406,5 @@ pub fn first_fallen(t: &[u64], limit: u64, row: usize) -> usize
     ensures { result ≡ first_false (rises (keys row (word 0 t.now) (drop 1 t.now))) }
 {
     let n = t[0] as usize;
-    for i in 0..n {
-        if !rises_at(t, limit, row, i) {
-            return i;
-        }
-    }
-    n
+    first_row(n, |i| rises_at(t, limit, row, i))
 }

@@ -58,20 +58,6 @@ fn lane_returned(t: &[u64], i: usize) -> bool
     false
 }
 
-// The slot that answers a slot at place k.
-fn answer_place(k: usize, mark: u64) -> usize
-    requires { (k ≡ 14) ⊎ (k ≡ 16) }
-    ensures { result ≡ R.answer_place k mark }
-{
-    if mark == 1 {
-        if k == LEFT_SLOT {
-            return RIGHT_SLOT;
-        }
-        return LEFT_SLOT;
-    }
-    k
-}
-
 // Whether the neighbour in slot k of row i names the lane back, with the same mark.
 fn slot_returned(t: &[u64], k: usize, i: usize) -> bool
     requires { (R.searchable t.now ≡ true) × (((k ≡ 14) ⊎ (k ≡ 16)) × (i < word 0 t.now)) }
@@ -87,7 +73,7 @@ fn slot_returned(t: &[u64], k: usize, i: usize) -> bool
     let Some(j) = found else {
         return false;
     };
-    let answer = 1 + j * LANE + answer_place(k, mark);
+    let answer = 1 + j * LANE + link_tests::answer_place(k, mark);
     both(t[answer] == mark, t[answer + 1] == t[at])
 }
 
@@ -112,10 +98,5 @@ pub fn first_unreturned(clause: Clause, t: &[u64]) -> usize
     ensures { result ≡ first_false (rows 52 (named_back clause t.now) t.now) }
 {
     let n = t[0] as usize;
-    for i in 0..n {
-        if !named_back(clause, t, i) {
-            return i;
-        }
-    }
-    n
+    row_faults::first_row(n, |i| named_back(clause, t, i))
 }

@@ -5,7 +5,6 @@ use native.Mathlib.Omega.{arith}
 use mathlib.Core.Bool.{Bool, true, false, ◌&&◌, and_assoc}
 use mathlib.Core.List.{List, [], ◌∷◌}
 use lib.ListN.{length, get_or, take, drop}
-use lib.Seq.{length-take-le, get_or-take}
 use lib.Ieee.{Float}
 use Rattle.lists.specs.Every.{all}
 use Rattle.lists.specs.Rows.{reads}
@@ -36,20 +35,15 @@ pub points-reach : (w : List Float) (n : ℕ) → n ≡ length w / 3 * 3 → all
 unfolding points
 points-reach w n e = rw e (sym (reads-flat (length w / 3) w (omega arith)))
 
--- the first n coordinates: one more, and all of them
-module _ (line : List Float) (n : ℕ) (long : n ≤ length line) (good : Bool) (i : ℕ) (v : all coordinate (take n line) ≡ (good && all coordinate (drop i (take n line)))) where
-  size : length (take n line) ≡ n
-  size = length-take-le n line long
-
-  pub reach-on : (d : Float) (g r : Bool) → i < n → g ≡ coordinate (get_or line i d) → r ≡ (good && g) → all coordinate (take n line) ≡ (r && all coordinate (drop (i + 1) (take n line)))
+-- one coordinate more, and all of them
+module _ (line : List Float) (good : Bool) (i : ℕ) (v : all coordinate line ≡ (good && all coordinate (drop i line))) where
+  pub reach-on : (d : Float) (g r : Bool) → i < length line → g ≡ coordinate (get_or line i d) → r ≡ (good && g) → all coordinate line ≡ (r && all coordinate (drop (i + 1) line))
   reach-on d g r h e f =
-      let w = take n line in
-      let u : coordinate (get_or w i d) ≡ g = ap coordinate (get_or-take n line i d h) ∙ sym e in
-      let s : all coordinate (drop i w) ≡ (g && all coordinate (drop (i + 1) w)) = all-step coordinate w i d (rw size h) ∙ ap (λ (b : Bool). b && all coordinate (drop (i + 1) w)) u in
-      v ∙ (ap (λ (b : Bool). good && b) s ∙ (sym (and_assoc good g (all coordinate (drop (i + 1) w))) ∙ ap (λ (b : Bool). b && all coordinate (drop (i + 1) w)) (sym f)))
+      let s : all coordinate (drop i line) ≡ (g && all coordinate (drop (i + 1) line)) = all-step coordinate line i d h ∙ ap (λ (b : Bool). b && all coordinate (drop (i + 1) line)) (sym e) in
+      v ∙ (ap (λ (b : Bool). good && b) s ∙ (sym (and_assoc good g (all coordinate (drop (i + 1) line))) ∙ ap (λ (b : Bool). b && all coordinate (drop (i + 1) line)) (sym f)))
 
-  pub reach-done : n ≤ i → good ≡ all coordinate (take n line)
-  reach-done h = sym (v ∙ (ap (λ (b : Bool). good && b) (all_end coordinate (take n line) i (rw size h)) ∙ last good))
+  pub reach-done : length line ≤ i → good ≡ all coordinate line
+  reach-done h = sym (v ∙ (ap (λ (b : Bool). good && b) (all_end coordinate line i h) ∙ last good))
     where
       last : (b : Bool) → (b && true) ≡ b
       last true = refl

@@ -1,6 +1,6 @@
 // The test of soundness: counts, and the points of the lines. `entity_tests` has the rows, `table_tests` one pass over each table, `link_tests` links and
 // neighbours.
-ghost use Rattle.std.specs.Prelude.{◌≡◌, true, ◌+◌, ◌≤◌, length, take};
+ghost use Rattle.std.specs.Prelude.{◌≡◌, true, ◌+◌, ◌≤◌, length};
 ghost use Rattle.lists.specs.Every.{all};
 ghost use Rattle.geometry.specs.Point.{in_reach};
 ghost use Rattle.geometry.specs.Float.{coordinate};
@@ -59,14 +59,13 @@ fn coordinate(x: f64) -> bool
     both(LEAST <= x, x <= REACH)
 }
 
-// Whether n coordinates lie within reach. No way out of the loop: several are tested at a time.
-fn all_coordinates(line: &[f64], n: usize) -> bool
-    requires { n ≤ length line.now }
-    ensures { result ≡ all coordinate (take n line.now) }
+// Whether every coordinate lies within reach. No way out of the loop: several are tested at a time.
+fn all_coordinates(line: &[f64]) -> bool
+    ensures { result ≡ all coordinate line.now }
 {
     let mut good = true;
-    for i in 0..n {
-        good = both(good, coordinate(line[i]));
+    for x in line {
+        good = both(good, coordinate(*x));
     }
     good
 }
@@ -75,7 +74,7 @@ fn all_coordinates(line: &[f64], n: usize) -> bool
 fn in_reach(line: &[f64]) -> bool
     ensures { result ≡ all in_reach (points line.now) }
 {
-    all_coordinates(line, polyline::count(line) * POINT)
+    all_coordinates(&line[..polyline::count(line) * POINT])
 }
 
 // A line's start and length, in points.

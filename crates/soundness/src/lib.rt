@@ -3,9 +3,10 @@
 
 ghost use Rattle.std.specs.Prelude.{◌≡◌, true, ◌<◌};
 ghost use Rattle.tables.specs.Formed.{counted};
-ghost use Rattle.tables.specs.View.{tables_of};
+ghost use Rattle.lent.specs.Lent.{view_tables};
 ghost use Rattle.soundness.specs.Parts as P;
 
+use lent::MapView;
 use lists::both;
 use tables::{
     BOUNDARIES, BOUNDARY, CROSSWALK, CROSSWALKS, JUNCTION, JUNCTIONS, LANE, LANES, ROAD, ROADS,
@@ -13,66 +14,47 @@ use tables::{
 };
 
 // Every table holds its count of rows.
-pub fn all_counted(
-    lanes: &[u64],
-    boundaries: &[u64],
-    roads: &[u64],
-    junctions: &[u64],
-    rules: &[u64],
-    stop_lines: &[u64],
-    crosswalks: &[u64],
-    coordinates: &[f64],
-) -> bool
-    ensures { result ≡ P.all_counted (tables_of lanes.now boundaries.now roads.now junctions.now rules.now stop_lines.now crosswalks.now coordinates.now) }
+pub fn all_counted(map: MapView) -> bool
+    ensures { result ≡ P.all_counted (view_tables map.entry) }
 {
     let a = both(
-        row_tests::sound::counted(lanes, LANES, LANE),
-        row_tests::sound::counted(boundaries, BOUNDARIES, BOUNDARY),
+        row_tests::sound::counted(map.lanes, LANES, LANE),
+        row_tests::sound::counted(map.boundaries, BOUNDARIES, BOUNDARY),
     );
     let b = both(
-        both(a, row_tests::sound::counted(roads, ROADS, ROAD)),
-        row_tests::sound::counted(junctions, JUNCTIONS, JUNCTION),
+        both(a, row_tests::sound::counted(map.roads, ROADS, ROAD)),
+        row_tests::sound::counted(map.junctions, JUNCTIONS, JUNCTION),
     );
-    let c = both(b, row_tests::sound::counted(rules, RULES, RULE));
+    let c = both(b, row_tests::sound::counted(map.rules, RULES, RULE));
     both(
         both(
             c,
-            row_tests::sound::counted(stop_lines, STOP_LINES, STOP_LINE),
+            row_tests::sound::counted(map.stop_lines, STOP_LINES, STOP_LINE),
         ),
-        row_tests::sound::counted(crosswalks, CROSSWALKS, CROSSWALK),
+        row_tests::sound::counted(map.crosswalks, CROSSWALKS, CROSSWALK),
     )
 }
 
 // Every row of every table passes.
-pub fn all_good(
-    most: u64,
-    lanes: &[u64],
-    boundaries: &[u64],
-    roads: &[u64],
-    junctions: &[u64],
-    rules: &[u64],
-    stop_lines: &[u64],
-    crosswalks: &[u64],
-    coordinates: &[f64],
-) -> bool
-    requires { P.all_counted (tables_of lanes.now boundaries.now roads.now junctions.now rules.now stop_lines.now crosswalks.now coordinates.now) ≡ true }
-    ensures { result ≡ P.all_good most (tables_of lanes.now boundaries.now roads.now junctions.now rules.now stop_lines.now crosswalks.now coordinates.now) }
+pub fn all_good(most: u64, map: MapView) -> bool
+    requires { P.all_counted (view_tables map) ≡ true }
+    ensures { result ≡ P.all_good most (view_tables map.entry) }
 {
     let a = both(
-        table_tests::lanes_good(lanes, most, coordinates),
-        table_tests::boundaries_good(boundaries, most, coordinates),
+        table_tests::lanes_good(map.lanes, most, map.coordinates),
+        table_tests::boundaries_good(map.boundaries, most, map.coordinates),
     );
     let b = both(
-        both(a, table_tests::roads_good(roads, most)),
-        table_tests::junctions_good(junctions, most),
+        both(a, table_tests::roads_good(map.roads, most)),
+        table_tests::junctions_good(map.junctions, most),
     );
-    let c = both(b, table_tests::rules_good(rules, most));
+    let c = both(b, table_tests::rules_good(map.rules, most));
     both(
         both(
             c,
-            table_tests::stop_lines_good(stop_lines, most, coordinates),
+            table_tests::stop_lines_good(map.stop_lines, most, map.coordinates),
         ),
-        table_tests::crosswalks_good(crosswalks, most, coordinates),
+        table_tests::crosswalks_good(map.crosswalks, most, map.coordinates),
     )
 }
 
@@ -85,30 +67,21 @@ fn ascends(t: &[u64], limit: u64, row: usize) -> bool
 }
 
 // The ids of every table ascend.
-pub fn all_ascend(
-    lanes: &[u64],
-    boundaries: &[u64],
-    roads: &[u64],
-    junctions: &[u64],
-    rules: &[u64],
-    stop_lines: &[u64],
-    crosswalks: &[u64],
-    coordinates: &[f64],
-) -> bool
-    requires { P.all_counted (tables_of lanes.now boundaries.now roads.now junctions.now rules.now stop_lines.now crosswalks.now coordinates.now) ≡ true }
-    ensures { result ≡ P.all_ascend (tables_of lanes.now boundaries.now roads.now junctions.now rules.now stop_lines.now crosswalks.now coordinates.now) }
+pub fn all_ascend(map: MapView) -> bool
+    requires { P.all_counted (view_tables map) ≡ true }
+    ensures { result ≡ P.all_ascend (view_tables map.entry) }
 {
     let a = both(
-        ascends(lanes, LANES, LANE),
-        ascends(boundaries, BOUNDARIES, BOUNDARY),
+        ascends(map.lanes, LANES, LANE),
+        ascends(map.boundaries, BOUNDARIES, BOUNDARY),
     );
     let b = both(
-        both(a, ascends(roads, ROADS, ROAD)),
-        ascends(junctions, JUNCTIONS, JUNCTION),
+        both(a, ascends(map.roads, ROADS, ROAD)),
+        ascends(map.junctions, JUNCTIONS, JUNCTION),
     );
-    let c = both(b, ascends(rules, RULES, RULE));
+    let c = both(b, ascends(map.rules, RULES, RULE));
     both(
-        both(c, ascends(stop_lines, STOP_LINES, STOP_LINE)),
-        ascends(crosswalks, CROSSWALKS, CROSSWALK),
+        both(c, ascends(map.stop_lines, STOP_LINES, STOP_LINE)),
+        ascends(map.crosswalks, CROSSWALKS, CROSSWALK),
     )
 }

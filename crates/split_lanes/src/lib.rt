@@ -72,12 +72,11 @@ fn cut_rows(t: &mut [u64], pieces: &[u64], m: usize, cut: &[u64], next: u64, cen
     requires { (W.Halved pieces.now m cut.now next centers.now) × ((counted 1024 52 t.old ≡ true) × D.RowsCut next t.old) }
     ensures { t.new ≡ on_rows 52 (W.lane_cut pieces.now m cut.now next centers.now) t.old }
 {
-    let n = t[0] as usize;
-    for i in 0..n {
-        let at = 1 + i * LANE;
-        let end = at + LANE;
-        split_first::cut_row(&mut t[at..end], pieces, m, cut, next, centers);
-    }
+    row_walk::each_row(
+        t,
+        LANE,
+        |row| split_first::cut_row(row, pieces, m, cut, next, centers),
+    );
 }
 
 // The lanes after the split.

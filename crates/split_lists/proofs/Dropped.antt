@@ -59,7 +59,7 @@ module _ (cut lanes : List ℕ) (next second at : ℕ) where
   abbrev warned-of : ℕ → List Issue
   warned-of lane = warning NeighborDropped (lane_entity second) (lane_entity lane ∷ []) ∷ []
 
-  pub slot-free : get_or lanes at 0 ≡ 0 → issues N.Nothing ≡ dropped_beside (numbered next cut) second (slot_at at lanes)
+  pub slot-free : get_or lanes at 0 ≡ 0 → issues None ≡ dropped_beside (numbered next cut) second (slot_at at lanes)
   slot-free e = rw (eq-eqb (get_or lanes at 0) 0 e)
 
   module _ (e : get_or lanes at 0 ≡ 0 → ⊥) where
@@ -82,10 +82,10 @@ module _ (cut lanes : List ℕ) (next second at : ℕ) where
           slot_held ∙ beside-found next (get_or lanes (at + 1) 0) cut (warned-of (get_or lanes (at + 1) 0))
           ∙ ap (λ r. cond (there r) [] (warned-of (get_or lanes (at + 1) 0))) (one_found (get_or lanes (at + 1) 0) cut f g)
 
-      pub slot-cut : there f ≡ true → issues N.Nothing ≡ dropped_beside (numbered next cut) second (slot_at at lanes)
+      pub slot-cut : there f ≡ true → issues None ≡ dropped_beside (numbered next cut) second (slot_at at lanes)
       slot-cut q = sym (held ∙ rw q)
 
-      pub slot-uncut : there f ≡ false → issues (N.Pair NeighborDropped second (get_or lanes (at + 1) 0)) ≡ dropped_beside (numbered next cut) second (slot_at at lanes)
+      pub slot-uncut : there f ≡ false → issues (Some (N.Pair NeighborDropped second (get_or lanes (at + 1) 0))) ≡ dropped_beside (numbered next cut) second (slot_at at lanes)
       slot-uncut q = sym (held ∙ rw q)
 
 -- ---- one row
@@ -97,7 +97,7 @@ slot_in_lem t i k h =
     let b : word (suc (1 + i * 52 + k)) t ≡ word (suc k) (row_at 52 t i) = ap (λ n. word n t) o ∙ next_in 52 t i k h in
     rw (a, b)
 
-module _ (cut t : List ℕ) (next second i : ℕ) (l r : Notice) (a : issues l ≡ dropped_beside (numbered next cut) second (slot_at (1 + i * 52 + 14) t)) (b : issues r ≡ dropped_beside (numbered next cut) second (slot_at (1 + i * 52 + 16) t)) where
+module _ (cut t : List ℕ) (next second i : ℕ) (l r : Option Notice) (a : issues l ≡ dropped_beside (numbered next cut) second (slot_at (1 + i * 52 + 14) t)) (b : issues r ≡ dropped_beside (numbered next cut) second (slot_at (1 + i * 52 + 16) t)) where
   abbrev row : List Issue
   row = row_dropped cut next second (row_at 52 t i)
 
@@ -134,7 +134,7 @@ module _ (cut : List ℕ) (next second : ℕ) where
   slot-short (Some n) = go (second_of (numbered next cut) n.lane)
     where
       go : (o : Option ℕ) → all short (elim o as (λ q. List Issue) [ None ↦ warning NeighborDropped (lane_entity second) (lane_entity n.lane ∷ []) ∷ [] | Some k ↦ [] ]) ≡ true
-      go None = issues-short (N.Pair NeighborDropped second n.lane)
+      go None = issues-short (Some (N.Pair NeighborDropped second n.lane))
       go (Some k) = all_nil short
 
   row-short : (w : List ℕ) → all short (row_dropped cut next second w) ≡ true

@@ -1,4 +1,5 @@
 -- Warnings of pieces, one row behind the other. Assumes nothing.
+use Rattle.std.specs.Prelude.{Option, None, Some}
 use mathlib.Core.Path.{◌≡◌, sym, ap, ◌∙◌}
 use Prim.Native.Nat.{ℕ, zero, suc, ◌+◌, ◌-◌, ◌*◌, ◌≤◌, ◌<◌}
 use native.Mathlib.Omega.{arith}
@@ -12,7 +13,7 @@ use Rattle.lists.proofs.Every.{all_append, all_nil}
 use Rattle.entities.specs.Records.{Issue}
 use Rattle.report.specs.Report.{issues, warned, warned_at}
 use Rattle.report.specs.declared.Notice.{Notice}
-use Rattle.report.specs.declared.Notice.TheVariants.{Pieces, Nothing}
+use Rattle.report.specs.declared.Notice.TheVariants.{Pieces}
 use Rattle.report.proofs.Warnings.{few, short, issues-short, none-put, warned-more, warned-whole, length-warned-at}
 use Rattle.split_lists.specs.Changes.{piece_issues, pieces_issues}
 
@@ -46,11 +47,11 @@ module _ (w : List ℕ) (from : ℕ) (is : List Issue) (v : List ℕ) (at : ℕ)
 -- ---- one piece
 
 module _ (pieces : List ℕ) (j : ℕ) where
-  pub piece-kept : get_or pieces (j * 3 + 1) 0 ≡ get_or pieces (j * 3) 0 → issues Nothing ≡ piece_issues pieces j
+  pub piece-kept : get_or pieces (j * 3 + 1) 0 ≡ get_or pieces (j * 3) 0 → issues None ≡ piece_issues pieces j
   piece-kept e = rw (eq-eqb (get_or pieces (j * 3 + 1) 0) (get_or pieces (j * 3) 0) e)
 
   pub piece-new : (get_or pieces (j * 3 + 1) 0 ≡ get_or pieces (j * 3) 0 → ⊥)
-      → issues (Pieces (get_or pieces (j * 3) 0) (get_or pieces (j * 3 + 1) 0) (get_or pieces (j * 3 + 2) 0)) ≡ piece_issues pieces j
+      → issues (Some (Pieces (get_or pieces (j * 3) 0) (get_or pieces (j * 3 + 1) 0) (get_or pieces (j * 3 + 2) 0))) ≡ piece_issues pieces j
   piece-new e = rw (ne_eqb (get_or pieces (j * 3 + 1) 0) (get_or pieces (j * 3) 0) e)
 
 -- its words
@@ -89,18 +90,18 @@ module _ (pieces : List ℕ) where
   piece-short : (j : ℕ) → all short (piece_issues pieces j) ≡ true
   piece-short j = go (eqb (get_or pieces (j * 3 + 1) 0) (get_or pieces (j * 3) 0))
     where
-      go : (b : Bool) → all short (cond b [] (issues (Pieces (get_or pieces (j * 3) 0) (get_or pieces (j * 3 + 1) 0) (get_or pieces (j * 3 + 2) 0)))) ≡ true
+      go : (b : Bool) → all short (cond b [] (issues (Some (Pieces (get_or pieces (j * 3) 0) (get_or pieces (j * 3 + 1) 0) (get_or pieces (j * 3 + 2) 0))))) ≡ true
       go true = all_nil short
-      go false = issues-short (Pieces (get_or pieces (j * 3) 0) (get_or pieces (j * 3 + 1) 0) (get_or pieces (j * 3 + 2) 0))
+      go false = issues-short (Some (Pieces (get_or pieces (j * 3) 0) (get_or pieces (j * 3 + 1) 0) (get_or pieces (j * 3 + 2) 0)))
 
   -- counted
-  pub count-piece : (j count : ℕ) → count ≡ length (pieces_issues pieces 0 j) → count ≤ j → (n : Notice) → issues n ≡ piece_issues pieces j → (r : ℕ) → r ≡ length (issues n)
+  pub count-piece : (j count : ℕ) → count ≡ length (pieces_issues pieces 0 j) → count ≤ j → (n : Option Notice) → issues n ≡ piece_issues pieces j → (r : ℕ) → r ≡ length (issues n)
       → (count + r ≤ j + 1) × (count + r ≡ length (pieces_issues pieces 0 (j + 1)))
   count-piece j count h f n e r g =
       (omega (arith, few n), omega (arith, ap length e, ap length (pieces_more j), length-append (pieces_issues pieces 0 j) (piece_issues pieces j)))
 
   -- written
-  module _ (w : List ℕ) (m : ℕ) (room : length (pieces_issues pieces 0 m) * 10 ≤ length w) (j : ℕ) (v : List ℕ) (at : ℕ) (s : Stand w 0 (pieces_issues pieces 0 j) v at) (l : j < m) (n : Notice) (e : issues n ≡ piece_issues pieces j) where
+  module _ (w : List ℕ) (m : ℕ) (room : length (pieces_issues pieces 0 m) * 10 ≤ length w) (j : ℕ) (v : List ℕ) (at : ℕ) (s : Stand w 0 (pieces_issues pieces 0 j) v at) (l : j < m) (n : Option Notice) (e : issues n ≡ piece_issues pieces j) where
     pub piece-room : (at + length (issues n)) * 10 ≤ length v
     piece-room = note-room w 0 (pieces_issues pieces 0 j) v at s (issues n) (omega (arith, ap length e, pieces_room j m l))
 

@@ -1,5 +1,5 @@
 -- The change set of a split, from marks, pieces and rows. Nothing that a host calls rests on this page; the laws of split_changes tie it to the rules.
-use Rattle.std.specs.Prelude.{◌≡◌, ℕ, zero, suc, ◌+◌, ◌*◌, ◌^◌, ◌≤◌, ◌<◌, Bool, true, cond, List, [], ◌∷◌, ◌++◌, map, eqb, length}
+use Rattle.std.specs.Prelude.{◌≡◌, ℕ, zero, suc, ◌+◌, ◌*◌, ◌^◌, ◌≤◌, ◌<◌, Bool, true, cond, List, [], ◌∷◌, ◌++◌, map, eqb, length, Some}
 use Rattle.lists.specs.Select.{ascending, numbered}
 use Rattle.entities.specs.Records.{Issue}
 use Rattle.rules.specs.Names.{EntityRef, LaneKind, BoundaryKind, RoadKind, JunctionKind, RuleKind}
@@ -35,7 +35,7 @@ modified_by lm lanes bm boundaries rm roads jm junctions um rules =
 
 -- a cut boundary whose first piece has a new id is used outside the group
 abbrev pub piece_issues : List ℕ → ℕ → List Issue
-piece_issues pieces j = cond (eqb (word (j * 3 + 1) pieces) (word (j * 3) pieces)) [] (issues (Pieces (word (j * 3) pieces) (word (j * 3 + 1) pieces) (word (j * 3 + 2) pieces)))
+piece_issues pieces j = cond (eqb (word (j * 3 + 1) pieces) (word (j * 3) pieces)) [] (issues (Some (Pieces (word (j * 3) pieces) (word (j * 3 + 1) pieces) (word (j * 3 + 2) pieces))))
 
 -- those of n pieces from number j on
 unfoldable pub pieces_issues : List ℕ → ℕ → ℕ → List Issue

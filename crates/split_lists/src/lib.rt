@@ -109,7 +109,7 @@ pub fn list_modified(
 // ---- warnings
 
 // The warning of a boundary that is used outside the group: its first piece has a new id.
-fn piece_notice(pieces: &[u64], j: usize) -> Notice
+fn piece_notice(pieces: &[u64], j: usize) -> Option<Notice>
     requires { j * 3 + 3 ≤ length pieces.now }
     ensures { R.issues result ≡ D.piece_issues pieces.now j }
 {
@@ -117,9 +117,9 @@ fn piece_notice(pieces: &[u64], j: usize) -> Notice
     let id = pieces[at];
     let first = pieces[at + 1];
     if first == id {
-        return Notice::Nothing;
+        return None;
     }
-    Notice::Pieces(id, first, pieces[at + 2])
+    Some(Notice::Pieces(id, first, pieces[at + 2]))
 }
 
 // How many of m pieces are warned of.
@@ -146,18 +146,18 @@ fn warn_pieces(pieces: &[u64], m: usize, warnings: &mut [u64]) -> usize
 }
 
 // The warning of a neighbour that is not cut, in the slot from word `at` on: it is not beside the second half.
-fn slot_notice(lanes: &[u64], at: usize, cut: &[u64], next: u64, second: u64) -> Notice
+fn slot_notice(lanes: &[u64], at: usize, cut: &[u64], next: u64, second: u64) -> Option<Notice>
     requires { (ascending cut.now ≡ true) × (at + 2 ≤ length lanes.now) }
     ensures { R.issues result ≡ dropped_beside (numbered next cut.now) second (slot_at at lanes.now) }
 {
     if lanes[at] == NONE {
-        return Notice::Nothing;
+        return None;
     }
     let lane = lanes[at + 1];
     let found = find::find_row(cut, 1, cut.len(), lane);
     match found {
-        Some(_) => Notice::Nothing,
-        None => Notice::Pair(IssueCode::NeighborDropped, second, lane),
+        Some(_) => None,
+        None => Some(Notice::Pair(IssueCode::NeighborDropped, second, lane)),
     }
 }
 

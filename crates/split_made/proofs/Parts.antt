@@ -19,7 +19,6 @@ use Rattle.tables.specs.View.{Tables, rows, tables_of}
 use Rattle.tables.specs.Columns.{junction_lanes_at, junction_words, road_lanes_at, road_words, rule_words}
 use Rattle.row_tests.specs.Good.{all_rows}
 use Rattle.store.specs.Rows.{on_rows}
-use Rattle.layout.specs.Layout.{line_tables}
 use Rattle.report.specs.declared.Counts.{Counts}
 use Rattle.report.proofs.Warnings.{room}
 use Rattle.room.specs.Room.{points_fit, lists_fit}
@@ -27,7 +26,7 @@ use Rattle.grows.specs.Growing.{grows_at}
 use Rattle.follows.specs.Following.{rules_follow}
 use Rattle.split_lines.specs.Cut.{drawn_pieces, measured}
 use Rattle.split_room.specs.Fitting.{list_fits, pieces_fit, points_after, rules_fit}
-use Rattle.split_relay.specs.Relaying.{Cutting, blank, cutting, relaid, work_floats}
+use Rattle.split_relay.specs.Relaying.{Cutting, blank, relaid, work_floats}
 use Rattle.split_made.specs.declared.Drawn.{Drawn}
 use Rattle.split_made.specs.Made.{Listable, Notable, Noted, answer_of, counts_of, fits_after, left, lined, lists_written, modified_in, noted, split_made, tables_cut, warnings_in}
 
@@ -93,12 +92,13 @@ module _ (k : Cutting) (points : ℕ) (anchored past : List Bool) (t : Tables) w
       → tables_of l o r u v s x c ≡ tables_of l₁ o₁ r₁ u₁ v₁ s₁ x₁ c₁
   tables-fields a b c d e f g h = rw (a, b, c, d, e, f, g, h)
 
-  pub all-written : (rs js us ls bs ss xs : List ℕ) (c : List Float) → rs ≡ on_rows road_words (grows_at k.next k.cut road_lanes_at) t.roads
-      → js ≡ on_rows junction_words (grows_at k.next k.cut junction_lanes_at) t.junctions → us ≡ rules_follow anchored past k.next k.cut t.rules
-      → line_tables ls bs ss xs c ≡ relaid k (blank (work_floats (length k.cut) points)) (lined t) → tables_of ls bs rs js us ss xs c ≡ tables_cut k points anchored past t
+  -- the tables with lines as `z` has them
+  pub all-written : (rs js us : List ℕ) → rs ≡ on_rows road_words (grows_at k.next k.cut road_lanes_at) t.roads → js ≡ on_rows junction_words (grows_at k.next k.cut junction_lanes_at) t.junctions
+      → us ≡ rules_follow anchored past k.next k.cut t.rules → (z : Tables) → z ≡ relaid k (blank (work_floats (length k.cut) points)) (lined t)
+      → (ls bs ss xs : List ℕ) (c : List Float) → ls ≡ z.lanes → bs ≡ z.boundaries → ss ≡ z.stop_lines → xs ≡ z.crosswalks → c ≡ z.coordinates → tables_of ls bs rs js us ss xs c ≡ tables_cut k points anchored past t
   unfolding tables_cut
-  all-written rs js us ls bs ss xs c er ej eu e =
-      tables-fields (ap (λ (x : Tables). x.lanes) e) (ap (λ (x : Tables). x.boundaries) e) er ej eu (ap (λ (x : Tables). x.stop_lines) e) (ap (λ (x : Tables). x.crosswalks) e) (ap (λ (x : Tables). x.coordinates) e)
+  all-written rs js us er ej eu z e ls bs ss xs c el eb es ex ec =
+      tables-fields (el ∙ ap (λ (x : Tables). x.lanes) e) (eb ∙ ap (λ (x : Tables). x.boundaries) e) er ej eu (es ∙ ap (λ (x : Tables). x.stop_lines) e) (ex ∙ ap (λ (x : Tables). x.crosswalks) e) (ec ∙ ap (λ (x : Tables). x.coordinates) e)
 
 -- ---- the test of the lists' room
 
@@ -110,10 +110,7 @@ pub on : (b : Bool) → not b ≡ false → b ≡ true
 on true e = refl
 on false e = sym e
 
--- counting and listing look neither at measures nor at lines
-abbrev bare : Cutting → Cutting
-bare k = cutting k.point k.reach k.seen k.cut k.next k.marks k.pieces k.many [] []
-
+-- counting and listing look at no lines
 abbrev unlined : Tables → Tables
 unlined t = tables_of t.lanes t.boundaries t.roads t.junctions t.rules [] [] []
 
@@ -122,8 +119,8 @@ left-same : {u v : Tables} {a b : Noted} (deleted : List ℕ) {q r : Answer} →
 left-same deleted e f g = rw (e, f, g)
 
 module _ (d : Drawn) (k : Cutting) (anchored past : List Bool) (t : Tables) where
-  pub notable-bare : Notable d.first d.ids k anchored past t → Notable d.first d.ids (bare k) anchored past (unlined t)
-  notable-bare h = record { modifiable = h.modifiable; pieces = h.pieces; few = h.few; beside = h.beside; ids_are_left = h.ids_are_left; ids_few = h.ids_few; cut_few = h.cut_few }
+  pub notable-unlined : Notable d.first d.ids k anchored past t → Notable d.first d.ids k anchored past (unlined t)
+  notable-unlined h = record { modifiable = h.modifiable; pieces = h.pieces; few = h.few; beside = h.beside; ids_are_left = h.ids_are_left; ids_few = h.ids_few; cut_few = h.cut_few }
 
   module _ (created modified deleted warnings : List ℕ) (m : Counts) (me : m ≡ counts_of d.ids k anchored past t) (q : Bool) (qe : q ≡ lists_fit m created modified deleted warnings) where
     abbrev n : Counts
@@ -152,10 +149,10 @@ module _ (d : Drawn) (k : Cutting) (anchored past : List Bool) (t : Tables) wher
       all_placed : (a1 && a2 && a3 && a4) ≡ true
       all_placed = sym placed ∙ h
 
-      pub lists-ask : Notable d.first d.ids k anchored past t → Listable d.first d.ids (bare k) anchored past (unlined t) (noted created modified warnings)
+      pub lists-ask : Notable d.first d.ids k anchored past t → Listable d.first d.ids k anchored past (unlined t) (noted created modified warnings)
       lists-ask f =
           record {
-            notable = notable-bare f;
+            notable = notable-unlined f;
             created = room n.created (length created) 2 (and-fst a1 a2 (and-fst (a1 && a2) a3 (and-fst (a1 && a2 && a3) a4 all_placed)));
             modified = room n.modified (length modified) 2 (and-snd a1 a2 (and-fst (a1 && a2) a3 (and-fst (a1 && a2 && a3) a4 all_placed)));
             warnings = room n.warnings (length warnings) 10 (and-snd (a1 && a2 && a3) a4 all_placed);

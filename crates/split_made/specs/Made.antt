@@ -17,13 +17,9 @@ use Rattle.grows.specs.Growing.{Grows, grows_at}
 use Rattle.follows.specs.Following.{Follows, rules_follow}
 use Rattle.split_room.specs.Fitting.{Counting, ListsOf, RulesOf, list_fits, pieces_fit, points_after, rules_fit}
 use Rattle.split_lists.specs.Changes.{Beside, created_by, warnings_by}
-use Rattle.split_relay.specs.Relaying.{Cutting, Relayable, blank, cutting, drawn_points, relaid, work_floats}
+use Rattle.split_relay.specs.Relaying.{Cutting, Relayable, blank, drawn_points, relaid, work_floats}
 use Rattle.split_touched.specs.Modified.{Modifiable, Told, Rows, modified_of, rows_of, told}
 use Rattle.split_made.specs.declared.Drawn.{Drawn}
-
--- what is decided, as the functions are given it
-abbrev pub cutting_of : Drawn → List Bool → List ℕ → List Bool → List ℕ → List ℕ → List ℕ → Cutting
-cutting_of d seen cut marks pieces lines centers = cutting d.point d.reach seen cut d.next marks pieces d.many lines centers
 
 -- the tables with lines, and those whose rows are marked
 abbrev pub lined : Tables → Tables

@@ -8,29 +8,29 @@ ghost use Rattle.lists.specs.Select.{ascending};
 ghost use Rattle.order.specs.Order.{column_of};
 ghost use Rattle.tables.specs.View as S;
 ghost use Rattle.split_lines.specs.Cut as C;
+ghost use Rattle.split_relay.specs.Given.{cutting_by};
 ghost use Rattle.split_made.specs.Made as D;
 
 use entities::Refusal;
 use geometry::Point2;
 use lists::both;
 use report::{Answer, Change, Counts};
+use split_relay::Cuts;
 use tables::{
     BOUNDARY, BOUNDARY_START, JUNCTION, JUNCTION_LANES, LANE, LANE_CENTERLINE_START, ROAD,
     ROAD_LANES,
 };
 
-// What is decided: the lane and the point of the cut, how many ids the pieces take and the first of them, the first second half's, the point behind all stored
-// lines, how many points are drawn, and how many boundaries are cut.
+// Words of a piece's row, and of a measure.
+const PIECE: usize = 3;
+
+// What is decided besides the cut: the lane, how many ids the pieces take and the first of them, and how many points are drawn.
 #[derive(Clone, Copy)]
 pub struct Drawn {
     pub own: u64,
-    pub point: Point2,
     pub ids: usize,
     pub first: u64,
-    pub next: u64,
-    pub reach: usize,
     pub points: usize,
-    pub many: usize,
 }
 
 // ---- lines
@@ -77,39 +77,29 @@ pub fn measure(
 // ---- room
 
 // Whether the finished map keeps the limits and the lent lengths, its rows aside.
-pub fn fits(
-    map: lent::MapView,
-    drawn: Drawn,
-    seen: &[bool],
-    cut: &[u64],
-    marks: &[bool],
-    pieces: &[u64],
-    lines: &[u64],
-    centers: &[u64],
-    anchored: &[bool],
-) -> bool
-    requires { D.Fittable (D.cutting_of drawn seen.now cut.now marks.now pieces.now lines.now centers.now) anchored.now (view_tables map) }
-    ensures { result ≡ D.fits_after (D.cutting_of drawn seen.now cut.now marks.now pieces.now lines.now centers.now) anchored.now (view_tables map.entry) }
+pub fn fits(map: lent::MapView, cuts: Cuts, anchored: &[bool]) -> bool
+    requires { D.Fittable (cutting_by cuts) anchored.now (view_tables map) }
+    ensures { result ≡ D.fits_after (cutting_by cuts.entry) anchored.now (view_tables map.entry) }
 {
     let points = split_room::points_after(
         map.lanes,
-        seen,
-        centers,
+        cuts.seen,
+        cuts.centers,
         map.boundaries,
-        marks,
-        pieces,
-        lines,
+        cuts.marks,
+        cuts.pieces,
+        cuts.lines,
         map.stop_lines,
         map.crosswalks,
     );
     let pieces_fit = both(
-        split_room::pieces_fit(lines, drawn.many),
-        split_room::pieces_fit(centers, cut.len()),
+        split_room::pieces_fit(&cuts.lines[..cuts.many * PIECE]),
+        split_room::pieces_fit(&cuts.centers[..cuts.cut.len() * PIECE]),
     );
     let lines_fit = both(pieces_fit, room::points_fit(points, map.coordinates));
-    let roads_fit = split_room::lists_fit(map.roads, ROAD, ROAD_LANES, cut);
-    let junctions_fit = split_room::lists_fit(map.junctions, JUNCTION, JUNCTION_LANES, cut);
-    let rules_fit = split_room::rules_fit(map.rules, anchored, cut);
+    let roads_fit = split_room::lists_fit(map.roads, ROAD, ROAD_LANES, cuts.cut);
+    let junctions_fit = split_room::lists_fit(map.junctions, JUNCTION, JUNCTION_LANES, cuts.cut);
+    let rules_fit = split_room::rules_fit(map.rules, anchored, cuts.cut);
     both(lines_fit, both(both(roads_fit, junctions_fit), rules_fit))
 }
 
@@ -123,23 +113,22 @@ fn count(
     roads: &[u64],
     junctions: &[u64],
     rules: &[u64],
-    seen: &[bool],
-    cut: &[u64],
-    marks: &[bool],
-    pieces: &[u64],
+    cuts: Cuts,
     anchored: &[bool],
     past: &[bool],
 ) -> Counts
-    requires { D.Notable drawn.first drawn.ids (D.cutting_of drawn seen.now cut.now marks.now pieces.now [] []) anchored.now past.now (S.tables_of lanes.now boundaries.now roads.now junctions.now rules.now [] [] []) }
-    ensures { result ≡ D.counts_of drawn.ids (D.cutting_of drawn seen.now cut.now marks.now pieces.now [] []) anchored.now past.now (S.tables_of lanes.now boundaries.now roads.now junctions.now rules.now [] [] []) }
+    requires { D.Notable drawn.first drawn.ids (cutting_by cuts) anchored.now past.now (S.tables_of lanes.now boundaries.now roads.now junctions.now rules.now [] [] []) }
+    ensures { result ≡ D.counts_of drawn.ids (cutting_by cuts.entry) anchored.now past.now (S.tables_of lanes.now boundaries.now roads.now junctions.now rules.now [] [] []) }
 {
+    let pieces = cuts.pieces;
+    let cut = cuts.cut;
     Counts {
         created: drawn.ids + cut.len(),
         modified: split_touched::count_modified(
-            lanes, boundaries, roads, junctions, rules, cut, marks, pieces, anchored, past,
+            lanes, boundaries, roads, junctions, rules, cut, cuts.marks, pieces, anchored, past,
         ),
         deleted: 0,
-        warnings: split_lists::count_warnings(pieces, drawn.many, lanes, seen, cut, drawn.next),
+        warnings: split_lists::count_warnings(pieces, cuts.many, lanes, cuts.seen, cut, cuts.next),
     }
 }
 
@@ -151,74 +140,50 @@ fn write_lists(
     roads: &[u64],
     junctions: &[u64],
     rules: &[u64],
-    seen: &[bool],
-    cut: &[u64],
-    marks: &[bool],
-    pieces: &[u64],
+    cuts: Cuts,
     anchored: &[bool],
     past: &[bool],
     created: &mut [u64],
     modified: &mut [u64],
     warnings: &mut [u64],
 )
-    requires { D.Listable drawn.first drawn.ids (D.cutting_of drawn seen.now cut.now marks.now pieces.now [] []) anchored.now past.now (S.tables_of lanes.now boundaries.now roads.now junctions.now rules.now [] [] []) (D.noted created.old modified.old warnings.old) }
-    ensures { (D.noted created.new modified.new warnings.new) ≡ D.lists_written drawn.first drawn.ids (D.cutting_of drawn seen.now cut.now marks.now pieces.now [] []) anchored.now past.now (S.tables_of lanes.now boundaries.now roads.now junctions.now rules.now [] [] []) (D.noted created.old modified.old warnings.old) }
+    requires { D.Listable drawn.first drawn.ids (cutting_by cuts) anchored.now past.now (S.tables_of lanes.now boundaries.now roads.now junctions.now rules.now [] [] []) (D.noted created.old modified.old warnings.old) }
+    ensures { (D.noted created.new modified.new warnings.new) ≡ D.lists_written drawn.first drawn.ids (cutting_by cuts.entry) anchored.now past.now (S.tables_of lanes.now boundaries.now roads.now junctions.now rules.now [] [] []) (D.noted created.old modified.old warnings.old) }
 {
+    let marks = cuts.marks;
+    let pieces = cuts.pieces;
+    let cut = cuts.cut;
     split_lists::list_created(drawn.first, drawn.ids, cut.len(), created);
     split_touched::list_modified(
         lanes, boundaries, roads, junctions, rules, cut, marks, pieces, anchored, past, modified,
     );
-    split_lists::warn(pieces, drawn.many, lanes, seen, cut, drawn.next, warnings);
+    split_lists::warn(
+        pieces, cuts.many, lanes, cuts.seen, cut, cuts.next, warnings,
+    );
 }
 
 // ---- tables
 
-// Roads and junctions grow, rules follow their anchors, and all lines are laid out anew.
-fn write(
-    map: &mut lent::Map,
-    drawn: Drawn,
-    seen: &[bool],
-    cut: &[u64],
-    marks: &[bool],
-    pieces: &[u64],
-    lines: &[u64],
-    centers: &[u64],
-    anchored: &[bool],
-    past: &[bool],
-)
-    requires { D.Writable (D.cutting_of drawn seen.now cut.now marks.now pieces.now lines.now centers.now) drawn.points anchored.now past.now (map_tables map.old) }
-    ensures made { (map_tables map.new) ≡ D.tables_cut (D.cutting_of drawn seen.now cut.now marks.now pieces.now lines.now centers.now) drawn.points anchored.now past.now (map_tables map.old) }
+// Roads and junctions grow, rules follow their anchors, and all lines are laid out anew; `points` is how many points are drawn.
+fn write(map: &mut lent::Map, points: usize, cuts: Cuts, anchored: &[bool], past: &[bool])
+    requires { D.Writable (cutting_by cuts) points anchored.now past.now (map_tables map.old) }
+    ensures made { (map_tables map.new) ≡ D.tables_cut (cutting_by cuts.entry) points anchored.now past.now (map_tables map.old) }
     ensures same { SameSlices map.old map.new }
 {
-    let lanes = &mut *map.lanes;
-    let boundaries = &mut *map.boundaries;
     let roads = &mut *map.roads;
     let junctions = &mut *map.junctions;
     let rules = &mut *map.rules;
-    let stop_lines = &mut *map.stop_lines;
-    let crosswalks = &mut *map.crosswalks;
-    let coordinates = &mut *map.coordinates;
-    grows::grow_rows(roads, ROAD, ROAD_LANES, cut, drawn.next);
-    grows::grow_rows(junctions, JUNCTION, JUNCTION_LANES, cut, drawn.next);
-    follows::follow_rules(rules, cut, drawn.next, anchored, past);
-    split_arrays::relay(
-        lanes,
-        boundaries,
-        stop_lines,
-        crosswalks,
-        coordinates,
-        drawn.point,
-        drawn.reach,
-        drawn.points,
-        seen,
-        cut,
-        drawn.next,
-        marks,
-        pieces,
-        drawn.many,
-        lines,
-        centers,
-    );
+    grows::grow_rows(roads, ROAD, ROAD_LANES, cuts.cut, cuts.next);
+    grows::grow_rows(junctions, JUNCTION, JUNCTION_LANES, cuts.cut, cuts.next);
+    follows::follow_rules(rules, cuts.cut, cuts.next, anchored, past);
+    let mut lines = lent::Lines {
+        lanes: &mut *map.lanes,
+        boundaries: &mut *map.boundaries,
+        stop_lines: &mut *map.stop_lines,
+        crosswalks: &mut *map.crosswalks,
+        coordinates: &mut *map.coordinates,
+    };
+    split_arrays::relay(&mut lines, cuts, points);
 }
 
 // ---- the end
@@ -245,18 +210,13 @@ fn answer(cut: &[u64], own: u64, next: u64, counts: Counts) -> Answer
 pub fn make(
     map: &mut lent::Map,
     drawn: Drawn,
-    seen: &[bool],
-    cut: &[u64],
-    marks: &[bool],
-    pieces: &[u64],
-    lines: &[u64],
-    centers: &[u64],
+    cuts: Cuts,
     anchored: &[bool],
     past: &[bool],
     lists: &mut lent::Lists,
 ) -> Answer
-    requires { D.Makeable drawn (D.cutting_of drawn seen.now cut.now marks.now pieces.now lines.now centers.now) anchored.now past.now (map_tables map.old) }
-    ensures made { D.left (map_tables map.new) lists.new.created.now lists.new.modified.now lists.new.deleted.now lists.new.warnings.now result ≡ D.split_made drawn (D.cutting_of drawn seen.now cut.now marks.now pieces.now lines.now centers.now) anchored.now past.now (map_tables map.old) lists.old.created.now lists.old.modified.now lists.old.deleted.now lists.old.warnings.now }
+    requires { D.Makeable drawn (cutting_by cuts) anchored.now past.now (map_tables map.old) }
+    ensures made { D.left (map_tables map.new) lists.new.created.now lists.new.modified.now lists.new.deleted.now lists.new.warnings.now result ≡ D.split_made drawn (cutting_by cuts.entry) anchored.now past.now (map_tables map.old) lists.old.created.now lists.old.modified.now lists.old.deleted.now lists.old.warnings.now }
     ensures same { SameSlices map.old map.new }
     ensures same_lists { SameLists lists.old lists.new }
 {
@@ -270,17 +230,15 @@ pub fn make(
     let deleted = &mut *lists.deleted;
     let warnings = &mut *lists.warnings;
     let counts = count(
-        drawn, lanes, boundaries, roads, junctions, rules, seen, cut, marks, pieces, anchored, past,
+        drawn, lanes, boundaries, roads, junctions, rules, cuts, anchored, past,
     );
     if !room::lists_fit(counts, created, modified, deleted, warnings) {
         return Err(Refusal::NoRoom);
     }
     write_lists(
-        drawn, lanes, boundaries, roads, junctions, rules, seen, cut, marks, pieces, anchored,
-        past, created, modified, warnings,
+        drawn, lanes, boundaries, roads, junctions, rules, cuts, anchored, past, created, modified,
+        warnings,
     );
-    write(
-        map, drawn, seen, cut, marks, pieces, lines, centers, anchored, past,
-    );
-    answer(cut, drawn.own, drawn.next, counts)
+    write(map, drawn.points, cuts, anchored, past);
+    answer(cuts.cut, drawn.own, cuts.next, counts)
 }

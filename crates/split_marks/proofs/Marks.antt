@@ -1,8 +1,7 @@
 -- Marks by row, one behind the other, and what a row's list names. Assumes nothing.
-use Rattle.std.specs.Prelude.{Option, None, Some}
+use Rattle.std.specs.Prelude.{Option, None, Some, is_some}
 use mathlib.Core.Path.{◌≡◌, refl, sym, ap, ◌∙◌}
 use Prim.Native.Nat.{ℕ, zero, suc, ◌+◌, ◌-◌, ◌*◌, ◌≤◌, ◌<◌}
-use native.Mathlib.Nat.{le_of_suc-le-suc, not-suc-le-zero}
 use native.Mathlib.Numerals.{add-one}
 use native.Mathlib.Omega.{arith}
 use mathlib.Core.Bool.{Bool, true, false, ◌||◌, cond}
@@ -11,6 +10,8 @@ use lib.Dec.{eqb, leb}
 use lib.ListN.{length, get_or, set, take, drop, length-set, length-map, drop_of_length-le}
 use lib.Seq.{take_all, take-suc, take-take, drop-cons, drop-drop, get_or-take, get_or-drop, length-take-le}
 use borrow.Author.Tests.{leb-true}
+use Rattle.std.specs.List.{count_by}
+use Rattle.std.proofs.lemmas.List.Recursion.{is_count_by}
 use Rattle.lists.specs.Rows.{over, keys, row_with}
 use Rattle.lists.specs.Select.{any, has}
 use Rattle.lists.proofs.Every.{all_get_d}
@@ -22,34 +23,35 @@ use Rattle.split_marks.specs.Touched.{names_cut, names_at, lane_touched, lane_at
 
 -- ---- a list of ids
 
-module _ (cut ids : List ℕ) (n : ℕ) (h : n ≤ length ids) where
+there-some : (r : Option ℕ) → there r ≡ is_some r
+there-some (Some j) = refl
+there-some None = refl
+
+module _ (cut ids : List ℕ) where
   -- those from number i on name a cut lane
   abbrev pub names_from : ℕ → Bool
-  names_from i = any (λ k. has k cut) (drop i (take n ids))
+  names_from i = any (λ k. has k cut) (drop i ids)
 
-  module _ (i : ℕ) (d : i < n) (r : Option ℕ) (e : r ≡ row_with (get_or ids i 0) (keys 1 (length cut) cut)) where
-    names-turn : names_from i ≡ (there r || names_from (i + 1))
+  module _ (i : ℕ) (d : i < length ids) (r : Option ℕ) (e : r ≡ row_with (get_or ids i 0) (keys 1 (length cut) cut)) where
+    names-turn : names_from i ≡ (is_some r || names_from (i + 1))
     unfolding any
-    names-turn =
-        let l : i < length (take n ids) = rw (length-take-le n ids h) d in
-        rw (add-one, drop-cons (take n ids) i 0 l, get_or-take n ids i 0 d, one_has (get_or ids i 0) cut r e)
+    names-turn = rw (add-one, drop-cons ids i 0 d, one_has (get_or ids i 0) cut r e, there-some r)
 
-    pub names-found : (j : ℕ) → r ≡ Some j → names_from i ≡ true
-    names-found j f = names-turn ∙ rw f
+    pub names-found : is_some r ≡ true → names_from i ≡ true
+    names-found f = names-turn ∙ rw f
 
-    pub names-other : r ≡ None → names_from i ≡ names_from (i + 1)
+    pub names-other : is_some r ≡ false → names_from i ≡ names_from (i + 1)
     names-other f = names-turn ∙ rw f
 
-  pub names-end : (i : ℕ) → n ≤ i → names_from i ≡ false
+  pub names-end : (i : ℕ) → length ids ≤ i → names_from i ≡ false
   unfolding any
-  names-end i l = let k : length (take n ids) ≤ i = rw (length-take-le n ids h) l in rw (drop_of_length-le (take n ids) k)
+  names-end i l = rw (drop_of_length-le ids l)
 
 -- the list, as it is lent
-pub names-lent : (cut t : List ℕ) (at n : ℕ) → n ≡ get_or t at 0 → (r : Bool) → r ≡ any (λ k. has k cut) (take n (take (at + 1 + n - (at + 1)) (drop (at + 1) t))) → r ≡ names_at cut at t
+pub names-lent : (cut t : List ℕ) (at n : ℕ) → n ≡ get_or t at 0 → (r : Bool) → r ≡ any (λ k. has k cut) (take (at + 1 + n - (at + 1)) (drop (at + 1) t)) → r ≡ names_at cut at t
 names-lent cut t at n f r e =
     let m : at + 1 + n - (at + 1) ≡ n = omega arith in
-    let l : n ≤ n = omega arith in
-    e ∙ rw (m, take-take n n (drop (at + 1) t) l, add-one at, f)
+    e ∙ rw (m, add-one at, f)
 
 -- ---- the first n marks
 
@@ -69,16 +71,22 @@ marked_more (c ∷ bs) b = go c b (marked_more bs b)
     go false true e = e
     go false false e = e
 
-marked-front : (bs : List Bool) (i n : ℕ) → i ≤ n → marked (take i bs) ≤ marked (take n bs)
+-- as the library counts
+marked-step : (b : Bool) (bs : List Bool) → marked (b ∷ bs) ≡ cond b (1 + marked bs) (marked bs)
 unfolding marked
-marked-front [] zero zero h = omega arith
-marked-front [] zero (suc n) h = omega arith
-marked-front [] (suc i) zero h = absurd (not-suc-le-zero h)
-marked-front [] (suc i) (suc n) h = omega arith
-marked-front (b ∷ bs) zero n h = omega arith
-marked-front (b ∷ bs) (suc i) zero h = absurd (not-suc-le-zero h)
-marked-front (true ∷ bs) (suc i) (suc n) h = omega (arith, marked-front bs i n (le_of_suc-le-suc h))
-marked-front (false ∷ bs) (suc i) (suc n) h = marked-front bs i n (le_of_suc-le-suc h)
+marked-step true bs = omega arith
+marked-step false bs = refl
+
+pub marked-count : (bs : List Bool) → marked bs ≡ count_by (λ b. b) bs
+marked-count bs = is_count_by marked (λ b. b) marked-none marked-step bs
+
+marked-front : (bs : List Bool) (i : ℕ) → marked (take i bs) ≤ marked bs
+unfolding marked
+marked-front [] zero = omega arith
+marked-front [] (suc i) = omega arith
+marked-front (b ∷ bs) zero = omega arith
+marked-front (true ∷ bs) (suc i) = omega (arith, marked-front bs i)
+marked-front (false ∷ bs) (suc i) = marked-front bs i
 
 module _ (bs : List Bool) (i : ℕ) (h : i < length bs) where
   front-more : take (i + 1) bs ≡ take i bs ++ (get_or bs i false ∷ [])
@@ -90,8 +98,8 @@ module _ (bs : List Bool) (i : ℕ) (h : i < length bs) where
   pub marked-same : get_or bs i false ≡ false → marked (take (i + 1) bs) ≡ marked (take i bs)
   marked-same q = ap marked front-more ∙ marked_more (take i bs) (get_or bs i false) ∙ rw q
 
-  pub marked-there : (n : ℕ) → i < n → get_or bs i false ≡ true → marked (take i bs) + 1 ≤ marked (take n bs)
-  marked-there n d q = omega (arith, marked-one q, marked-front bs (i + 1) n (omega arith))
+  pub marked-there : get_or bs i false ≡ true → marked (take i bs) + 1 ≤ marked bs
+  marked-there q = omega (arith, marked-one q, marked-front bs (i + 1))
 
 -- ---- those that keep their ids
 
@@ -115,7 +123,7 @@ alone-more pieces j (true ∷ bs) b =
 alone-more pieces j (false ∷ bs) b = ap (λ (z : List Bool). false ∷ z) (alone-more pieces j bs b)
 
 -- marked up to row i; j is how many of them are cut
-module _ (cut : List Bool) (n : ℕ) (pieces : List ℕ) (w : List Bool) where
+module _ (cut : List Bool) (pieces : List ℕ) (w : List Bool) where
   pub record Alone (j i : ℕ) (v : List Bool) : Type 0 where
     pub few : j ≤ i
     pub same : length v ≡ length w
@@ -125,30 +133,29 @@ module _ (cut : List Bool) (n : ℕ) (pieces : List ℕ) (w : List Bool) where
   pub alone-begins : Alone 0 0 w
   alone-begins = record { few = omega arith; same = refl; counted = sym marked-none; written = unfold alone_from in sym (over-nil w 0) }
 
-  module _ (p : n ≤ length cut) (q : n ≤ length w) (j i : ℕ) (v : List Bool) (h : Alone j i v) (d : i < n) where
+  module _ (q : length cut ≤ length w) (j i : ℕ) (v : List Bool) (h : Alone j i v) (d : i < length cut) where
     next : (b : Bool) → b ≡ alone_mark pieces j (get_or cut i false) → (length (set v i b) ≡ length w) × (set v i b ≡ over w 0 (alone_from pieces 0 (take (i + 1) cut)))
     next b e =
-        let l : i < length cut = omega arith in
         let k : 0 + marked (take i cut) ≡ j = omega (arith, h.counted) in
         let a = alone_from pieces 0 (take i cut) in
         let m : 0 + length a ≡ i = omega (arith, alone-length pieces 0 (take i cut), length-take-le i cut (omega arith)) in (
           length-set v i b ∙ h.same,
           ap (λ (z : List Bool). set z i b) h.written ∙ store-behind w 0 i a b m (omega arith)
-              ∙ ap (over w 0) (sym (ap (alone_from pieces 0) (front-more cut i l) ∙ alone-more pieces 0 (take i cut) (get_or cut i false) ∙ rw (k, ← e))),
+              ∙ ap (over w 0) (sym (ap (alone_from pieces 0) (front-more cut i d) ∙ alone-more pieces 0 (take i cut) (get_or cut i false) ∙ rw (k, ← e))),
         )
 
-    pub alone-room : marked (take n cut) * 3 ≤ length pieces → get_or cut i false ≡ true → j * 3 + 3 ≤ length pieces
-    alone-room r g = omega (arith, h.counted, marked-there cut i (omega arith) n d g)
+    pub alone-room : marked cut * 3 ≤ length pieces → get_or cut i false ≡ true → j * 3 + 3 ≤ length pieces
+    alone-room r g = omega (arith, h.counted, marked-there cut i d g)
 
     pub alone-cut : get_or cut i false ≡ true → Alone (j + 1) (i + 1) (set v i (eqb (get_or pieces (j * 3 + 1) 0) (get_or pieces (j * 3) 0)))
     alone-cut g =
         let x = next (eqb (get_or pieces (j * 3 + 1) 0) (get_or pieces (j * 3) 0)) (rw g) in
-        record { few = omega (arith, h.few); same = x.0; counted = omega (arith, h.counted, marked-one cut i (omega arith) g); written = x.1 }
+        record { few = omega (arith, h.few); same = x.0; counted = omega (arith, h.counted, marked-one cut i d g); written = x.1 }
 
     pub alone-left : get_or cut i false ≡ false → Alone j (i + 1) (set v i false)
     alone-left g =
         let x = next false (rw g) in
-        record { few = omega (arith, h.few); same = x.0; counted = h.counted ∙ sym (marked-same cut i (omega arith) g); written = x.1 }
+        record { few = omega (arith, h.few); same = x.0; counted = h.counted ∙ sym (marked-same cut i d g); written = x.1 }
 
 -- ---- a test of every row
 

@@ -1,7 +1,7 @@
 // edit/split.rs: which rows a split touches, as marks by row, found before anything lent is written.
 #![tactic(auto)]
 
-ghost use Rattle.std.specs.Prelude.{◌≡◌, true, ◌+◌, ◌*◌, ◌≤◌, ◌<◌, length, take};
+ghost use Rattle.std.specs.Prelude.{◌≡◌, true, ◌+◌, ◌*◌, ◌≤◌, ◌<◌, length};
 ghost use Rattle.lists.specs.Rows.{over};
 ghost use Rattle.lists.specs.Select.{any, ascending, has};
 ghost use Rattle.tables.specs.View.{word};
@@ -12,18 +12,14 @@ use tables::{LANE, PREDECESSORS};
 // Words of a piece's row.
 const PIECE: usize = 3;
 
-// Whether a list of n ids names a cut lane.
-pub fn names_cut(ids: &[u64], n: usize, cut: &[u64]) -> bool
-    requires { (n ≤ length ids.now) × (ascending cut.now ≡ true) }
-    ensures { result ≡ any (λ i. has i cut.now) (take n ids.now) }
+// Whether a list of ids names a cut lane.
+pub fn names_cut(ids: &[u64], cut: &[u64]) -> bool
+    requires { ascending cut.now ≡ true }
+    ensures { result ≡ any (λ i. has i cut.now) ids.now }
 {
-    for i in 0..n {
-        let found = rank::rank(cut, ids[i]);
-        match found {
-            Some(_) => {
-                return true;
-            }
-            None => {}
+    for id in ids {
+        if rank::rank(cut, *id).is_some() {
+            return true;
         }
     }
     false
@@ -38,7 +34,7 @@ fn row_names(t: &[u64], row: usize, k: usize, cut: &[u64]) -> bool
     let n = t[at] as usize;
     let from = at + 1;
     let to = from + n;
-    names_cut(&t[from..to], n, cut)
+    names_cut(&t[from..to], cut)
 }
 
 // The rows of s words whose lists at place k name a cut lane.
@@ -75,13 +71,13 @@ pub fn mark_lanes(t: &[u64], cut: &[u64], marks: &mut [bool])
 }
 
 // The boundaries that are cut and keep their ids.
-pub fn mark_alone(cut: &[bool], n: usize, pieces: &[u64], marks: &mut [bool])
-    requires { (n ≤ length cut.now) × ((n ≤ length marks.old) × (D.marked (take n cut.now) * 3 ≤ length pieces.now)) }
-    ensures { marks.new ≡ over marks.old 0 (D.alone_from pieces.now 0 (take n cut.now)) }
+pub fn mark_alone(cut: &[bool], pieces: &[u64], marks: &mut [bool])
+    requires { (length cut.now ≤ length marks.old) × (D.marked cut.now * 3 ≤ length pieces.now) }
+    ensures { marks.new ≡ over marks.old 0 (D.alone_from pieces.now 0 cut.now) }
 {
     let mut j = 0;
-    for i in 0..n {
-        if cut[i] {
+    for (i, is_cut) in cut.iter().enumerate() {
+        if *is_cut {
             let at = j * PIECE;
             marks[i] = pieces[at + 1] == pieces[at];
             j += 1;
@@ -91,16 +87,9 @@ pub fn mark_alone(cut: &[bool], n: usize, pieces: &[u64], marks: &mut [bool])
     }
 }
 
-// How many of the first n are marked.
-pub fn count_marks(marks: &[bool], n: usize) -> usize
-    requires { n ≤ length marks.now }
-    ensures { (result ≡ D.marked (take n marks.now)) × (result ≤ n) }
+// How many are marked.
+pub fn count_marks(marks: &[bool]) -> usize
+    ensures { (result ≡ D.marked marks.now) × (result ≤ length marks.now) }
 {
-    let mut count = 0;
-    for i in 0..n {
-        if marks[i] {
-            count += 1;
-        }
-    }
-    count
+    marks.iter().filter(|mark| **mark).count()
 }

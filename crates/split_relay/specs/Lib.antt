@@ -1,1 +1,2 @@
 pub mod Relaying
+pub mod Given

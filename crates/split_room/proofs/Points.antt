@@ -1,13 +1,13 @@
 -- Points after a split: pieces that are short enough, and sums over rows of which the marked ones are numbered. Assumes nothing.
 use mathlib.Core.Path.{◌≡◌, refl, sym, ap, ◌∙◌}
-use Prim.Native.Nat.{ℕ, zero, suc, ◌+◌, ◌-◌, ◌*◌, ◌≤◌, ◌<◌}
+use Prim.Native.Nat.{ℕ, zero, suc, ◌+◌, ◌*◌, ◌/◌, ◌≤◌, ◌<◌}
 use native.Mathlib.Numerals.{add-one}
 use native.Mathlib.Omega.{arith}
 use mathlib.Core.Bool.{Bool, true, false, not, ◌&&◌, cond}
-use mathlib.Core.List.{List, [], ◌∷◌}
+use mathlib.Core.List.{List, [], ◌∷◌, ◌++◌}
 use lib.Dec.{eqb, leb}
 use lib.ListN.{length, get_or, take, drop, length-append, drop_of_length-le}
-use lib.Seq.{drop-cons, drop-drop}
+use lib.Seq.{drop-cons, drop-drop, get_or-take, length-take-le}
 use borrow.Author.Tests.{eq-eqb, ne_eqb, leb-true, le-leb}
 use Rattle.lists.specs.Every.{all}
 use Rattle.lists.proofs.Every.{all_head, all_tail}
@@ -29,24 +29,50 @@ both-then : (x y z b : Bool) → b ≡ (x && y) → (x && (y && z)) ≡ (b && z)
 both-then true y z b e = rw e
 both-then false y z b e = rw e
 
-module _ (lines : List ℕ) (n j : ℕ) (v : pieces_fit lines 0 n ≡ pieces_fit lines j (n - j)) where
-  pub fit-ends : n ≤ j → true ≡ pieces_fit lines 0 n
+-- one line before those that are left
+fit-behind : (x y z : ℕ) (w : List ℕ) (j n : ℕ) → pieces_fit (x ∷ y ∷ z ∷ w) (suc j) n ≡ pieces_fit w j n
+unfolding pieces_fit
+fit-behind x y z w j zero = refl
+fit-behind x y z w j (suc n) =
+    let d : suc j * 3 + 1 ≡ suc (suc (suc (j * 3 + 1))) = omega arith in
+    let e : suc j * 3 + 2 ≡ suc (suc (suc (j * 3 + 2))) = omega arith in
+    rw (d, e, fit-behind x y z w (suc j) n)
+
+fit-first : (line rest : List ℕ) → length line ≡ 3 → (b : Bool) → b ≡ (leb (get_or line 1 0) 256 && leb (get_or line 2 0) 256) → pieces_fit (line ++ rest) 0 (length (line ++ rest) / 3) ≡ (b && pieces_fit rest 0 (length rest / 3))
+unfolding pieces_fit
+fit-first (x ∷ y ∷ z ∷ []) rest h b e =
+    let n : length (x ∷ y ∷ z ∷ rest) / 3 ≡ suc (length rest / 3) = omega arith in
+    rw (n, fit-behind x y z rest 0 (length rest / 3)) (both-then (leb y 256) (leb z 256) (pieces_fit rest 0 (length rest / 3)) b e)
+fit-first [] rest h b e = absurd (omega arith)
+fit-first (x ∷ []) rest h b e = absurd (omega arith)
+fit-first (x ∷ y ∷ []) rest h b e = absurd (omega arith)
+fit-first (x ∷ y ∷ z ∷ u ∷ us) rest h b e = absurd (omega arith)
+
+module _ (w : List ℕ) where
+  pub fit-ends : length w < 3 → pieces_fit w 0 (length w / 3) ≡ true
   unfolding pieces_fit
-  fit-ends h = let e : n - j ≡ 0 = omega arith in sym (v ∙ rw e)
+  fit-ends h = let e : length w / 3 ≡ 0 = omega arith in rw e
 
-  module _ (h : j < n) (b : Bool) (e : b ≡ (leb (get_or lines (j * 3 + 1) 0) 256 && leb (get_or lines (j * 3 + 2) 0) 256)) where
-    fit-step : pieces_fit lines j (n - j) ≡ (b && pieces_fit lines (j + 1) (n - (j + 1)))
-    unfolding pieces_fit
-    fit-step =
-        let m : n - j ≡ suc (n - (j + 1)) = omega arith in
-        let s : j + 1 ≡ suc j = omega arith in
-        rw (m, s) (both-then (leb (get_or lines (j * 3 + 1) 0) 256) (leb (get_or lines (j * 3 + 2) 0) 256) (pieces_fit lines (suc j) (n - suc j)) b e)
+  module _ (line rest : List ℕ) (f : w ≡ line ++ rest) (h : length line ≡ 3) (b : Bool) (e : b ≡ (leb (get_or line 1 0) 256 && leb (get_or line 2 0) 256)) where
+    pub fit-stops : not b ≡ true → pieces_fit w 0 (length w / 3) ≡ false
+    fit-stops q = rw f (fit-first line rest h b e ∙ rw (not-true b q))
 
-    pub fit-stops : not b ≡ true → false ≡ pieces_fit lines 0 n
-    fit-stops q = sym (v ∙ fit-step ∙ rw (not-true b q))
+    pub fit-goes-on : not b ≡ false → pieces_fit w 0 (length w / 3) ≡ pieces_fit rest 0 (length rest / 3)
+    fit-goes-on q = rw f (fit-first line rest h b e ∙ rw (not-false b q))
 
-    pub fit-goes-on : not b ≡ false → pieces_fit lines 0 n ≡ pieces_fit lines (j + 1) (n - (j + 1))
-    fit-goes-on q = v ∙ fit-step ∙ rw (not-false b q)
+-- the first n lines, lent as their part
+fit-front : (lines : List ℕ) (m j n : ℕ) → (j + n) * 3 ≤ m → pieces_fit (take m lines) j n ≡ pieces_fit lines j n
+unfolding pieces_fit
+fit-front lines m j zero h = refl
+fit-front lines m j (suc n) h =
+    let d : j * 3 + 1 < m = omega arith in
+    let e : j * 3 + 2 < m = omega arith in
+    rw (get_or-take m lines (j * 3 + 1) 0 d, get_or-take m lines (j * 3 + 2) 0 e, fit-front lines m (suc j) n (omega arith))
+
+pub fit-part : (lines : List ℕ) (n : ℕ) → n * 3 ≤ length lines → pieces_fit (take (n * 3) lines) 0 (length (take (n * 3) lines) / 3) ≡ pieces_fit lines 0 n
+fit-part lines n h =
+    let e : length (take (n * 3) lines) / 3 ≡ n = omega (arith, length-take-le (n * 3) lines h) in
+    rw e (fit-front lines (n * 3) 0 n (omega arith))
 
 -- ---- a sum over rows: a marked one counts by its number among the marked, another by itself
 

@@ -1,7 +1,7 @@
 // edit/split.rs: whether the map after a split has room: points, lines of at most 256 points, lists of at most 64 ids. Nothing lent is written.
 #![tactic(auto)]
 
-ghost use Rattle.std.specs.Prelude.{◌≡◌, true, ◌+◌, ◌*◌, ◌≤◌, ◌<◌, length};
+ghost use Rattle.std.specs.Prelude.{◌≡◌, true, ◌+◌, ◌*◌, ◌≤◌, ◌<◌, ◌/◌, length};
 ghost use Rattle.lists.specs.Select.{ascending};
 ghost use Rattle.tables.specs.View.{word, rows};
 ghost use Rattle.tables.specs.Formed.{rule_formed};
@@ -25,17 +25,12 @@ const MAX_IDS: usize = 64;
 
 // ---- points
 
-// Whether each piece of n measured lines has at most 256 points.
-pub fn pieces_fit(lines: &[u64], n: usize) -> bool
-    requires { n * 3 ≤ length lines.now }
-    ensures { result ≡ D.pieces_fit lines.now 0 n }
+// Whether each piece of the measured lines has at most 256 points.
+pub fn pieces_fit(lines: &[u64]) -> bool
+    ensures { result ≡ D.pieces_fit lines.now 0 (length lines.now / 3) }
 {
-    for j in 0..n {
-        let at = j * PIECE;
-        if !both(
-            lines[at + 1] <= MAX_LINE_POINTS,
-            lines[at + 2] <= MAX_LINE_POINTS,
-        ) {
+    for line in lines.chunks_exact(PIECE) {
+        if !both(line[1] <= MAX_LINE_POINTS, line[2] <= MAX_LINE_POINTS) {
             return false;
         }
     }

@@ -104,14 +104,9 @@ module _ (t : List ℕ) (h : counted 512 330 t ≡ true) (i : ℕ) (d : i < word
 
   -- whether it names a cut lane
   module _ (cut : List ℕ) (n : ℕ) (e : n ≡ get_or t (1 + i * 330 + 5 + 1 - 1) 0) (b : Bool)
-      (f : b ≡ any (λ k. has k cut) (take n (take (1 + i * 330 + 5 + 1 + n - (1 + i * 330 + 5 + 1)) (drop (1 + i * 330 + 5 + 1) t)))) where
+      (f : b ≡ any (λ k. has k cut) (take (1 + i * 330 + 5 + 1 + n - (1 + i * 330 + 5 + 1)) (drop (1 + i * 330 + 5 + 1) t))) where
     named : any (λ k. has k cut) (ids_at 5 (row_at 330 t i)) ≡ b
-    named =
-        let m : 1 + i * 330 + 5 + 1 + n - (1 + i * 330 + 5 + 1) ≡ n = omega arith in
-        let l : n ≤ n = omega arith in
-        let w = drop (1 + i * 330 + 5 + 1) t in
-        let z : take n (take (1 + i * 330 + 5 + 1 + n - (1 + i * 330 + 5 + 1)) w) ≡ ids_at 5 (row_at 330 t i) = rw (m, take-take n n w l) (rw m at (ids-lent n e)) in
-        sym (f ∙ ap (any (λ k. has k cut)) z)
+    named = sym (f ∙ ap (any (λ k. has k cut)) (ids-lent n e))
 
     module _ (c : List Float) (stops crosswalks : List ℕ) where
       pub anchor_named : b ≡ true → (r : Option Point2) → r ≡ rule_anchor (crossed c stops crosswalks) (rule_of (row_at 330 t i)) → r ≡ anchor_of c stops crosswalks cut (row_at 330 t i)

@@ -97,7 +97,7 @@ fn anchor_of(
     let from = 1 + i * RULE + RULE_LANES + 1;
     let n = rules[from - 1] as usize;
     let to = from + n;
-    if split_marks::names_cut(&rules[from..to], n, cut) {
+    if split_marks::names_cut(&rules[from..to], cut) {
         return anchors::rule_anchor(rules, i, stop_lines, crosswalks, coordinates);
     }
     None

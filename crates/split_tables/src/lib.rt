@@ -44,12 +44,7 @@ fn point_rows(t: &mut [u64], pieces: &[u64], m: usize, lines: &[u64])
     requires { (counted 4096 5 t.old ≡ true) × ((m * 3 ≤ length pieces.now) × ((ascending (keys 3 m pieces.now) ≡ true) × (m * 3 ≤ length lines.now))) }
     ensures { t.new ≡ on_rows 5 (D.pointed_piece pieces.now m lines.now) t.old }
 {
-    let n = t[0] as usize;
-    for i in 0..n {
-        let at = 1 + i * BOUNDARY;
-        let end = at + BOUNDARY;
-        point_row(&mut t[at..end], pieces, m, lines);
-    }
+    row_walk::each_row(t, BOUNDARY, |row| point_row(row, pieces, m, lines));
 }
 
 // The new pieces of number j, of the boundary in row x, behind the last row.

@@ -13,10 +13,7 @@ use Rattle.report.specs.Report.{listed}
 use Rattle.split_plan.specs.Placing.{picked}
 use Rattle.split_marks.specs.Touched.{marked}
 use Rattle.split_lists.specs.Changes.{marked_ids, modified_by}
-use Rattle.split_touched.specs.Modified.{Rows, Marks, marks_of, blank, Told, touched_by, listed_by, modified_of, AllRows}
-
-pub five : {a b c d e a' b' c' d' e' : List Bool} → a ≡ a' → b ≡ b' → c ≡ c' → d ≡ d' → e ≡ e' → marks_of a b c d e ≡ marks_of a' b' c' d' e'
-five p q r s t = rw (p, q, r, s, t)
+use Rattle.split_touched.specs.Modified.{Rows, Marks, blank, Told, touched_by, listed_by, modified_of, AllRows}
 
 -- ---- as many as marks
 

@@ -40,7 +40,7 @@ fn touch(
     ensures { M.marks_of lane_marks.new alone.new road_marks.new junction_marks.new rule_marks.new ≡ M.touched_by (M.told cut.now marks.now pieces.now anchored.now past.now) (M.rows_of lanes.now boundaries.now roads.now junctions.now rules.now) (M.marks_of lane_marks.old alone.old road_marks.old junction_marks.old rule_marks.old) }
 {
     split_marks::mark_lanes(lanes, cut, lane_marks);
-    split_marks::mark_alone(marks, boundaries[0] as usize, pieces, alone);
+    split_marks::mark_alone(&marks[..boundaries[0] as usize], pieces, alone);
     split_marks::mark_rows(roads, ROAD, ROAD_LANES, cut, road_marks);
     split_marks::mark_rows(junctions, JUNCTION, JUNCTION_LANES, cut, junction_marks);
     follows::mark_rules(rules, cut, anchored, past, rule_marks);
@@ -84,11 +84,11 @@ pub fn count_modified(
         &mut junction_marks,
         &mut rule_marks,
     );
-    split_marks::count_marks(&lane_marks, lanes[0] as usize)
-        + split_marks::count_marks(&alone, boundaries[0] as usize)
-        + split_marks::count_marks(&road_marks, roads[0] as usize)
-        + split_marks::count_marks(&junction_marks, junctions[0] as usize)
-        + split_marks::count_marks(&rule_marks, rules[0] as usize)
+    split_marks::count_marks(&lane_marks[..lanes[0] as usize])
+        + split_marks::count_marks(&alone[..boundaries[0] as usize])
+        + split_marks::count_marks(&road_marks[..roads[0] as usize])
+        + split_marks::count_marks(&junction_marks[..junctions[0] as usize])
+        + split_marks::count_marks(&rule_marks[..rules[0] as usize])
 }
 
 // They are listed.

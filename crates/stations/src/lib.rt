@@ -178,19 +178,13 @@ fn share(len: f64, i: usize, parts: usize) -> f64
     len * (i as f64) / (parts as f64)
 }
 
-fn at_least_two(count: usize) -> usize
-    ensures { result ≡ max count 2 }
-{
-    if count < 2 { 2 } else { count }
-}
-
 pub fn resample_points(line: &[f64], n: usize) -> usize
     ensures { result ≡ length (L.resample_count (points line.now) n) }
 {
     if polyline::count(line) == 0 {
         return 0;
     }
-    at_least_two(n)
+    n.max(2)
 }
 
 pub fn resample_count(line: &[f64], n: usize, out: &mut [f64]) -> usize
@@ -200,18 +194,12 @@ pub fn resample_count(line: &[f64], n: usize, out: &mut [f64]) -> usize
     if polyline::count(line) == 0 {
         return 0;
     }
-    let wanted = at_least_two(n);
+    let wanted = n.max(2);
     let len = polyline::length(line);
     for i in 0..wanted {
         put_optional(out, i, polyline::point_at(line, share(len, i, wanted - 1)));
     }
     wanted
-}
-
-fn larger(a: usize, b: usize) -> usize
-    ensures { result ≡ max a b }
-{
-    if a < b { b } else { a }
 }
 
 // 0 where a side is empty.
@@ -226,7 +214,7 @@ pub fn centerline_points(left: &[f64], right: &[f64]) -> usize
     if b == 0 {
         return 0;
     }
-    at_least_two(larger(a, b))
+    a.max(b).max(2)
 }
 
 // Half way between two points, if both are there.

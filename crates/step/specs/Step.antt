@@ -1,6 +1,8 @@
 -- One call of the editor on lent memory: document 01's edits and refusals on the map that it holds, written back.
 use Rattle.std.specs.Prelude.{ℕ, ◌/◌, cond, List, length, Float, Option, Err}
 use Rattle.entities.specs.Records.{Map, ChangeSet}
+use Rattle.lent.specs.declared.Map as M
+use Rattle.lent.specs.declared.Lists as L
 use Rattle.rules.specs.Names.{Tolerance, Refusal, Unsound}
 use Rattle.rules.specs.Sound.{Lists}
 use Rattle.rules.specs.Ops as O
@@ -92,6 +94,10 @@ lent_of counter lanes boundaries roads junctions rules stops crosswalks coordina
       deleted = deleted;
       warnings = warnings;
     }
+
+-- the same of a map and lists that are one value each
+abbrev pub given : ℕ → M.Map → L.Lists → Lent
+given counter m l = lent_of counter m.lanes.now m.boundaries.now m.roads.now m.junctions.now m.rules.now m.stop_lines.now m.crosswalks.now m.coordinates.now l.created.now l.modified.now l.deleted.now l.warnings.now
 
 abbrev pub ended : Lent → Answer → Ended
 ended l a = record { lent = l; answer = a }

@@ -1,4 +1,5 @@
 -- One turn of reading a table, of any elements. Assumes nothing.
+use Rattle.std.specs.Prelude.{min}
 use mathlib.Core.Path.{◌≡◌, refl, sym, ap, ◌∙◌}
 use Prim.Native.Nat.{ℕ, zero, suc, ◌+◌, ◌-◌, ◌≤◌, ◌<◌}
 use native.Mathlib.Nat.{sub-zero, zero-add}
@@ -10,7 +11,7 @@ use lib.Seq.{take-suc-set, take_all, append_snoc, length-take-le}
 use Rattle.lists.specs.Rows.{over}
 use Rattle.stream.specs.declared.Taken.{Taken}
 use Rattle.stream.specs.declared.Part.{Part}
-use Rattle.stream.specs.Numbers.{number_at, behind, read_by, behind_all, least, part}
+use Rattle.stream.specs.Numbers.{number_at, behind, read_by, behind_all, part}
 
 module _ {A : Type 0} (f : ℕ → A) (s : List ℕ) where
   pub length-read : (k at : ℕ) → length (read_by f k s at) ≡ k
@@ -64,7 +65,7 @@ module _ {A : Type 0} (f : ℕ → A) (s : List ℕ) where
 -- ---- a table into the front of an array
 
 module _ {A : Type 0} (f : ℕ → A) (s : List ℕ) (from : ℕ) (t v : List A) (n : Taken) (size next : ℕ) (p : n ≡ record { value = number_at s from; next = behind s from })
-    (q : size ≡ least n.value (length t)) (h : size ≤ length t) (r : v ≡ read_by f (length (take size t)) s n.next)
+    (q : size ≡ min n.value (length t)) (h : size ≤ length t) (r : v ≡ read_by f (length (take size t)) s n.next)
     (b : next ≡ behind_all (length (take size t)) s n.next) where
   all-of-it : length (take size t) ≡ size
   all-of-it = length-take-le size t h
@@ -77,7 +78,7 @@ module _ {A : Type 0} (f : ℕ → A) (s : List ℕ) (from : ℕ) (t v : List A)
 
   pub part-told : ◌≡◌ {A = Part} (record { size = size; next = next }) (part (length t) s from)
   part-told =
-      let e : size ≡ least (number_at s from) (length t) = q ∙ ap (λ (x : Taken). least x.value (length t)) p in
+      let e : size ≡ min (number_at s from) (length t) = q ∙ ap (λ (x : Taken). min x.value (length t)) p in
       let g : next ≡ behind_all size s (behind s from) = b ∙ rw (all-of-it, behind-length) in
       rw (g, e)
 

@@ -1,5 +1,5 @@
 -- The numbers of a stored stream (oracle/FORMAT.md): seven bits a byte, the least first, the top bit set on all but the last byte.
-use Rattle.std.specs.Prelude.{ℕ, zero, suc, ◌+◌, ◌*◌, ◌%◌, ◌^◌, cond, List, [], ◌∷◌, ltb, get_or, drop}
+use Rattle.std.specs.Prelude.{ℕ, zero, suc, ◌+◌, ◌*◌, ◌%◌, ◌^◌, cond, List, [], ◌∷◌, ltb, get_or, drop, min}
 use Rattle.stream.specs.declared.Taken.{Taken}
 use Rattle.stream.specs.declared.Part.{Part}
 
@@ -42,12 +42,9 @@ unfoldable pub behind_all : ℕ → List ℕ → ℕ → ℕ
 behind_all zero s at = at
 behind_all (suc k) s at = behind_all k s (behind s at)
 
-abbrev pub least : ℕ → ℕ → ℕ
-least a b = cond (ltb a b) a b
-
 -- a table's length and its words, in an array that has so many places
 abbrev pub part : ℕ → List ℕ → ℕ → Part
-part room s at = let size = least (number_at s at) room in record { size = size; next = behind_all size s (behind s at) }
+part room s at = let size = min (number_at s at) room in record { size = size; next = behind_all size s (behind s at) }
 
 -- ---- words of eight bytes, the least first; those past the end are 0
 

@@ -133,22 +133,12 @@ pub fn fill<T: Item>(s: &[u8], from: usize, table: &mut [T]) -> usize
     at
 }
 
-// The smaller of two.
-pub fn least(a: usize, b: usize) -> usize
-    ensures { (result ≡ N.least a b) × (result ≤ b) }
-{
-    if a < b {
-        return a;
-    }
-    b
-}
-
 // A table into the front of an array: how many entries it has, and those entries. Of one that is too long, what there is room for.
 pub fn read_table<T: Item>(s: &[u8], from: usize, table: &mut [T]) -> Part
     ensures { (result ≡ N.part (length table.old) s.now from) × ((table.new ≡ over table.old 0 (N.read_by T.of_word result.size s.now (N.behind s.now from))) × ((result.size ≤ length table.new) × (result.size ≡ length (take result.size table.new)))) }
 {
     let n = number(s, from);
-    let size = least(n.value as usize, table.len());
+    let size = (n.value as usize).min(table.len());
     let next = fill(s, n.next, &mut table[..size]);
     Part { size, next }
 }

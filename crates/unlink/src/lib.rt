@@ -22,7 +22,7 @@ pub fn unlink(
 {
     let from = lanes[1 + i * LANE];
     let to = lanes[1 + j * LANE];
-    let none = report::Notice::Nothing;
+    let none = None;
     let note = report::no_op_where(!linked, from);
     let mut ids = [0; 2];
     let n = relink::links::pair_unless(!linked, from, to, &mut ids);

@@ -1,7 +1,7 @@
 // map.rs: which lanes use a boundary.
 #![tactic(auto)]
 
-ghost use Rattle.std.specs.Prelude.{◌≡◌, true, ◌||◌, ◌+◌, ◌*◌, ◌<◌};
+ghost use Rattle.std.specs.Prelude.{◌≡◌, ℕ, Bool, true, ◌||◌, ◌+◌, ◌*◌, ◌<◌, List};
 ghost use Rattle.tables.specs.View.{word};
 ghost use Rattle.lookup.specs.Lookup as K;
 
@@ -37,18 +37,27 @@ fn row_uses_outside(lanes: &[u64], i: usize, boundary: u64, one: u64, other: u64
     both(outside, row_uses(lanes, i, boundary))
 }
 
+// Whether a row of the lane table passes a test, which is given the row's number.
+fn any_row<F: Fn(usize) -> bool>(lanes: &[u64], test: F) -> bool
+    requires sorted { K.sorted_table 1024 52 lanes.now ≡ true }
+    requires takes_rows { (i : ℕ) → i < word 0 lanes.now → F.pre test i }
+    ensures { (g : List ℕ → Bool) → ((i : ℕ) (b : Bool) → i < word 0 lanes.now → F.post test i b → b ≡ g (K.row_at 52 lanes.now i)) → result ≡ K.any_row 52 g lanes.now }
+{
+    let n = lanes[0] as usize;
+    for i in 0..n {
+        if test(i) {
+            return true;
+        }
+    }
+    false
+}
+
 // Whether a lane uses a boundary.
 pub fn used(lanes: &[u64], boundary: u64) -> bool
     requires { K.sorted_table 1024 52 lanes.now ≡ true }
     ensures { result ≡ K.used lanes.now boundary }
 {
-    let n = lanes[0] as usize;
-    for i in 0..n {
-        if row_uses(lanes, i, boundary) {
-            return true;
-        }
-    }
-    false
+    any_row(lanes, |i| row_uses(lanes, i, boundary))
 }
 
 // Whether a lane that is neither of two uses a boundary.
@@ -56,13 +65,7 @@ pub fn used_outside(lanes: &[u64], boundary: u64, one: u64, other: u64) -> bool
     requires { K.sorted_table 1024 52 lanes.now ≡ true }
     ensures { result ≡ K.used_outside lanes.now boundary one other }
 {
-    let n = lanes[0] as usize;
-    for i in 0..n {
-        if row_uses_outside(lanes, i, boundary, one, other) {
-            return true;
-        }
-    }
-    false
+    any_row(lanes, |i| row_uses_outside(lanes, i, boundary, one, other))
 }
 
 // Whether another lane than `lane` uses a boundary.

@@ -1,5 +1,5 @@
 // What a host in Rust or C may call: `rt lib` in crates/voldrekka. A line is passed as the place of its coordinates, three a point, and how many
-// coordinates there are.
+// coordinates there are. A map is passed slice by slice, each with its length, as the header in include/ has it.
 #![tactic(auto)]
 
 ghost use Rattle.std.specs.Prelude.{◌≡◌, ◌++◌, cond, leb, length};

@@ -65,7 +65,7 @@ fn put_single(
 // A warning of a lane and another, in row `at`.
 fn put_pair(warnings: &mut [u64], at: usize, code: IssueCode, lane: u64, other: u64)
     requires { at * 10 + 10 ≤ length warnings.old }
-    ensures { warnings.new ≡ R.warned_at at warnings.old (R.issues (N.Pair code lane other)) }
+    ensures { warnings.new ≡ R.warned_at at warnings.old (R.issue_of (N.Pair code lane other) ∷ []) }
 {
     let row = at * WARNING;
     warnings[row + SEVERITY] = u64::from(Severity::Warning);
@@ -81,7 +81,7 @@ fn put_pair(warnings: &mut [u64], at: usize, code: IssueCode, lane: u64, other: 
 // The warning of a boundary and of the two pieces that cut lanes have in its place, in row `at`.
 fn put_pieces(warnings: &mut [u64], at: usize, boundary: u64, first: u64, second: u64)
     requires { at * 10 + 10 ≤ length warnings.old }
-    ensures { warnings.new ≡ R.warned_at at warnings.old (R.issues (N.Pieces boundary first second)) }
+    ensures { warnings.new ≡ R.warned_at at warnings.old (R.issue_of (N.Pieces boundary first second) ∷ []) }
 {
     let row = at * WARNING;
     let kind = u64::from(EntityKind::Boundary);
@@ -115,11 +115,10 @@ pub fn put_orphan(warnings: &mut [u64], at: usize, rule: u64)
 }
 
 fn put_notice(warnings: &mut [u64], at: usize, notice: Notice)
-    requires { (at + length (R.issues notice)) * 10 ≤ length warnings.old }
-    ensures { warnings.new ≡ R.warned_at at warnings.old (R.issues notice) }
+    requires { at * 10 + 10 ≤ length warnings.old }
+    ensures { warnings.new ≡ R.warned_at at warnings.old (R.issue_of notice ∷ []) }
 {
     match notice {
-        Notice::Nothing => {}
         Notice::NoOp(lane) => {
             let lanes = EntityKind::Lane;
             put_single(
@@ -154,10 +153,15 @@ fn put_notice(warnings: &mut [u64], at: usize, notice: Notice)
 }
 
 // A notice in row `at`, or nothing; the row behind.
-pub fn note(warnings: &mut [u64], at: usize, notice: Notice) -> usize
+pub fn note(warnings: &mut [u64], at: usize, notice: Option<Notice>) -> usize
     requires { (at + length (R.issues notice)) * 10 ≤ length warnings.old }
     ensures { (result ≡ at + length (R.issues notice)) × (warnings.new ≡ R.warned_at at warnings.old (R.issues notice)) }
 {
-    put_notice(warnings, at, notice);
-    at + report::notice_count(notice)
+    match notice {
+        None => at,
+        Some(told) => {
+            put_notice(warnings, at, told);
+            at + 1
+        }
+    }
 }

@@ -4,16 +4,19 @@
 // line too: its commands; the answer's number; of a refused command its place, its own number and its entity, and of a change the net lists.
 #![tactic(auto)]
 
-ghost use Rattle.std.specs.Prelude.{◌≡◌, ◌+◌, ◌<◌, ◌≤◌, length};
+ghost use Rattle.std.specs.Prelude.{◌≡◌, ◌+◌, ◌<◌, ◌≤◌, ◌^◌, length};
+ghost use Rattle.report.specs.Report as R;
 
-use entities::{Counter, EntityRef, Tolerance};
+use entities::{Command, Counter, EntityRef, Tolerance};
+use job_decided::JobEnd;
 use jobs::JobAnswer;
+use lent::{Lists, Map, MapView};
 use report::{Answer, Counts, ENTITY, WARNING};
 use std::io;
 use tables::{
-    BOUNDARY, BOUNDARY_SIZE, BOUNDARY_START, FIRST_PREDECESSOR, FIRST_SUCCESSOR, LANE, LANE_LEFT,
-    LANE_RIGHT, LEFT_LANE, LEFT_SLOT, POINT, PREDECESSORS, RIGHT_LANE, RIGHT_SLOT, RULE_KIND,
-    RULE_LANES, RULE_STOP_LINES, STOP_LINE_RULE, STOP_LINE_SIZE, STOP_LINE_START, SUCCESSORS,
+    BOUNDARY, BOUNDARY_SIZE, BOUNDARY_START, FIRST_SUCCESSOR, LANE, LANE_LEFT, LANE_RIGHT,
+    LEFT_SLOT, POINT, PREDECESSORS, RIGHT_SLOT, RULE_KIND, RULE_LANES, RULE_STOP_LINES,
+    STOP_LINE_RULE, STOP_LINE_SIZE, STOP_LINE_START, SUCCESSORS,
 };
 use words::{COMMAND, CONNECT, DISCONNECT, MERGE, REMOVE, SET_NEIGHBOR, SPLIT};
 
@@ -148,20 +151,9 @@ fn halved_row(i: usize) -> [u64; COMMAND] {
     }
 }
 
-fn station_row(i: usize) -> [u64; COMMAND] {
-    match i {
-        0 => split_row(STATION, TENTH, ALONE),
-        1 => split_row(STATION, AT_END, ALONE),
-        _ => split_row(STATION, NEAR_END, ALONE),
-    }
-}
-
-fn fraction_row(i: usize) -> [u64; COMMAND] {
-    match i {
-        0 => split_row(FRACTION, ZERO, ALONE),
-        1 => split_row(FRACTION, WHOLE, ALONE),
-        _ => split_row(FRACTION, NAN, ALONE),
-    }
+// A split at the first of three places, at the second, or else at the third.
+fn placed_row(mark: u64, places: [u64; 3], i: usize) -> [u64; COMMAND] {
+    split_row(mark, places[i.min(2)], ALONE)
 }
 
 fn alone_row(i: usize) -> [u64; COMMAND] {
@@ -190,8 +182,8 @@ fn ends_row(i: usize) -> [u64; COMMAND] {
 fn case_row(map: usize, i: usize) -> [u64; COMMAND] {
     match map {
         CASE_1 => halved_row(i),
-        CASE_3 => station_row(i),
-        CASE_4 => fraction_row(i),
+        CASE_3 => placed_row(STATION, [TENTH, AT_END, NEAR_END], i),
+        CASE_4 => placed_row(FRACTION, [ZERO, WHOLE, NAN], i),
         CASE_5 => split_row(FRACTION, HALF, ALONE),
         CASE_6 => pair_row(REMOVE, 2, 0),
         CASE_7 => alone_row(i),
@@ -334,15 +326,9 @@ const Y: usize = 1;
 // Points of a line here.
 const POINTS: u64 = 2;
 
-fn put(words: &mut [u64], at: usize, value: u64) {
-    if at < words.len() {
-        words[at] = value;
-    }
-}
-
-fn place(floats: &mut [f64], at: usize, value: f64) {
-    if at < floats.len() {
-        floats[at] = value;
+fn put<T: Copy>(table: &mut [T], at: usize, value: T) {
+    if at < table.len() {
+        table[at] = value;
     }
 }
 
@@ -454,22 +440,12 @@ fn mark(lane: u64) -> u64 {
     1
 }
 
-fn put_neighbors(lanes: &mut [u64], at: usize, left: u64, right: u64)
+// A slot or a list of one lane at most: the mark, and behind it the lane.
+fn put_marked(lanes: &mut [u64], at: usize, lane: u64)
     requires { at < 100000 }
 {
-    put(lanes, at + LEFT_SLOT, mark(left));
-    put(lanes, at + LEFT_LANE, left);
-    put(lanes, at + RIGHT_SLOT, mark(right));
-    put(lanes, at + RIGHT_LANE, right);
-}
-
-fn put_links(lanes: &mut [u64], at: usize, before: u64, behind: u64)
-    requires { at < 100000 }
-{
-    put(lanes, at + PREDECESSORS, mark(before));
-    put(lanes, at + FIRST_PREDECESSOR, before);
-    put(lanes, at + SUCCESSORS, mark(behind));
-    put(lanes, at + FIRST_SUCCESSOR, behind);
+    put(lanes, at, mark(lane));
+    put(lanes, at + 1, lane);
 }
 
 // A lane in row i.
@@ -480,8 +456,10 @@ fn put_lane(lanes: &mut [u64], i: usize, l: LaneRow)
     put(lanes, at, l.id);
     put(lanes, at + LANE_LEFT, l.left);
     put(lanes, at + LANE_RIGHT, l.right);
-    put_neighbors(lanes, at, l.beside_left, l.beside_right);
-    put_links(lanes, at, l.before, l.behind);
+    put_marked(lanes, at + LEFT_SLOT, l.beside_left);
+    put_marked(lanes, at + RIGHT_SLOT, l.beside_right);
+    put_marked(lanes, at + PREDECESSORS, l.before);
+    put_marked(lanes, at + SUCCESSORS, l.behind);
 }
 
 fn lay_lanes(lanes: &mut [u64], map: usize) {
@@ -606,10 +584,10 @@ fn put_line(coordinates: &mut [f64], i: usize, l: Ends)
 {
     let from = i * 2 * POINT;
     let to = from + POINT;
-    place(coordinates, from, l.from);
-    place(coordinates, from + Y, l.from_y);
-    place(coordinates, to, l.to);
-    place(coordinates, to + Y, l.to_y);
+    put(coordinates, from, l.from);
+    put(coordinates, from + Y, l.from_y);
+    put(coordinates, to, l.to);
+    put(coordinates, to + Y, l.to_y);
 }
 
 // Points that no line has are not read.
@@ -672,15 +650,6 @@ fn each_word(rt: &impl Print, list: &[u64], from: usize, to: usize) -> io::Resul
         next(rt, word(list, i))?;
     }
     Ok(())
-}
-
-fn least(a: usize, b: usize) -> usize
-    ensures { (result ≤ a) × (result ≤ b) }
-{
-    if a < b {
-        return a;
-    }
-    b
 }
 
 // ---- what is asked
@@ -809,7 +778,7 @@ fn warning(rt: &impl Print, list: &[u64], at: usize) -> io::Result<()>
 }
 
 fn each_warning(rt: &impl Print, list: &[u64], n: usize) -> io::Result<()> {
-    let rows = least(n, list.len() / WARNING);
+    let rows = n.min(list.len() / WARNING);
     for i in 0..rows {
         warning(rt, list, i * WARNING)?;
     }
@@ -817,39 +786,25 @@ fn each_warning(rt: &impl Print, list: &[u64], n: usize) -> io::Result<()> {
 }
 
 fn each_pair(rt: &impl Print, list: &[u64], n: usize) -> io::Result<()> {
-    let pairs = least(n, list.len() / ENTITY);
+    let pairs = n.min(list.len() / ENTITY);
     write(rt, b" |")?;
     each_word(rt, list, 0, pairs * ENTITY)
 }
 
-fn answer(
-    rt: &impl Print,
-    a: Answer,
-    created: &[u64; ROOM],
-    modified: &[u64; ROOM],
-    deleted: &[u64; ROOM],
-    warnings: &[u64; 320],
-) -> io::Result<()> {
+fn answer(rt: &impl Print, a: Answer, lists: &Lists) -> io::Result<()> {
     number(rt, report::answer_number(a))?;
     match a {
         Err(refusal) => entity(rt, refusal.entity())?,
-        Ok(made) => change(rt, made.counts, created, modified, deleted, warnings)?,
+        Ok(made) => change(rt, made.counts, lists)?,
     }
     write(rt, b"\n")
 }
 
-fn change(
-    rt: &impl Print,
-    n: Counts,
-    created: &[u64],
-    modified: &[u64],
-    deleted: &[u64],
-    warnings: &[u64],
-) -> io::Result<()> {
-    each_pair(rt, created, n.created)?;
-    each_pair(rt, modified, n.modified)?;
-    each_pair(rt, deleted, n.deleted)?;
-    each_warning(rt, warnings, n.warnings)
+fn change(rt: &impl Print, n: Counts, lists: &Lists) -> io::Result<()> {
+    each_pair(rt, lists.created, n.created)?;
+    each_pair(rt, lists.modified, n.modified)?;
+    each_pair(rt, lists.deleted, n.deleted)?;
+    each_warning(rt, lists.warnings, n.warnings)
 }
 
 // ---- jobs
@@ -908,17 +863,10 @@ fn asked_job(rt: &impl Print, rows: &[u64]) -> io::Result<()>
     write(rt, b": ")
 }
 
-fn job_answer(
-    rt: &impl Print,
-    a: JobAnswer,
-    created: &[u64; ROOM],
-    modified: &[u64; ROOM],
-    deleted: &[u64; ROOM],
-    warnings: &[u64; 320],
-) -> io::Result<()> {
+fn job_answer(rt: &impl Print, a: JobAnswer, lists: &Lists) -> io::Result<()> {
     number(rt, jobs::job_number(a))?;
     match a {
-        Ok(n) => change(rt, n, created, modified, deleted, warnings)?,
+        Ok(n) => change(rt, n, lists)?,
         Err(_) => {
             next(rt, jobs::job_place(a))?;
             next(rt, jobs::job_own_number(a))?;
@@ -941,7 +889,7 @@ const LINKS: usize = 16;
 fn ids(rt: &impl Print, table: &[u64], at: usize) -> io::Result<()>
     requires { at < 1000000 }
 {
-    let n = least(word(table, at) as usize, LINKS);
+    let n = (word(table, at) as usize).min(LINKS);
     write(rt, b" |")?;
     each_word(rt, table, at + 1, at + 1 + n)
 }
@@ -959,7 +907,7 @@ fn lane_left(rt: &impl Print, lanes: &[u64], i: usize) -> io::Result<()>
 }
 
 fn each_lane(rt: &impl Print, lanes: &[u64]) -> io::Result<()> {
-    let n = least(word(lanes, 0) as usize, ROWS);
+    let n = (word(lanes, 0) as usize).min(ROWS);
     for i in 0..n {
         lane_left(rt, lanes, i)?;
     }
@@ -1015,8 +963,8 @@ fn boundary_left(
     requires { i < 64 }
 {
     let at = 1 + i * BOUNDARY;
-    let start = least(word(boundaries, at + BOUNDARY_START) as usize, MOST);
-    let size = least(word(boundaries, at + BOUNDARY_SIZE) as usize, MOST);
+    let start = (word(boundaries, at + BOUNDARY_START) as usize).min(MOST);
+    let size = (word(boundaries, at + BOUNDARY_SIZE) as usize).min(MOST);
     write(rt, b"  boundary")?;
     next(rt, word(boundaries, at))?;
     write(rt, b" |")?;
@@ -1025,7 +973,7 @@ fn boundary_left(
 }
 
 fn each_boundary(rt: &impl Print, boundaries: &[u64], coordinates: &[f64]) -> io::Result<()> {
-    let n = least(word(boundaries, 0) as usize, ROWS);
+    let n = (word(boundaries, 0) as usize).min(ROWS);
     for i in 0..n {
         boundary_left(rt, boundaries, coordinates, i)?;
     }
@@ -1044,24 +992,16 @@ fn rule(rt: &impl Print, rules: &[u64]) -> io::Result<()> {
 }
 
 // The map that a change of a case has left.
-fn left(
-    rt: &impl Print,
-    map: usize,
-    m: Made,
-    lanes: &[u64],
-    boundaries: &[u64],
-    rules: &[u64],
-    coordinates: &[f64],
-) -> io::Result<()> {
-    if OTHERS <= map {
+fn left(rt: &impl Print, which: usize, m: Made, map: MapView) -> io::Result<()> {
+    if OTHERS <= which {
         return Ok(());
     }
     if m.relinked {
-        each_lane(rt, lanes)?;
-        rule(rt, rules)?;
+        each_lane(rt, map.lanes)?;
+        rule(rt, map.rules)?;
     }
     if m.redrawn {
-        each_boundary(rt, boundaries, coordinates)?;
+        each_boundary(rt, map.boundaries, map.coordinates)?;
     }
     Ok(())
 }
@@ -1100,30 +1040,23 @@ fn behind_call(counter: u64, n: Counts) -> Made {
     }
 }
 
-// Makes a call and writes its line. It lends lists of 64 pairs, and less for the modified and the deleted where the call says so, and of 32 warnings.
-fn make(
-    rt: &impl Print,
-    c: Call,
-    lanes: &mut [u64],
-    boundaries: &mut [u64],
-    roads: &mut [u64],
-    junctions: &mut [u64],
-    rules: &mut [u64],
-    stop_lines: &mut [u64],
-    crosswalks: &mut [u64],
-    coordinates: &mut [f64],
-) -> io::Result<Made> {
-    let mut created = [0; 128];
-    let mut modified = [0; 128];
-    let mut deleted = [0; 128];
-    let mut warnings = [0; 320];
-    let row = c.row;
-    let changed = least(c.modified, ROOM);
-    let gone = least(c.deleted, ROOM);
-    let counter = c.counter;
-    asked(rt, row)?;
-    let command = words::command_of(&row);
-    let a = ops::apply(
+// Makes a call on a map and on lists whose slices are lent one by one.
+fn apply(counter: u64, map: &mut Map, command: Command, lists: &mut Lists) -> Answer
+    ensures { R.counter_behind counter result < 2 ^ 64 }
+{
+    let lanes = &mut *map.lanes;
+    let boundaries = &mut *map.boundaries;
+    let roads = &mut *map.roads;
+    let junctions = &mut *map.junctions;
+    let rules = &mut *map.rules;
+    let stop_lines = &mut *map.stop_lines;
+    let crosswalks = &mut *map.crosswalks;
+    let coordinates = &mut *map.coordinates;
+    let created = &mut *lists.created;
+    let modified = &mut *lists.modified;
+    let deleted = &mut *lists.deleted;
+    let warnings = &mut *lists.warnings;
+    ops::apply(
         Counter { next: counter },
         Tolerance::preset(),
         lanes,
@@ -1135,42 +1068,65 @@ fn make(
         crosswalks,
         coordinates,
         command,
-        &mut created,
-        &mut modified[..changed],
-        &mut deleted[..gone],
-        &mut warnings,
-    );
-    answer(rt, a, &created, &modified, &deleted, &warnings)?;
-    Ok(behind_call(report::counter_behind(counter, a), report::answer_counts(a)))
+        created,
+        modified,
+        deleted,
+        warnings,
+    )
 }
 
-// The job with lists of 64 pairs and of 32 warnings; the counter behind it.
-fn job_with_lists(
-    rt: &impl Print,
-    counter: u64,
-    lanes: &mut [u64],
-    boundaries: &mut [u64],
-    roads: &mut [u64],
-    junctions: &mut [u64],
-    rules: &mut [u64],
-    stop_lines: &mut [u64],
-    crosswalks: &mut [u64],
-    coordinates: &mut [f64],
-    rows: &[u64],
-    old_lanes: &mut [u64],
-    old_boundaries: &mut [u64],
-    old_roads: &mut [u64],
-    old_junctions: &mut [u64],
-    old_rules: &mut [u64],
-    old_stop_lines: &mut [u64],
-    old_crosswalks: &mut [u64],
-    old_coordinates: &mut [f64],
-) -> io::Result<u64> {
+// Makes a call and writes its line. It lends lists of 64 pairs, and less for the modified and the deleted where the call says so, and of 32 warnings.
+fn make(rt: &impl Print, c: Call, map: &mut Map) -> io::Result<Made> {
     let mut created = [0; 128];
     let mut modified = [0; 128];
     let mut deleted = [0; 128];
     let mut warnings = [0; 320];
-    let end = job::apply(
+    let row = c.row;
+    let changed = c.modified.min(ROOM);
+    let gone = c.deleted.min(ROOM);
+    let counter = c.counter;
+    let mut lists = Lists {
+        created: &mut created,
+        modified: &mut modified[..changed],
+        deleted: &mut deleted[..gone],
+        warnings: &mut warnings,
+    };
+    asked(rt, row)?;
+    let command = words::command_of(&row);
+    let a = apply(counter, map, command, &mut lists);
+    answer(rt, a, &lists)?;
+    Ok(behind_call(report::counter_behind(counter, a), report::answer_counts(a)))
+}
+
+// Makes a job on a map, with a second area and lists, all of whose slices are lent one by one.
+fn apply_job(
+    counter: u64,
+    map: &mut Map,
+    rows: &[u64],
+    area: &mut Map,
+    lists: &mut Lists,
+) -> JobEnd {
+    let lanes = &mut *map.lanes;
+    let boundaries = &mut *map.boundaries;
+    let roads = &mut *map.roads;
+    let junctions = &mut *map.junctions;
+    let rules = &mut *map.rules;
+    let stop_lines = &mut *map.stop_lines;
+    let crosswalks = &mut *map.crosswalks;
+    let coordinates = &mut *map.coordinates;
+    let old_lanes = &mut *area.lanes;
+    let old_boundaries = &mut *area.boundaries;
+    let old_roads = &mut *area.roads;
+    let old_junctions = &mut *area.junctions;
+    let old_rules = &mut *area.rules;
+    let old_stop_lines = &mut *area.stop_lines;
+    let old_crosswalks = &mut *area.crosswalks;
+    let old_coordinates = &mut *area.coordinates;
+    let created = &mut *lists.created;
+    let modified = &mut *lists.modified;
+    let deleted = &mut *lists.deleted;
+    let warnings = &mut *lists.warnings;
+    job::apply(
         counter,
         Tolerance::preset(),
         lanes,
@@ -1190,122 +1146,73 @@ fn job_with_lists(
         old_stop_lines,
         old_crosswalks,
         old_coordinates,
-        &mut created,
-        &mut modified,
-        &mut deleted,
-        &mut warnings,
-    );
-    let a = end.answer;
-    job_answer(rt, a, &created, &modified, &deleted, &warnings)?;
+        created,
+        modified,
+        deleted,
+        warnings,
+    )
+}
+
+// The job with lists of 64 pairs and of 32 warnings; the counter behind it.
+fn job_with_lists(
+    rt: &impl Print,
+    counter: u64,
+    map: &mut Map,
+    rows: &[u64],
+    area: &mut Map,
+) -> io::Result<u64> {
+    let mut created = [0; 128];
+    let mut modified = [0; 128];
+    let mut deleted = [0; 128];
+    let mut warnings = [0; 320];
+    let mut lists = Lists {
+        created: &mut created,
+        modified: &mut modified,
+        deleted: &mut deleted,
+        warnings: &mut warnings,
+    };
+    let end = apply_job(counter, map, rows, area, &mut lists);
+    job_answer(rt, end.answer, &lists)?;
     Ok(end.counter)
 }
 
 // The job with a second area as large as the map's.
-fn job_with_area(
-    rt: &impl Print,
-    counter: u64,
-    lanes: &mut [u64],
-    boundaries: &mut [u64],
-    roads: &mut [u64],
-    junctions: &mut [u64],
-    rules: &mut [u64],
-    stop_lines: &mut [u64],
-    crosswalks: &mut [u64],
-    coordinates: &mut [f64],
-    rows: &[u64],
-) -> io::Result<u64> {
-    let mut old_lanes = [0; 3329];
-    let mut old_boundaries = [0; 641];
-    let mut old_roads = [0; 69];
-    let mut old_junctions = [0; 70];
-    let mut old_rules = [0; 331];
-    let mut old_stop_lines = [0; 5];
-    let mut old_crosswalks = [0; 8];
-    let mut old_coordinates = [0.0; 3000];
-    job_with_lists(
-        rt,
-        counter,
-        lanes,
-        boundaries,
-        roads,
-        junctions,
-        rules,
-        stop_lines,
-        crosswalks,
-        coordinates,
-        rows,
-        &mut old_lanes,
-        &mut old_boundaries,
-        &mut old_roads,
-        &mut old_junctions,
-        &mut old_rules,
-        &mut old_stop_lines,
-        &mut old_crosswalks,
-        &mut old_coordinates,
-    )
+fn job_with_area(rt: &impl Print, counter: u64, map: &mut Map, rows: &[u64]) -> io::Result<u64> {
+    let mut lanes = [0; 3329];
+    let mut boundaries = [0; 641];
+    let mut roads = [0; 69];
+    let mut junctions = [0; 70];
+    let mut rules = [0; 331];
+    let mut stop_lines = [0; 5];
+    let mut crosswalks = [0; 8];
+    let mut coordinates = [0.0; 3000];
+    let mut area = Map {
+        lanes: &mut lanes,
+        boundaries: &mut boundaries,
+        roads: &mut roads,
+        junctions: &mut junctions,
+        rules: &mut rules,
+        stop_lines: &mut stop_lines,
+        crosswalks: &mut crosswalks,
+        coordinates: &mut coordinates,
+    };
+    job_with_lists(rt, counter, map, rows, &mut area)
 }
 
 // Asks for a job and writes its line.
-fn make_job(
-    rt: &impl Print,
-    k: usize,
-    counter: u64,
-    lanes: &mut [u64],
-    boundaries: &mut [u64],
-    roads: &mut [u64],
-    junctions: &mut [u64],
-    rules: &mut [u64],
-    stop_lines: &mut [u64],
-    crosswalks: &mut [u64],
-    coordinates: &mut [f64],
-) -> io::Result<u64> {
+fn make_job(rt: &impl Print, k: usize, counter: u64, map: &mut Map) -> io::Result<u64> {
     let rows = job_rows(k);
     let n = job_size(k);
     asked_job(rt, &rows[..n])?;
-    job_with_area(
-        rt,
-        counter,
-        lanes,
-        boundaries,
-        roads,
-        junctions,
-        rules,
-        stop_lines,
-        crosswalks,
-        coordinates,
-        &rows[..n],
-    )
+    job_with_area(rt, counter, map, &rows[..n])
 }
 
-fn each_job(
-    rt: &impl Print,
-    n: usize,
-    lanes: &mut [u64],
-    boundaries: &mut [u64],
-    roads: &mut [u64],
-    junctions: &mut [u64],
-    rules: &mut [u64],
-    stop_lines: &mut [u64],
-    crosswalks: &mut [u64],
-    coordinates: &mut [f64],
-) -> io::Result<()> {
+fn each_job(rt: &impl Print, n: usize, map: &mut Map) -> io::Result<()> {
     let mut counter = first_counter(JOBS);
     for k in 0..n {
-        counter = make_job(
-            rt,
-            k,
-            counter,
-            lanes,
-            boundaries,
-            roads,
-            junctions,
-            rules,
-            stop_lines,
-            crosswalks,
-            coordinates,
-        )?;
+        counter = make_job(rt, k, counter, map)?;
     }
-    end_jobs(rt, n, lanes)
+    end_jobs(rt, n, map.lanes)
 }
 
 fn first_counter(map: usize) -> u64 {
@@ -1315,41 +1222,18 @@ fn first_counter(map: usize) -> u64 {
     }
 }
 
-fn each_call(
-    rt: &impl Print,
-    map: usize,
-    n: usize,
-    lanes: &mut [u64],
-    boundaries: &mut [u64],
-    roads: &mut [u64],
-    junctions: &mut [u64],
-    rules: &mut [u64],
-    stop_lines: &mut [u64],
-    crosswalks: &mut [u64],
-    coordinates: &mut [f64],
-) -> io::Result<()> {
-    let mut counter = first_counter(map);
+fn each_call(rt: &impl Print, which: usize, n: usize, map: &mut Map) -> io::Result<()> {
+    let mut counter = first_counter(which);
     let mut seed = 7;
     for i in 0..n {
-        heading(rt, case_of(map, i))?;
-        let c = listed(map, i, counter, seed, lanes);
-        let m = make(
-            rt,
-            c,
-            lanes,
-            boundaries,
-            roads,
-            junctions,
-            rules,
-            stop_lines,
-            crosswalks,
-            coordinates,
-        )?;
-        left(rt, map, m, lanes, boundaries, rules, coordinates)?;
+        heading(rt, case_of(which, i))?;
+        let c = listed(which, i, counter, seed, map.lanes);
+        let m = make(rt, c, map)?;
+        left(rt, which, m, map.view())?;
         counter = m.counter;
         seed = after(after(after(seed)));
     }
-    end(rt, map, lanes)
+    end(rt, which, map.lanes)
 }
 
 // The jobs are made on the long list's map.
@@ -1361,7 +1245,7 @@ fn layout(map: usize) -> usize {
 }
 
 // The tables, with room for 64 lanes, 128 boundaries, 1,000 points, and one row of each other table.
-fn run(rt: &impl Print, map: usize) -> io::Result<()> {
+fn run(rt: &impl Print, which: usize) -> io::Result<()> {
     let mut lanes = [0; 3329];
     let mut boundaries = [0; 641];
     let mut roads = [0; 69];
@@ -1370,37 +1254,24 @@ fn run(rt: &impl Print, map: usize) -> io::Result<()> {
     let mut stop_lines = [0; 5];
     let mut crosswalks = [0; 8];
     let mut coordinates = [0.0; 3000];
-    let laid = layout(map);
+    let laid = layout(which);
     lay_lanes(&mut lanes, laid);
     lay_boundaries(&mut boundaries, laid);
     lay_lines(&mut coordinates, laid);
     lay_rule(&mut rules, laid);
     lay_stop_line(&mut stop_lines, laid);
-    each_call(
-        rt,
-        map,
-        calls(map),
-        &mut lanes,
-        &mut boundaries,
-        &mut roads,
-        &mut junctions,
-        &mut rules,
-        &mut stop_lines,
-        &mut crosswalks,
-        &mut coordinates,
-    )?;
-    each_job(
-        rt,
-        jobs(map),
-        &mut lanes,
-        &mut boundaries,
-        &mut roads,
-        &mut junctions,
-        &mut rules,
-        &mut stop_lines,
-        &mut crosswalks,
-        &mut coordinates,
-    )
+    let mut map = Map {
+        lanes: &mut lanes,
+        boundaries: &mut boundaries,
+        roads: &mut roads,
+        junctions: &mut junctions,
+        rules: &mut rules,
+        stop_lines: &mut stop_lines,
+        crosswalks: &mut crosswalks,
+        coordinates: &mut coordinates,
+    };
+    each_call(rt, which, calls(which), &mut map)?;
+    each_job(rt, jobs(which), &mut map)
 }
 
 fn main(rt: HostRuntime) -> io::Result<()> {

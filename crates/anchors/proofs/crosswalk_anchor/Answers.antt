@@ -1,7 +1,6 @@
 -- `anchors::crosswalk_anchor` meets its contract: the crosswalk that is found is one of the rows. Assumes nothing.
 use mathlib.Core.Path.{◌∙◌, sym}
 use native.Mathlib.Omega.{arith}
-use borrow.Author.Rules.{rules}
 use Rattle.lookup.proofs.Laws.{sorted-row, place-within, line-may}
 use Rattle.anchors.proofs.Anchor.{cross-absent, cross-there}
 use Rattle.anchors.proofs.crosswalk_anchor.Goals as goal

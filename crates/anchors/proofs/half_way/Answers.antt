@@ -1,5 +1,4 @@
 -- `anchors::half_way` meets its contract: by whether both points are there. Assumes nothing.
-use borrow.Author.Rules.{rules}
 use Rattle.anchors.proofs.Anchor.{half-some}
 use Rattle.anchors.proofs.half_way.Goals as goal
 

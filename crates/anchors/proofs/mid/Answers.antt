@@ -1,6 +1,5 @@
 -- `anchors::mid` meets its contract: by whether the line has a point. Assumes nothing.
 use mathlib.Core.Path.{◌∙◌}
-use borrow.Author.Rules.{rules}
 use Rattle.polyline.specs.Polyline.{points}
 use Rattle.anchors.proofs.Anchor.{mid_none, mid-some}
 use Rattle.anchors.proofs.mid.Goals as goal

@@ -1,6 +1,5 @@
 -- `anchors::rule_anchor` meets its contract: by the kind of the rule and its count of stop lines. Assumes nothing.
 use native.Mathlib.Omega.{arith}
-use borrow.Author.Rules.{rules}
 use Rattle.row_tests.proofs.Tables.{row_room}
 use Rattle.anchors.proofs.Anchor.{anchor_stop, anchor_cross, anchor_none}
 use Rattle.anchors.proofs.rule_anchor.Goals as goal

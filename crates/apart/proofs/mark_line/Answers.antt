@@ -2,9 +2,9 @@
 use mathlib.Core.Path.{◌≡◌, refl, sym, ap, ◌∙◌}
 use mathlib.Core.Bool.{Bool, true}
 use mathlib.Core.List.{List}
-use Prim.Native.Nat.{ℕ, ◌+◌, ◌-◌, ◌≤◌}
+use Prim.Native.Nat.{ℕ, ◌+◌}
 use native.Mathlib.Omega.{arith}
-use lib.ListN.{length, set, length-set}
+use lib.ListN.{set, length-set}
 use Rattle.lists.specs.Rows.{over}
 use Rattle.lists.proofs.Rows.{over-nil}
 use Rattle.apart.specs.Marks.{trues, marked}
@@ -14,17 +14,8 @@ use Rattle.apart.proofs.mark_line.Goals as goal
 pub loop-i-init : goal.loop-i-init
 loop-i-init c = (omega arith, (refl, sym (over-nil c.args.marks.now c.args.start)))
 
-pub overflow_add-marks : goal.overflow_add-marks
-overflow_add-marks c = omega arith
-
-pub bounds-marks-start : goal.bounds-marks-start
-bounds-marks-start c = omega arith
-
 pub loop-i-preserved : goal.loop-i-preserved
 loop-i-preserved c = (omega arith, (simp length-set c.loop-i.invariant.1.0, ap (λ (v : List Bool). set v (c.args.start + c.loop-i.i) true) c.loop-i.invariant.1.1 ∙ mark-more c.args.marks.now c.args.start c.args.size c.loop-i.i c.requires c.loop-i-test.true))
-
-pub shape_of-marks : goal.shape_of-marks
-shape_of-marks c = c.loop-i.invariant.1.0
 
 pub returns : goal.returns
 unfolding marked

@@ -1,7 +1,6 @@
 -- `apart::take_line` meets its contract: of a line with no point, of one that finds its points unmarked, and of one that does not. Assumes nothing.
 use mathlib.Core.Path.{sym, ◌∙◌}
 use lib.ListN.{length}
-use borrow.Author.Rules.{rules}
 use Rattle.tables.specs.Formed.{Span}
 use Rattle.apart.proofs.Marks.{within_end, take_none, take-free, take-used}
 use Rattle.apart.proofs.take_line.Goals as goal

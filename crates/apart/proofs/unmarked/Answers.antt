@@ -1,10 +1,6 @@
 -- `apart::unmarked` meets its contract. The invariant: no point of the line is marked where none from the i-th on is.
-use mathlib.Core.Path.{◌≡◌, refl, sym, ◌∙◌}
-use mathlib.Core.Bool.{not}
-use Prim.Native.Nat.{◌-◌, ◌≤◌}
+use mathlib.Core.Path.{refl, sym, ◌∙◌}
 use native.Mathlib.Omega.{arith}
-use lib.ListN.{take, drop}
-use Rattle.lists.specs.Every.{all}
 use Rattle.apart.specs.Marks.{unmarked}
 use Rattle.apart.proofs.Marks.{points-step, points-end}
 use Rattle.apart.proofs.unmarked.Goals as goal
@@ -12,12 +8,6 @@ use Rattle.apart.proofs.unmarked.Goals as goal
 pub loop-i-init : goal.loop-i-init
 unfolding unmarked
 loop-i-init c = (omega arith, refl)
-
-pub overflow_add-start : goal.overflow_add-start
-overflow_add-start c = omega arith
-
-pub bounds-marks-start : goal.bounds-marks-start
-bounds-marks-start c = omega arith
 
 pub returns-then-marks-start : goal.returns-then-marks-start
 unfolding unmarked

@@ -1,4 +1,3 @@
-use borrow.Author.Rules.{rules}
 use Rattle.area.specs.Area.{area_fits}
 use Rattle.area.proofs.fits.Goals as goal
 

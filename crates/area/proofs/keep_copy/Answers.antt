@@ -1,4 +1,3 @@
-use borrow.Author.Rules.{rules}
 use native.Mathlib.Omega.{arith}
 use Rattle.area.specs.Area.{copied}
 use Rattle.area.proofs.Lengths.{fits-of}
@@ -38,6 +37,6 @@ pub copy-requires-8 : goal.copy-requires-8
 copy-requires-8 c = let f = (fits-of _ _ c.requires).coordinates-fit in (omega arith, omega (arith, f))
 
 -- src/lib.rt:52:1
-pub returns : goal.returns
+pub returns-clause-made : goal.returns-clause-made
 unfolding copied
-returns c = rw (c.copy-8.ensures, c.copy-7.ensures, c.copy-6.ensures, c.copy-5.ensures, c.copy-4.ensures, c.copy-3.ensures, c.copy-2.ensures, c.copy.ensures, take-length)
+returns-clause-made c = rw (c.copy-8.ensures, c.copy-7.ensures, c.copy-6.ensures, c.copy-5.ensures, c.copy-4.ensures, c.copy-3.ensures, c.copy-2.ensures, c.copy.ensures, take-length)

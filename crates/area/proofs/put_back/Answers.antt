@@ -1,4 +1,3 @@
-use borrow.Author.Rules.{rules}
 use native.Mathlib.Omega.{arith}
 use Rattle.area.specs.Area.{put_back}
 use Rattle.area.proofs.Lengths.{fits-of}
@@ -38,6 +37,6 @@ pub copy-requires : goal.copy-requires
 copy-requires c = let f = (fits-of _ _ c.requires).coordinates-fit in (omega (arith, f), omega arith)
 
 -- src/lib.rt:93:1
-pub returns : goal.returns
+pub returns-clause-made : goal.returns-clause-made
 unfolding put_back
-returns c = rw (c.copy.ensures, c.fill-7.ensures, c.fill-6.ensures, c.fill-5.ensures, c.fill-4.ensures, c.fill-3.ensures, c.fill-2.ensures, c.fill.ensures, over-front-of c.args.coordinates.now c.args.old_coordinates.now (fits-of _ _ c.requires).coordinates-fit)
+returns-clause-made c = rw (c.copy.ensures, c.fill-7.ensures, c.fill-6.ensures, c.fill-5.ensures, c.fill-4.ensures, c.fill-3.ensures, c.fill-2.ensures, c.fill.ensures, over-front-of c.args.map.now.coordinates.now c.args.old.coordinates.now (fits-of _ _ c.requires).coordinates-fit)

@@ -1,9 +1,8 @@
 -- `bits::double` meets its contract: it makes a float only of bits that are no NaN's. Assumes nothing.
-use mathlib.Core.Path.{refl, sym, ◌∙◌, subst}
+use mathlib.Core.Path.{sym, ◌∙◌, subst}
 use mathlib.Core.Bool.{Bool, not}
 use lib.Dec.{T}
 use lib.Ieee.{div, of_bits}
-use borrow.Author.Rules.{rules}
 use Rattle.bits.proofs.Nan.{nan-bits}
 use Rattle.bits.proofs.double.Goals as goal
 
@@ -13,6 +12,3 @@ returns-then-is_nan c = nan-bits c.args.bits (sym c.is_nan.ensures ∙ c.if-is_n
 
 pub float_from_bits-result : goal.float_from_bits-result
 float_from_bits-result c = subst (λ (b : Bool). T (not b)) (sym (sym c.is_nan.ensures ∙ c.if-is_nan.false)) tt
-
-pub returns : goal.returns
-returns c = refl

@@ -2,7 +2,6 @@
 use mathlib.Core.Path.{◌≡◌, refl, ap, ◌∙◌}
 use Prim.Native.Nat.{ℕ}
 use lib.Ieee.{nan, binary64, to_bits}
-use borrow.Author.Rules.{rules}
 use Rattle.bits.proofs.Nan.{no_nan, own-nan}
 use Rattle.bits.proofs.pattern.Goals as goal
 

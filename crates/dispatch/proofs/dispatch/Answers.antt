@@ -1,6 +1,6 @@
 -- `dispatch::dispatch` meets its contract: what the edit of the arm makes is what the command comes to. Assumes nothing.
 use borrow.Author.Rules.{rules}
-use Rattle.lent.specs.Lent.{given}
+use Rattle.step.specs.Step.{given}
 use Rattle.dispatch.proofs.Applies.{made, made_as}
 use Rattle.dispatch.proofs.dispatch.Goals as goal
 

@@ -1,8 +1,8 @@
 -- `edit::set_neighbor` meets its contract. Assumes nothing.
 use native.Mathlib.Omega.{arith}
 use Rattle.tables.specs.View.{Tables}
-use Rattle.step.specs.Step.{Lent}
-use Rattle.lent.specs.Lent.{map_tables, given}
+use Rattle.step.specs.Step.{Lent, given}
+use Rattle.lent.specs.Lent.{map_tables}
 use Rattle.edit.proofs.Beside.{set-absent}
 use Rattle.sound_facts.proofs.Found.{found, missing, lanes_are_sorted, leads-may}
 use Rattle.edit.proofs.Ends.{set-may, freed, besides, beside-missing, beside-itself}

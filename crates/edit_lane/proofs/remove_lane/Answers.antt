@@ -1,8 +1,8 @@
 -- `edit_lane::remove_lane` meets its contract. Assumes nothing.
 use native.Mathlib.Omega.{arith}
 use Rattle.tables.specs.View.{Tables}
-use Rattle.step.specs.Step.{Lent}
-use Rattle.lent.specs.Lent.{map_tables, given}
+use Rattle.step.specs.Step.{Lent, given}
+use Rattle.lent.specs.Lent.{map_tables}
 use Rattle.sound_facts.proofs.Found.{lanes_are_sorted, found, missing}
 use Rattle.edit_lane.proofs.Calls.{may-remove, absent, ends-with}
 use Rattle.edit_lane.proofs.remove_lane.Goals as goal

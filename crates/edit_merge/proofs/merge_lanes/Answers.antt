@@ -1,7 +1,8 @@
 use mathlib.Core.Bool.{not}
+use Rattle.step.specs.Step.{given}
 use borrow.Author.Rules.{rules}
 use native.Mathlib.Omega.{arith}
-use Rattle.lent.specs.Lent.{map_tables, given}
+use Rattle.lent.specs.Lent.{map_tables}
 use mathlib.Core.Path.{refl, sym, ◌∙◌, ap}
 use Rattle.sound_facts.proofs.Found.{lanes_are_sorted, found, missing, sound-formed}
 use Rattle.sound_facts.proofs.Facts.{facts}

@@ -1,5 +1,4 @@
 -- `map::sound::boundary_good` meets its contract. The tests of the definition in its order. Assumes nothing.
-use borrow.Author.Rules.{rules}
 use Rattle.row_tests.specs.Good.{boundary_good}
 use Rattle.entity_tests.proofs.boundary_good.Goals as goal
 

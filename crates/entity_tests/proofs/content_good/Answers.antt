@@ -1,5 +1,4 @@
 -- `map::sound::content_good` meets its contract. By the kind. Assumes nothing.
-use borrow.Author.Rules.{rules}
 use borrow.Author.Tests.{le-leb, lt-leb, eq-eqb, ne_eqb}
 use Rattle.entity_tests.proofs.content_good.Goals as goal
 

@@ -1,5 +1,4 @@
 -- `map::sound::crosswalk_good` meets its contract. The tests of the definition in its order. Assumes nothing.
-use borrow.Author.Rules.{rules}
 use Rattle.row_tests.specs.Good.{crosswalk_good}
 use Rattle.entity_tests.proofs.crosswalk_good.Goals as goal
 

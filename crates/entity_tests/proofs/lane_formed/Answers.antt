@@ -1,5 +1,4 @@
 -- `map::sound::lane_formed` meets its contract. The tests of the definition in its order. Assumes nothing.
-use borrow.Author.Rules.{rules}
 use Rattle.tables.specs.Formed.{lane_formed}
 use Rattle.entity_tests.proofs.lane_formed.Goals as goal
 

@@ -1,5 +1,4 @@
 -- `map::sound::lane_numbers` meets its contract. The tests of the definition in its order. Assumes nothing.
-use borrow.Author.Rules.{rules}
 use Rattle.row_tests.specs.Good.{lane_numbers}
 use Rattle.entity_tests.proofs.lane_numbers.Goals as goal
 

@@ -4,7 +4,6 @@ use mathlib.Core.Bool.{and-true}
 use Prim.Native.Nat.{suc, ◌+◌, ◌-◌}
 use native.Mathlib.Omega.{arith}
 use lib.ListN.{get_or}
-use borrow.Author.Rules.{rules}
 use Rattle.row_tests.specs.Good.{ids_good}
 use Rattle.tables.specs.View.{ids_at}
 use Rattle.entity_tests.proofs.lanes_good.Goals as goal

@@ -1,5 +1,4 @@
 -- `map::sound::links_good` meets its contract. The two tests of the definition. Assumes nothing.
-use borrow.Author.Rules.{rules}
 use Rattle.row_tests.specs.Good.{links_good}
 use Rattle.entity_tests.proofs.links_good.Goals as goal
 

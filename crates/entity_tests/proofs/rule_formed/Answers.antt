@@ -1,5 +1,4 @@
 -- `map::sound::rule_formed` meets its contract. The tests of the definition, by the kind. Assumes nothing.
-use borrow.Author.Rules.{rules}
 use Rattle.tables.specs.Formed.{rule_formed}
 use Rattle.entity_tests.proofs.rule_formed.Goals as goal
 

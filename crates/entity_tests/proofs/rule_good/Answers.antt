@@ -1,7 +1,6 @@
 -- `map::sound::rule_good` meets its contract. The lists are read of a formed row only. Assumes nothing.
 use mathlib.Core.Path.{sym, ◌∙◌}
 use native.Mathlib.Omega.{arith}
-use borrow.Author.Rules.{rules}
 use Rattle.lists.proofs.Booleans.{and-fst}
 use Rattle.row_tests.specs.Good.{rule_good}
 use Rattle.entity_tests.proofs.rule_good.Goals as goal

@@ -1,5 +1,4 @@
 -- `map::sound::rule_numbers` meets its contract. Each test is a callee's. Assumes nothing.
-use borrow.Author.Rules.{rules}
 use Rattle.row_tests.specs.Good.{rule_numbers}
 use Rattle.entity_tests.proofs.rule_numbers.Goals as goal
 

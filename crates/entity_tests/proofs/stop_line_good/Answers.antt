@@ -1,5 +1,4 @@
 -- `map::sound::stop_line_good` meets its contract. The tests of the definition in its order. Assumes nothing.
-use borrow.Author.Rules.{rules}
 use Rattle.row_tests.specs.Good.{stop_line_good}
 use Rattle.entity_tests.proofs.stop_line_good.Goals as goal
 

@@ -1,11 +1,10 @@
 -- `find::find_among` meets its contract. The invariant: the keys before the rows that are left are smaller than the id, and those behind them larger.
 use mathlib.Core.List.{List}
-use mathlib.Core.Logic.{⊎_elim}
 use mathlib.Core.Path.{◌≡◌, refl, sym, ◌∙◌}
 use Prim.Native.Nat.{ℕ, ◌+◌, ◌*◌, ◌/◌, ◌<◌}
 use native.Mathlib.Omega.{arith}
 use lib.ListN.{length, get_or}
-use Rattle.lists.specs.Rows.{keys, Among}
+use Rattle.lists.specs.Rows.{keys}
 use Rattle.lists.proofs.Rows.{row-start, length-keys, key-at, upper-half, lower-half, last_row, no_row}
 use Rattle.find.proofs.find_among.Goals as goal
 use Rattle.find.proofs.find_among.Lts as lts
@@ -44,9 +43,6 @@ within c = omega (arith, many c.before.before, c.loop-left.invariant.1.0, c.loop
 last : (c : AtAfterLoopLeft) → c.loop-left.low < c.args.n
 last c = omega (arith, many c.before.before, c.loop-left.invariant.0, c.loop-left.invariant.1.0)
 
-pub loop-left-init : goal.loop-left-init
-loop-left-init c = c.requires.1.1.1
-
 pub overflow_add-low : goal.overflow_add-low
 overflow_add-low c = omega (arith, starts c.before.before.before (middle c.before) (within c.before), within c.before)
 
@@ -62,20 +58,16 @@ bounds-rows-low c = starts c.before.before.before.before (middle c.before.before
 pub overflow_add-low-then-rows-low : goal.overflow_add-low-then-rows-low
 overflow_add-low-then-rows-low c = omega (arith, within c.before.before.before)
 
-pub overflow_sub-left : goal.overflow_sub-left
-overflow_sub-left c = omega arith
-
-pub loop-left-smaller : goal.loop-left-smaller
-loop-left-smaller c = omega (arith, c.loop-left-test.true)
-
 pub loop-left-preserved : goal.loop-left-preserved
 loop-left-preserved c =
     let t = c.before.before.before in
     let b = t.before.before in
     let l = t.loop-left in
     let k = key b (middle t) (within t) in
-    ⊎_elim (λ w. rw w.low-is (upper-half (ks b) b.requires.1.1.0 b.args.id l.low l.left (l.left / 2) l.invariant refl t.loop-left-test.true (rw k w.if-rows-low.true)))
-    (λ w. rw w.low-is (lower-half (ks b) b.requires.1.1.0 b.args.id l.low l.left (l.left / 2) l.invariant refl t.loop-left-test.true (rw k (omega (arith, w.if-rows-low.false))))) c.if-rows-low.branch-raw
+    elim c.if-rows-low.branch [
+      | goal.then-rows-low w ↦ rw w.low-is (upper-half (ks b) b.requires.1.1.0 b.args.id l.low l.left (l.left / 2) l.invariant refl t.loop-left-test.true (rw k w.if-rows-low.true))
+      | goal.else-rows-low w ↦ rw w.low-is (lower-half (ks b) b.requires.1.1.0 b.args.id l.low l.left (l.left / 2) l.invariant refl t.loop-left-test.true (rw k (omega (arith, w.if-rows-low.false))))
+    ]
 
 pub overflow_mul-low-2 : goal.overflow_mul-low-2
 overflow_mul-low-2 c = omega (arith, starts c.before.before.before c.loop-left.low (last c.before))

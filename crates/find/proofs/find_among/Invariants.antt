@@ -1,13 +1,6 @@
 -- `find::find_among` meets its contract. The invariant: the keys before the rows that are left are smaller than the id, and those behind them larger.
 -- The measure is how many are left. Assumes nothing.
-use mathlib.Core.List.{List}
-use mathlib.Core.Logic.{⊎_elim}
-use mathlib.Core.Path.{◌≡◌, refl, sym, ◌∙◌}
-use Prim.Native.Nat.{ℕ, ◌+◌, ◌*◌, ◌/◌, ◌<◌}
-use native.Mathlib.Omega.{arith}
-use lib.ListN.{length, get_or}
 use Rattle.lists.specs.Rows.{keys, Among}
-use Rattle.lists.proofs.Rows.{row-start, length-keys, key-at, upper-half, lower-half, last_row, no_row}
 use Rattle.find.proofs.find_among.Given as goal
 
 abbrev pub invariant-loop-left : goal.invariant-loop-left

@@ -5,7 +5,7 @@ use native.Mathlib.Omega.{arith}
 use mathlib.Core.Bool.{false}
 use lib.ListN.{get_or, take, drop}
 use Rattle.row_tests.proofs.Tables.{row_of}
-use Rattle.grows.proofs.Turning.{Turned, turned_none, turned-row, turned_turn, turned-all}
+use Rattle.row_walk.proofs.Turning.{Turned, turned_none, turned-row, turned_turn, turned-all}
 use Rattle.follows.specs.Following.{rule_follows, marks_of, map_numbered, on_numbered}
 use Rattle.follows.proofs.Rules.{rules-some, rules-room, rules-few, marks-room, rule-may, marks-lent}
 use Rattle.follows.proofs.follow_rules.Given as goal

@@ -69,10 +69,10 @@ loop-r-preserved c =
     let f = c.first_place-p in
     let on = any-on (λ i. has i (ids_at 5 a.row.now) && cond a.anchored (get_or a.past.now (first_place i (ids_at 5 a.row.now)) false) true) a.cut.now l.r 0 c.loop-r-test.true in (
       omega arith,
-      l.invariant.1 ∙ on (⊎_elim
-          (λ s. differs-by a.anchored a.past.now a.row.now c.requires (get_or a.cut.now l.r 0) f.result f.ensures s.if-p-n.true false (ap not s.if-not-anchored.false) s.if-past-p.false)
-          (λ s. differs-not a.anchored a.past.now a.row.now c.requires (get_or a.cut.now l.r 0) f.result f.ensures s.if-p-n.false)
-          c.if-p-n.branch-raw),
+      l.invariant.1 ∙ on (elim c.if-p-n.branch [
+        | goal.then-p-n+else-not-anchored+else-past-p s ↦ differs-by a.anchored a.past.now a.row.now c.requires (get_or a.cut.now l.r 0) f.result f.ensures s.if-p-n.true false (ap not s.if-not-anchored.false) s.if-past-p.false
+        | goal.else-p-n s ↦ differs-not a.anchored a.past.now a.row.now c.requires (get_or a.cut.now l.r 0) f.result f.ensures s.if-p-n.false
+      ]),
     )
 
 pub returns : goal.returns

@@ -1,7 +1,6 @@
 -- `geometry::project_on_segment` meets its contract. Assumes nothing.
 use Rattle.geometry.specs.Float.{epsilon}
 use Rattle.geometry.specs.Point.{project_on_segment}
-use borrow.Author.Rules.{rules}
 use Rattle.geometry.proofs.project_on_segment.Goals as goal
 
 pub returns-then-len2 : goal.returns-then-len2

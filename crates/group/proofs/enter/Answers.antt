@@ -1,5 +1,4 @@
 -- `group::enter` meets its contract, by its three ways out. Assumes nothing.
-use borrow.Author.Rules.{rules}
 use native.Mathlib.Omega.{arith}
 use Rattle.group.proofs.Steps.{entered-none, entered-again, entered-new, enter-room, enter-end}
 use Rattle.group.proofs.enter.Goals as goal

@@ -1,5 +1,4 @@
 -- `group::group_ids` meets its contract: the ids whose marks are the group's. Assumes nothing.
-use borrow.Author.Rules.{rules}
 use mathlib.Core.Path.{refl, ap, ◌∙◌}
 use mathlib.Core.Bool.{Bool, false}
 use lib.ListN.{length, replicate, length-replicate}

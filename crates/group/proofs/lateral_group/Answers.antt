@@ -1,14 +1,11 @@
 -- `group::lateral_group` meets its contract. The invariant: what is marked was reached, each row marked stands in the queue, and the slots of
 use mathlib.Core.Path.{refl, sym, ◌∙◌}
-use Prim.Native.Nat.{ℕ, ◌-◌}
+use Prim.Native.Nat.{ℕ}
 use native.Mathlib.Omega.{arith}
 use mathlib.Core.Logic.{inl, inr}
 use lib.ListN.{replicate, length-replicate}
-use Rattle.group.proofs.Steps.{Holds, may-first, begun, walk-fits, row_in, may-left, may-right, queue-stays, turned, ended}
+use Rattle.group.proofs.Steps.{may-first, begun, walk-fits, row_in, may-left, may-right, queue-stays, turned, ended}
 use Rattle.group.proofs.lateral_group.Goals as goal
-
-pub slice_bounds-enter-end : goal.slice_bounds-enter-end
-slice_bounds-enter-end c = refl
 
 pub enter-end-requires : goal.enter-end-requires
 enter-end-requires c =

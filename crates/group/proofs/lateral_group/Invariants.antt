@@ -1,11 +1,7 @@
 -- `group::lateral_group` meets its contract. The invariant: what is marked was reached, each row marked stands in the queue, and the slots of
 -- the rows before `done` lead to marked rows. The measure is how many places of the queue are left. Assumes nothing.
-use mathlib.Core.Path.{refl, sym, ◌∙◌}
-use Prim.Native.Nat.{ℕ, ◌-◌}
-use native.Mathlib.Omega.{arith}
-use mathlib.Core.Logic.{inl, inr}
-use lib.ListN.{replicate, length-replicate}
-use Rattle.group.proofs.Steps.{Holds, may-first, begun, walk-fits, row_in, may-left, may-right, queue-stays, turned, ended}
+use Prim.Native.Nat.{◌-◌}
+use Rattle.group.proofs.Steps.{Holds}
 use Rattle.group.proofs.lateral_group.Given as goal
 
 abbrev pub invariant-loop-done : goal.invariant-loop-done

@@ -1,9 +1,8 @@
 -- `group::marked_ids` meets its contract. The invariant: the ids of the marked rows before j are written.
-use mathlib.Core.Path.{◌≡◌, refl, sym, ap, ◌∙◌}
-use mathlib.Core.Logic.{⊎_elim}
-use Prim.Native.Nat.{◌-◌, ◌≤◌}
+use mathlib.Core.Path.{refl, sym, ap, ◌∙◌}
+use Prim.Native.Nat.{◌≤◌}
 use native.Mathlib.Omega.{arith}
-use lib.ListN.{length, take, drop, length-set}
+use lib.ListN.{length, drop, length-set}
 use lib.Seq.{take_all}
 use Rattle.lists.specs.Rows.{over}
 use Rattle.lists.proofs.Rows.{over-nil, length-keys}
@@ -20,9 +19,6 @@ pub loop-j-init : goal.loop-j-init
 unfolding chosen
 loop-j-init c = (omega arith, (omega arith, (refl, (refl, sym (over-nil c.args.out.now 0)))))
 
-pub bounds-seen-j : goal.bounds-seen-j
-bounds-seen-j c = omega arith
-
 pub overflow_mul-out : goal.overflow_mul-out
 overflow_mul-out c = omega (arith, lane_room c.args.lanes.now c.requires.0 c.loop-j.j c.loop-j-test.true)
 
@@ -35,15 +31,6 @@ offset_bounds-lanes-j c = omega (arith, lane_room c.args.lanes.now c.requires.0 
 pub bounds-lanes-j : goal.bounds-lanes-j
 bounds-lanes-j c = omega (arith, lane_room c.args.lanes.now c.requires.0 c.loop-j.j c.loop-j-test.true)
 
-pub offset_bounds-out-count : goal.offset_bounds-out-count
-offset_bounds-out-count c = omega arith
-
-pub bounds-out-count : goal.bounds-out-count
-bounds-out-count c = omega arith
-
-pub overflow_add-count : goal.overflow_add-count
-overflow_add-count c = omega arith
-
 pub loop-j-preserved : goal.loop-j-preserved
 loop-j-preserved c =
     let u = c in
@@ -51,18 +38,15 @@ loop-j-preserved c =
     let i = t.invariant in
     let b = c.loop-j-test.true in
     let k = i.1.0 in
-    ⊎_elim
-    (λ s.
-    let one = choose_one u.args.lanes.now u.requires.0 u.args.seen.now u.args.out.now t.out t.j t.count b u.requires.1.0 u.requires.1.1 k i.1.1.1.0 i.1.1.1.1 s.if-seen-j.true in
-    let store = choose-store u.args.lanes.now u.requires.0 u.args.seen.now u.args.out.now t.out t.j t.count b u.requires.1.0 u.requires.1.1 k i.1.1.1.0 i.1.1.1.1 s.if-seen-j.true in
-    (omega arith, (omega arith, (ap length s.out-is ∙ simp length-set i.1.1.0, (s.count-is ∙ one, s.out-is ∙ store)))))
-    (λ s.
-    let none = choose-none u.args.lanes.now u.requires.0 u.args.seen.now u.args.out.now t.out t.j t.count b u.requires.1.0 u.requires.1.1 k i.1.1.1.0 i.1.1.1.1 s.if-seen-j.false in
-    (omega arith, (omega arith, (ap length s.out-is ∙ i.1.1.0, (s.count-is ∙ i.1.1.1.0 ∙ ap length none, s.out-is ∙ i.1.1.1.1 ∙ ap (over u.args.out.now 0) none)))))
-    c.if-seen-j.branch-raw
-
-pub shape_of-out : goal.shape_of-out
-shape_of-out c = c.loop-j.invariant.1.1.0
+    elim c.if-seen-j.branch [
+      | goal.then-seen-j s ↦
+          let one = choose_one u.args.lanes.now u.requires.0 u.args.seen.now u.args.out.now t.out t.j t.count b u.requires.1.0 u.requires.1.1 k i.1.1.1.0 i.1.1.1.1 s.if-seen-j.true in
+          let store = choose-store u.args.lanes.now u.requires.0 u.args.seen.now u.args.out.now t.out t.j t.count b u.requires.1.0 u.requires.1.1 k i.1.1.1.0 i.1.1.1.1 s.if-seen-j.true in
+          (omega arith, (omega arith, (ap length s.out-is ∙ simp length-set i.1.1.0, (s.count-is ∙ one, s.out-is ∙ store))))
+      | goal.else-seen-j s ↦
+          let none = choose-none u.args.lanes.now u.requires.0 u.args.seen.now u.args.out.now t.out t.j t.count b u.requires.1.0 u.requires.1.1 k i.1.1.1.0 i.1.1.1.1 s.if-seen-j.false in
+          (omega arith, (omega arith, (ap length s.out-is ∙ i.1.1.0, (s.count-is ∙ i.1.1.1.0 ∙ ap length none, s.out-is ∙ i.1.1.1.1 ∙ ap (over u.args.out.now 0) none))))
+    ]
 
 pub returns : goal.returns
 returns c =

@@ -1,16 +1,10 @@
 -- `group::marked_ids` meets its contract. The invariant: the ids of the marked rows before j are written. Assumes nothing.
-use mathlib.Core.Path.{◌≡◌, refl, sym, ap, ◌∙◌}
-use mathlib.Core.Logic.{⊎_elim}
-use Prim.Native.Nat.{◌-◌, ◌≤◌}
-use native.Mathlib.Omega.{arith}
-use lib.ListN.{length, take, drop, length-set}
-use lib.Seq.{take_all}
+use mathlib.Core.Path.{◌≡◌}
+use Prim.Native.Nat.{◌≤◌}
+use lib.ListN.{length, take}
 use Rattle.lists.specs.Rows.{over}
-use Rattle.lists.proofs.Rows.{over-nil, length-keys}
 use Rattle.tables.specs.View.{word}
-use Rattle.row_tests.proofs.Lanes.{lanes-some, lane_room}
 use Rattle.group.specs.Walk.{ids_of, chosen}
-use Rattle.group.proofs.Choose.{choose_one, choose-store, choose-none}
 use Rattle.group.proofs.marked_ids.Given as goal
 
 abbrev pub invariant-loop-j : goal.invariant-loop-j

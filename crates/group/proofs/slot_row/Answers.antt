@@ -1,5 +1,4 @@
 -- `group::slot_row` meets its contract: an empty slot leads nowhere, another where a search for its lane leads. Assumes nothing.
-use borrow.Author.Rules.{rules}
 use Prim.Native.Nat.{◌+◌, ◌*◌, ◌≤◌}
 use native.Mathlib.Omega.{arith}
 use lib.ListN.{length, get_or}

@@ -5,7 +5,7 @@ use native.Mathlib.Omega.{arith}
 use lib.ListN.{length, take}
 use lib.Seq.{length-take-le}
 use Rattle.lists.specs.Select.{insert_after, numbered}
-use Rattle.grow.proofs.Growing.{Grows, grows_start, grows_some, grows-turn, grows_end, length_cut, written-few}
+use Rattle.grow.proofs.Growing.{grows_start, grows_some, grows-turn, grows_end, length_cut, written-few}
 use Rattle.grow.proofs.grow.Goals as goal
 use Rattle.grow.proofs.grow.Lts as lts
 use Rattle.grow.proofs.grow.Reads as reads
@@ -53,9 +53,6 @@ overflow_add-written c =
 
 pub loop-i-smaller : goal.loop-i-smaller
 loop-i-smaller c = omega (arith, sub-i c.before.before.before.before.before.before)
-
-pub shape_of-slots : goal.shape_of-slots
-shape_of-slots c = c.loop-i.invariant.long
 
 pub returns : goal.returns
 returns c =

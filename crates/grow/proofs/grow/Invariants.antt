@@ -1,12 +1,7 @@
 -- `grow::grow` meets its contract. The invariant: the ids from i on stand where they go, each cut one with its second half behind it; `to` is how many slots the ids
 -- before i need, and what is still to be written is what they want written. The measure is i. Assumes nothing.
-use mathlib.Core.Path.{◌≡◌}
-use Prim.Native.Nat.{◌+◌, ◌-◌}
-use native.Mathlib.Omega.{arith}
-use lib.ListN.{length, take}
-use lib.Seq.{length-take-le}
-use Rattle.lists.specs.Select.{insert_after, numbered}
-use Rattle.grow.proofs.Growing.{Grows, grows_start, grows_some, grows-turn, grows_end, length_cut, written-few}
+use Rattle.lists.specs.Select.{numbered}
+use Rattle.grow.proofs.Growing.{Grows}
 use Rattle.grow.proofs.grow.Given as goal
 
 abbrev pub invariant-loop-i : goal.invariant-loop-i

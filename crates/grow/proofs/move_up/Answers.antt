@@ -1,5 +1,4 @@
 -- `grow::move_up` meets its contract: by what was found and whether the places meet. Assumes nothing.
-use borrow.Author.Rules.{rules}
 use mathlib.Core.Path.{◌∙◌}
 use native.Mathlib.Omega.{arith}
 use lib.ListN.{get_or, length-set}

@@ -1,6 +1,5 @@
 -- `grows::grow_list` meets its contract. Assumes nothing.
 use mathlib.Core.Path.{ap}
-use borrow.Author.Rules.{rules}
 use Rattle.grows.proofs.Lists.{grow-may, list_grew}
 use Rattle.grows.proofs.grow_list.Goals as goal
 

@@ -1,5 +1,4 @@
 -- `in_place::line_up` meets its contract: of a line with no point, of one that is drawn, of one that lies before its place, and of one that does not. Assumes nothing.
-use borrow.Author.Rules.{rules}
 use native.Mathlib.Omega.{arith}
 use mathlib.Core.Path.{sym, ◌∙◌}
 use Prim.Native.Nat.{◌/◌}

@@ -1,8 +1,8 @@
 -- `in_place::shift_down` meets its contract. The invariant: the first i floats are moved, and nothing else has changed. Assumes nothing.
 use mathlib.Core.Path.{◌≡◌, refl, ◌∙◌, ap}
 use native.Mathlib.Omega.{arith}
-use Prim.Native.Nat.{ℕ, ◌-◌, ◌≤◌}
-use lib.ListN.{length, take, drop, length-set}
+use Prim.Native.Nat.{ℕ}
+use lib.ListN.{take, drop, length-set}
 use lib.Ieee.{nan}
 use Rattle.lists.specs.Rows.{over}
 use Rattle.layout.proofs.Laws.{copy_start}
@@ -12,32 +12,11 @@ use Rattle.in_place.proofs.shift_down.Goals as goal
 pub loop-i-init : goal.loop-i-init
 loop-i-init c = let a = c.args in (omega arith, (refl, copy_start a.c.now a.c.now a.at a.start))
 
-pub overflow_add-c : goal.overflow_add-c
-overflow_add-c c = omega arith
-
-pub offset_bounds-c-start : goal.offset_bounds-c-start
-offset_bounds-c-start c = omega arith
-
-pub bounds-c-start : goal.bounds-c-start
-bounds-c-start c = omega arith
-
-pub overflow_add-c-in-loop-i : goal.overflow_add-c-in-loop-i
-overflow_add-c-in-loop-i c = omega arith
-
-pub offset_bounds-c-at : goal.offset_bounds-c-at
-offset_bounds-c-at c = omega arith
-
-pub bounds-c-at : goal.bounds-c-at
-bounds-c-at c = omega arith
-
 pub loop-i-preserved : goal.loop-i-preserved
 loop-i-preserved c =
     let a = c.args in
     let l = c.loop-i in
     (omega arith, (simp length-set l.invariant.1.0, down_step a.c.now l.c a.at a.start nan l.i l.invariant.1.1 (omega arith) (omega arith)))
-
-pub shape_of-c : goal.shape_of-c
-shape_of-c c = c.loop-i.invariant.1.0
 
 pub returns : goal.returns
 returns c =

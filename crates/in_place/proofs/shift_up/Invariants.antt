@@ -1,11 +1,8 @@
 -- `in_place::shift_up` meets its contract. The invariant: the floats from i on are moved, and nothing else has changed. Assumes nothing.
-use mathlib.Core.Path.{◌≡◌, refl}
-use native.Mathlib.Omega.{arith}
+use mathlib.Core.Path.{◌≡◌}
 use Prim.Native.Nat.{◌+◌, ◌-◌, ◌≤◌}
-use lib.ListN.{length, take, drop, length-set}
-use lib.Ieee.{nan}
+use lib.ListN.{length, take, drop}
 use Rattle.lists.specs.Rows.{over}
-use Rattle.in_place.proofs.Shifts.{up_step, up_start, up-end}
 use Rattle.in_place.proofs.shift_up.Given as goal
 
 abbrev pub invariant-loop-i : goal.invariant-loop-i

@@ -1,6 +1,5 @@
 -- `job_marks::mark_row` meets its contract: a search in the rows behind the count, and one store. Assumes nothing.
 use Rattle.std.specs.Prelude.{Some}
-use borrow.Author.Rules.{rules}
 use mathlib.Core.Path.{◌≡◌, sym, ◌∙◌}
 use Prim.Native.Nat.{◌<◌}
 use Rattle.tables.specs.View.{word}

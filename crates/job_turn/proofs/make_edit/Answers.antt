@@ -1,14 +1,11 @@
 -- `job_turn::make_edit` meets its contract: the warnings are lent from row `at` on, and what the call leaves is read off. Assumes nothing.
-use borrow.Author.Rules.{rules}
 use mathlib.Core.Path.{refl}
-use mathlib.Core.List.{[]}
 use Prim.Native.Nat.{◌-◌, ◌*◌, ◌≤◌}
 use native.Mathlib.Omega.{arith}
-use native.Mathlib.Nat.{le_refl}
 use lib.ListN.{length}
 use borrow.Rule.Slice.PartMut.{mid_of, same_len_mid}
-use Rattle.tables.specs.View.{Tables, tables_of}
-use Rattle.step.specs.Step.{Lent, lent_of}
+use Rattle.lent.specs.Lent.{map_tables, view_rows}
+use Rattle.step.specs.Step.{Lent}
 use Rattle.job_turn.proofs.Ends.{Fits, room_fits, may-mark, made_as}
 use Rattle.step.proofs.Counter.{counter-word}
 use Rattle.job_turn.proofs.make_edit.Goals as goal
@@ -17,23 +14,22 @@ use Rattle.job_turn.proofs.make_edit.Goals.{Start}
 -- what is lent
 abbrev lent : Start → Lent
 lent s =
-    lent_of s.args.counter s.args.lanes.now s.args.boundaries.now s.args.roads.now s.args.junctions.now s.args.rules.now s.args.stop_lines.now
-    s.args.crosswalks.now s.args.coordinates.now s.args.created.now s.args.modified.now s.args.deleted.now
-    (mid_of (s.args.at * 10) (length s.args.warnings.now - s.args.at * 10) s.args.warnings.now)
-
--- the tables by whose rows is marked
-abbrev old : Start → Tables
-old s =
-    tables_of s.args.old_lanes.now s.args.old_boundaries.now s.args.old_roads.now s.args.old_junctions.now s.args.old_rules.now s.args.old_stop_lines.now
-    s.args.old_crosswalks.now []
+    record {
+      counter = s.args.counter;
+      tables = map_tables s.args.map.now;
+      created = s.args.lists.now.created.now;
+      modified = s.args.lists.now.modified.now;
+      deleted = s.args.lists.now.deleted.now;
+      warnings = mid_of (s.args.at * 10) (length s.args.lists.now.warnings.now - s.args.at * 10) s.args.lists.now.warnings.now;
+    }
 
 fits : (s : Start) → Fits s.args.tolerance s.args.command (lent s)
 fits s =
     room_fits s.args.tolerance s.args.command (lent s) s.requires.0 s.requires.1.1.1.1.0 s.requires.1.1.1.1.1.0 s.requires.1.1.1.1.1.1 s.args.at
-    s.args.warnings.now refl s.requires.1.1.1.0
+    s.args.lists.now.warnings.now refl s.requires.1.1.1.0
 
 -- the part begins within the warnings
-begins : (s : Start) → s.args.at * 10 ≤ length s.args.warnings.now
+begins : (s : Start) → s.args.at * 10 ≤ length s.args.lists.now.warnings.now
 begins s = omega (arith, s.requires.1.1.1.0)
 
 pub overflow_mul-first : goal.overflow_mul-first
@@ -52,63 +48,35 @@ pub mark_all-requires : goal.mark_all-requires
 mark_all-requires c =
     let s = (goal.at.mark_all-requires c).Start in
     let d = c.answered-answer in
-    (s.requires.1.0, (s.requires.1.1.0, may-mark s.args.tolerance s.args.command (lent s) _ d.result d.ensures s.requires.0 (fits (goal.at.mark_all-requires c).Start) c.answer_counts-n.result c.answer_counts-n.ensures d.auto.modified))
+    (c.requires.1.0, (c.requires.1.1.0, may-mark s.args.tolerance s.args.command (lent s) _ d.result d.ensures.made s.requires.0 (fits s) c.answer_counts-n.result c.answer_counts-n.ensures d.auto.modified))
 
 pub turn_of-requires : goal.turn_of-requires
 turn_of-requires c =
     let s = (goal.at.turn_of-requires c).Start in
     let d = c.answered-answer in
-    counter-word s.args.tolerance s.args.command (lent s) _ d.result d.ensures (omega (arith, s.well_formed))
+    counter-word s.args.tolerance s.args.command (lent s) _ d.result d.ensures.made (omega (arith, s.well_formed))
 
-pub shape_of-lanes : goal.shape_of-lanes
-shape_of-lanes c = c.answered-answer.auto.lanes
-
-pub shape_of-boundaries : goal.shape_of-boundaries
-shape_of-boundaries c = c.answered-answer.auto.boundaries
-
-pub shape_of-roads : goal.shape_of-roads
-shape_of-roads c = c.answered-answer.auto.roads
-
-pub shape_of-junctions : goal.shape_of-junctions
-shape_of-junctions c = c.answered-answer.auto.junctions
-
-pub shape_of-rules : goal.shape_of-rules
-shape_of-rules c = c.answered-answer.auto.rules
-
-pub shape_of-stop_lines : goal.shape_of-stop_lines
-shape_of-stop_lines c = c.answered-answer.auto.stop_lines
-
-pub shape_of-crosswalks : goal.shape_of-crosswalks
-shape_of-crosswalks c = c.answered-answer.auto.crosswalks
-
-pub shape_of-coordinates : goal.shape_of-coordinates
-shape_of-coordinates c = c.answered-answer.auto.coordinates
-
-pub shape_of-created : goal.shape_of-created
-shape_of-created c = c.answered-answer.auto.created
-
-pub shape_of-modified : goal.shape_of-modified
-shape_of-modified c = c.answered-answer.auto.modified
-
-pub shape_of-deleted : goal.shape_of-deleted
-shape_of-deleted c = c.answered-answer.auto.deleted
-
-pub shape_of-warnings : goal.shape_of-warnings
-shape_of-warnings c =
-    let s = (goal.at.shape_of-warnings c).Start in
-    let d = c.answered-answer in
-    same_len_mid (s.args.at * 10) (length s.args.warnings.now - s.args.at * 10) s.args.warnings.now d.new.warnings d.auto.warnings
-
-pub shape_of-marks : goal.shape_of-marks
-shape_of-marks c = c.mark_all.auto.marks
-
-pub returns : goal.returns
-returns c =
-    let s = (goal.at.returns c).Start in
+pub returns-clause-made : goal.returns-clause-made
+returns-clause-made c =
+    let s = (goal.at.returns-clause-made c).Start in
     let d = c.answered-answer in
     let m = c.mark_all in
     let n = c.answer_counts-n in
-    made_as s.args.tolerance s.args.command (lent s) _ d.result d.ensures s.requires.0 (fits (goal.at.returns c).Start) (old s) s.args.marks.now m.new.marks s.args.at s.args.warnings.now _ n.result c.turn_of.result n.ensures m.ensures (begins (goal.at.returns c).Start) refl refl c.turn_of.ensures
+    made_as s.args.tolerance s.args.command (lent s) _ d.result d.ensures.made s.requires.0 (fits s) (view_rows c.args.old) c.args.marks.now m.new.marks s.args.at s.args.lists.now.warnings.now _ n.result c.turn_of.result n.ensures m.ensures (begins s) refl refl c.turn_of.ensures
 
 pub slice_bounds-answered-start : goal.slice_bounds-answered-start
 slice_bounds-answered-start c = omega (arith, begins (goal.at.slice_bounds-answered-start c).Start)
+
+pub returns-clause-same_lists : goal.returns-clause-same_lists
+returns-clause-same_lists c =
+    let d = c.answered-answer in
+    record {
+      created = refl;
+      modified = refl;
+      deleted = refl;
+      warnings = refl;
+      created_length = d.auto.created;
+      modified_length = d.auto.modified;
+      deleted_length = d.auto.deleted;
+      warnings_length = same_len_mid (c.args.at * 10) (length c.args.lists.now.warnings.now - c.args.at * 10) c.args.lists.now.warnings.now d.new.warnings d.auto.warnings;
+    }

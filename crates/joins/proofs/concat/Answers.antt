@@ -1,5 +1,4 @@
 -- `joins::concat` meets its contract: the second line is written behind the first. Assumes nothing.
-use borrow.Author.Rules.{rules}
 use mathlib.Core.Path.{ap}
 use native.Mathlib.Omega.{arith}
 use lib.ListN.{length, drop, length-drop}

@@ -1,5 +1,4 @@
 -- `joins::concat_points` meets its contract: the points skipped are no more than there are. Assumes nothing.
-use borrow.Author.Rules.{rules}
 use native.Mathlib.Omega.{arith}
 use Rattle.polyline.specs.Polyline.{points}
 use Rattle.polyline.proofs.Points.{length-points}

@@ -1,9 +1,8 @@
 -- `joins::copy_points` meets its contract: what is left, written behind what was written, makes the whole. Assumes nothing.
 use Prim.Native.Nat.{◌+◌, ◌≤◌, ◌<◌, ◌-◌}
-use mathlib.Core.Path.{◌≡◌, refl}
+use mathlib.Core.Path.{◌≡◌}
 use mathlib.Core.List.{List, [], ◌∷◌, ◌++◌}
 use native.Mathlib.Omega.{arith}
-use borrow.Author.Rules.{rules}
 use lib.ListN.{length, drop}
 use Rattle.polyline.specs.Polyline.{points}
 use Rattle.polyline.proofs.Walk.{at, left-none, left-more}
@@ -35,9 +34,6 @@ loop-i-init c =
     let here : c.args.k + (c.args.from - c.args.from) ≡ c.args.k = omega arith in
     rw here (begins c.args.out.now c.args.k (drop c.args.from (points c.args.line.now)))
 
-pub point-requires : goal.point-requires
-point-requires c = omega (arith, c.count-n.ensures, c.loop-i-test.true)
-
 pub put_point-requires : goal.put_point-requires
 put_point-requires c =
     let r = fits_more _ _ _ _ (whole c.before.before.before) (at (line_of c.before.before.before) c.loop-i.i ∷ []) (drop (c.loop-i.i + 1) (line_of c.before.before.before)) c.requires (next c.before.before.before) in
@@ -47,9 +43,6 @@ pub loop-i-preserved : goal.loop-i-preserved
 loop-i-preserved c =
     rw (c.put_point.ensures, c.point.ensures)
     (goes_on _ _ _ _ (whole c.before.before.before.before.before.before) (at (line_of c.before.before.before.before.before.before) c.loop-i.i ∷ []) (drop (c.loop-i.i + 1) (line_of c.before.before.before.before.before.before)) c.requires (next c.before.before.before.before.before.before) (c.args.k + (c.loop-i.i + 1 - c.args.from)) (omega (arith, c.loop-i.auto.i)))
-
-pub shape_of-out : goal.shape_of-out
-shape_of-out c = c.loop-i.invariant.same
 
 pub returns : goal.returns
 returns c =

@@ -1,5 +1,4 @@
 -- `joins::meeting` meets its contract: by which of the two points is there. Assumes nothing.
-use borrow.Author.Rules.{rules}
 use Rattle.polyline.specs.Polyline.{meeting}
 use Rattle.joins.proofs.meeting.Goals as goal
 

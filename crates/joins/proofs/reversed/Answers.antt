@@ -3,7 +3,6 @@ use Prim.Native.Nat.{◌+◌, ◌*◌, ◌≤◌, ◌<◌, ◌-◌}
 use mathlib.Core.Path.{refl}
 use mathlib.Core.List.{List, [], ◌∷◌, ◌++◌, reverse}
 use native.Mathlib.Omega.{arith}
-use borrow.Author.Rules.{rules}
 use lib.ListN.{length, take, length-reverse}
 use Rattle.polyline.specs.Polyline.{points}
 use Rattle.polyline.proofs.Walk.{at}
@@ -38,15 +37,6 @@ room c = omega (arith, length-reverse (line_of c), c.requires)
 pub loop-i-init : goal.loop-i-init
 loop-i-init c = (omega arith, rw (reverse-begins (points c.args.line.now)) (begins c.args.out.now 0 (reverse (points c.args.line.now))))
 
-pub overflow_sub-n : goal.overflow_sub-n
-overflow_sub-n c = omega (arith, c.loop-i-test.true)
-
-pub overflow_sub-n-in-loop-i : goal.overflow_sub-n-in-loop-i
-overflow_sub-n-in-loop-i c = omega (arith, c.loop-i-test.true)
-
-pub point-requires : goal.point-requires
-point-requires c = omega (arith, c.count-n.ensures, c.loop-i-test.true)
-
 pub put_point-requires : goal.put_point-requires
 put_point-requires c =
     let r = fits_more _ _ _ _ (reverse (line_of c.before.before.before)) (point-of c.before.before.before ∷ []) (rest c.before.before.before) (room c.before.before.before) (next c.before.before.before) in
@@ -58,9 +48,6 @@ loop-i-preserved c = (
   rw (c.put_point.ensures, c.point.ensures, c.count-n.ensures)
       (goes_on _ _ _ _ (reverse (line_of c.before.before.before.before.before.before)) (point-of c.before.before.before.before.before.before ∷ []) (rest c.before.before.before.before.before.before) (room c.before.before.before.before.before.before) (next c.before.before.before.before.before.before) (c.loop-i.i + 1) refl),
 )
-
-pub shape_of-out : goal.shape_of-out
-shape_of-out c = c.loop-i.invariant.1.same
 
 pub returns : goal.returns
 returns c =

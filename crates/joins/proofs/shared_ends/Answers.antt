@@ -1,5 +1,4 @@
 -- `joins::shared_ends` meets its contract. Assumes nothing.
-use borrow.Author.Rules.{rules}
 use Rattle.polyline.specs.Polyline.{skipped}
 use Rattle.joins.proofs.shared_ends.Goals as goal
 

@@ -7,7 +7,6 @@ use native.Mathlib.Omega.{arith}
 use lib.Ieee.{Float}
 use lib.ListN.{length, take}
 use lib.Seq.{length-take-le}
-use borrow.Author.Rules.{rules}
 use Rattle.polyline.specs.Polyline.{points}
 use Rattle.entities.specs.Records.{Line}
 use Rattle.rules.specs.Names.{Side, Left, Right}

@@ -1,6 +1,5 @@
 -- `lane_lines::centerline` meets its contract: by the mark of an explicit centreline. Assumes nothing.
 use native.Mathlib.Omega.{arith}
-use borrow.Author.Rules.{rules}
 use Rattle.polyline.specs.Polyline.{points}
 use Rattle.lookup.proofs.Laws.{sorted-row, written-some}
 use Rattle.lookup.proofs.Center.{center_derived, center_explicit, center_stored, center_short, written_as}

@@ -1,10 +1,9 @@
 -- `lane_lines::copied` meets its contract: what is left, written behind what was written, makes the whole. Assumes nothing.
 use mathlib.Core.Path.{refl}
 use mathlib.Core.List.{List, [], ◌∷◌, ◌++◌}
-use Prim.Native.Nat.{◌+◌, ◌*◌, ◌≤◌, ◌<◌, ◌-◌}
+use Prim.Native.Nat.{◌+◌, ◌*◌, ◌≤◌, ◌<◌}
 use native.Mathlib.Omega.{arith}
 use lib.ListN.{length, drop}
-use borrow.Author.Rules.{rules}
 use Rattle.geometry.specs.declared.Point3.{Point3}
 use Rattle.polyline.specs.Polyline.{points}
 use Rattle.polyline.proofs.Walk.{at, left-none, left-more}

@@ -2,7 +2,6 @@
 use mathlib.Core.Path.{◌∙◌, sym}
 use mathlib.Core.Bool.{cond}
 use mathlib.Core.List.{reverse}
-use borrow.Author.Rules.{rules}
 use Rattle.polyline.specs.Polyline.{points}
 use Rattle.lookup.specs.Lookup.{row_at}
 use Rattle.lookup.proofs.Laws.{place-within, oriented-absent, oriented-there, short-fits, length-turned, written_none, written-some}

@@ -1,5 +1,4 @@
 -- `lane_lines::put_line` meets its contract: by the way the line is written. Assumes nothing.
-use borrow.Author.Rules.{rules}
 use Rattle.lane_lines.proofs.put_line.Goals as goal
 
 pub returns-then-back : goal.returns-then-back

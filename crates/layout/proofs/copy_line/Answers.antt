@@ -1,5 +1,4 @@
 -- `layout::copy_line` meets its contract: of a line with no point, of one among the drawn lines, and of one that begins before `reach`. Assumes nothing.
-use borrow.Author.Rules.{rules}
 use native.Mathlib.Omega.{arith}
 use Prim.Native.Nat.{◌*◌}
 use Rattle.layout.specs.Layout.{sourced}

@@ -1,5 +1,4 @@
 -- `layout_all::gather_center` meets its contract: of a lane with no explicit centreline, and of one that has one. Assumes nothing.
-use borrow.Author.Rules.{rules}
 use Rattle.layout.specs.Layout.{sourced, centerlines}
 use Rattle.layout.proofs.Column.{row_stays, row-ready, row-turned, center_there, center_absent}
 use native.Mathlib.Omega.{arith}

@@ -1,10 +1,10 @@
 -- `layout_all::gather_centers` meets its contract. The invariant: what becomes of the centrelines is what becomes of those from lane i on, from the place as it is.
 use native.Mathlib.Omega.{arith}
-use Prim.Native.Nat.{◌+◌, ◌-◌, ◌*◌, ◌≤◌}
+use Prim.Native.Nat.{◌+◌, ◌*◌}
 use Rattle.tables.specs.View.{word}
 use Rattle.apart.proofs.Marks.{counted-facts}
 use Rattle.layout.specs.Layout.{sourced, centerlines}
-use Rattle.layout.proofs.Column.{Left, RowReady, left-start, left-row, left-turn, left-done}
+use Rattle.layout.proofs.Column.{RowReady, left-start, left-row, left-turn, left-done}
 use Rattle.layout_all.proofs.gather_centers.Goals as goal
 use Rattle.layout_all.proofs.gather_centers.Lts as lts
 use Rattle.layout_all.proofs.gather_centers.Reads as reads

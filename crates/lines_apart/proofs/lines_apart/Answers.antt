@@ -1,6 +1,5 @@
 -- `lines_apart::lines_apart` meets its contract: 65,536 points, none of them marked at first. Assumes nothing.
 use mathlib.Core.Path.{◌∙◌}
-use borrow.Author.Rules.{rules}
 use Rattle.apart.specs.Marks.{line_spans}
 use Rattle.apart.proofs.Stored.{all-facts}
 use Rattle.apart.proofs.Clear.{apart-clear}

@@ -4,7 +4,6 @@ use mathlib.Core.Bool.{true}
 use mathlib.Core.List.{List, ◌++◌}
 use native.Mathlib.Omega.{arith}
 use lib.ListN.{length}
-use borrow.Author.Rules.{rules}
 use Rattle.lists.specs.Every.{all}
 use Rattle.tables.specs.View.{rows}
 use Rattle.tables.specs.Formed.{Span, span_at, center_span, counted}

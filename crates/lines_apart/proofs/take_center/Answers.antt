@@ -1,6 +1,5 @@
 -- `lines_apart::take_center` meets its contract: of a lane with no explicit centreline, and of one that has one. Assumes nothing.
 use lib.ListN.{length}
-use borrow.Author.Rules.{rules}
 use Rattle.tables.specs.Formed.{span_at, center_span}
 use Rattle.apart.specs.Marks.{within}
 use Rattle.apart.proofs.Marks.{take_no, take-one, one-fits, center_none, center_one}

@@ -65,12 +65,6 @@ overflow_add-end c = omega (arith, room c.before)
 pub offset_bounds-t-at : goal.offset_bounds-t-at
 offset_bounds-t-at c = omega (arith, room c.before)
 
-pub slice_bounds-take_center-count : goal.slice_bounds-take_center-count
-slice_bounds-take_center-count c = omega arith
-
-pub slice_bounds-take_center-start : goal.slice_bounds-take_center-start
-slice_bounds-take_center-start c = omega arith
-
 pub slice_bounds-take_center-end : goal.slice_bounds-take_center-end
 slice_bounds-take_center-end c = room c.before
 
@@ -94,9 +88,6 @@ pub returns-then-not-take_center : goal.returns-then-not-take_center
 returns-then-not-take_center c =
     let t = c in
     (sym (left-stop c.args.marks.now (whole c.before.before.before.before.before.before.before) c.loop-i.marks (center_span (lane c.before.before.before.before.before.before.before)) (rest c.before.before.before.before.before.before.before) (next c.before.before.before.before.before.before.before) (sym c.take_center.ensures.0 ∙ (not-true c.take_center.result (ap not c.if-not-take_center.true)))), λ h. never h)
-
-pub shape_of-marks : goal.shape_of-marks
-shape_of-marks c = c.loop-i.invariant.1.long
 
 pub returns : goal.returns
 returns c =

@@ -94,9 +94,6 @@ returns-then-not-take_line c =
     let e = take-one c.loop-i.marks c.take_line.new.marks (line c.before.before.before.before.before.before.before.before) (line c.before.before.before.before.before.before.before.before ∷ []) c.take_line.result refl c.take_line.ensures.0 c.take_line.ensures.1 in
     (sym (left-stop c.args.marks.now (whole c.before.before.before.before.before.before.before.before) c.loop-i.marks (line c.before.before.before.before.before.before.before.before ∷ []) (rest c.before.before.before.before.before.before.before.before) (next c.before.before.before.before.before.before.before.before) (sym e.0 ∙ (not-true c.take_line.result (ap not c.if-not-take_line.true)))), λ h. never h)
 
-pub shape_of-marks : goal.shape_of-marks
-shape_of-marks c = c.loop-i.invariant.1.long
-
 pub returns : goal.returns
 returns c =
     let a = c.args in

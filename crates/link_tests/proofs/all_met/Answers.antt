@@ -1,17 +1,17 @@
 -- `link_tests::all_met` meets its contract. The invariant: the lanes before i are met, and the cursors count their links. Assumes nothing.
 use borrow.Author.Tests.{not-true, not-false}
 use mathlib.Core.Path.{◌≡◌, refl, sym, ap, ◌∙◌}
-use mathlib.Core.Bool.{true, not}
+use mathlib.Core.Bool.{not}
 use mathlib.Core.Logic.{⊎_elim}
-use Prim.Native.Nat.{ℕ, ◌-◌, ◌≤◌, ◌<◌}
+use Prim.Native.Nat.{ℕ}
 use native.Mathlib.Nat.{eq-or-lt_of_le, le_of_suc-le-suc}
 use native.Mathlib.Numerals.{add-one}
 use native.Mathlib.Omega.{arith}
 use lib.ListN.{length}
 use Rattle.lists.specs.Select.{same_numbers}
 use Rattle.tables.specs.View.{word, rows}
-use Rattle.row_tests.proofs.Lanes.{lanes-some, lanes-few}
-use Rattle.link_tests.specs.Met.{cursors, lane_met}
+use Rattle.row_tests.proofs.Lanes.{lanes-some}
+use Rattle.link_tests.specs.Met.{cursors}
 use Rattle.link_tests.proofs.Steps.{cursors-many, lane-stops, met-ends}
 use Rattle.link_tests.proofs.all_met.Goals as goal
 
@@ -40,9 +40,6 @@ returns-then-not-lane_met c =
 
 pub ends_met-requires : goal.ends_met-requires
 ends_met-requires c = let b = c.before.before.before.before.before.before.before in (b.requires.0.0.sorted, ap length c.loop-i.invariant.1.1.0 ∙ cursors-many b.args.t.now c.loop-i.i 0)
-
-pub shape_of-met : goal.shape_of-met
-shape_of-met c = c.loop-i.invariant.1.0
 
 pub returns : goal.returns
 returns c =

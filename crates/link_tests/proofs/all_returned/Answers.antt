@@ -1,5 +1,4 @@
 -- `link_tests::all_returned` meets its contract: the ids are those of the table. Assumes nothing.
-use borrow.Author.Rules.{rules}
 use mathlib.Core.Path.{refl, ◌∙◌}
 use native.Mathlib.Omega.{arith}
 use Rattle.row_ids.proofs.Laws.{spare-all}

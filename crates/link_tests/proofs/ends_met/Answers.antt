@@ -1,6 +1,6 @@
 -- `link_tests::ends_met` meets its contract. The invariant: the cursors are the counts where those from j on are. Assumes nothing.
 use mathlib.Core.Path.{◌≡◌, refl, sym, ◌∙◌}
-use Prim.Native.Nat.{◌+◌, ◌-◌, ◌*◌, ◌≤◌, ◌<◌}
+use Prim.Native.Nat.{◌+◌, ◌*◌, ◌≤◌, ◌<◌}
 use native.Mathlib.Omega.{arith}
 use lib.ListN.{length, get_or, drop}
 use lib.Dec.{eqb}
@@ -38,9 +38,6 @@ turn c =
 
 pub loop-j-init : goal.loop-j-init
 loop-j-init c = (omega arith, refl)
-
-pub bounds-met-j : goal.bounds-met-j
-bounds-met-j c = omega arith
 
 pub overflow_cast-met : goal.overflow_cast-met
 overflow_cast-met c = omega (arith, c.shared_slice_known-1.given c.loop-j.j)

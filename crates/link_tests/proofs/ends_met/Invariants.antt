@@ -1,15 +1,9 @@
 -- `link_tests::ends_met` meets its contract. The invariant: the cursors are the counts where those from j on are. Assumes nothing.
-use mathlib.Core.Path.{◌≡◌, refl, sym, ◌∙◌}
-use Prim.Native.Nat.{◌+◌, ◌-◌, ◌*◌, ◌≤◌, ◌<◌}
-use native.Mathlib.Omega.{arith}
-use lib.ListN.{length, get_or, drop}
-use lib.Dec.{eqb}
-use mathlib.Core.Bool.{◌&&◌}
-use borrow.Author.Tests.{eq-eqb, ne_eqb}
+use mathlib.Core.Path.{◌≡◌}
+use Prim.Native.Nat.{◌≤◌}
+use lib.ListN.{length, drop}
 use Rattle.lists.specs.Select.{same_numbers}
 use Rattle.tables.specs.View.{word, rows}
-use Rattle.row_tests.proofs.Lanes.{lane_room}
-use Rattle.link_tests.proofs.Steps.{same_step, same_end, counts-many, count_at}
 use Rattle.link_tests.proofs.ends_met.Given as goal
 
 abbrev pub invariant-loop-j : goal.invariant-loop-j

@@ -3,16 +3,15 @@ use borrow.Author.Tests.{not-true, not-false}
 use mathlib.Core.Path.{◌≡◌, refl, sym, ◌∙◌, ap}
 use mathlib.Core.List.{List}
 use mathlib.Core.Bool.{true, ◌&&◌, true≢false, not}
-use mathlib.Core.Logic.{inr}
-use Prim.Native.Nat.{ℕ, ◌+◌, ◌-◌, ◌*◌, ◌≤◌}
+use Prim.Native.Nat.{ℕ, ◌+◌, ◌*◌, ◌≤◌}
 use native.Mathlib.Omega.{arith}
 use lib.ListN.{length, get_or, drop}
 use Rattle.lists.specs.Every.{all}
 use Rattle.lists.proofs.Every.{all-step, all_end}
 use Rattle.tables.specs.View.{word, ids_at}
 use Rattle.row_tests.specs.Returned.{searchable, lane_at}
-use Rattle.row_tests.proofs.Lanes.{lane_room, links-within, word_at}
-use Rattle.link_tests.specs.Met.{cursors, link_met, lane_met}
+use Rattle.row_tests.proofs.Lanes.{lane_room, word_at}
+use Rattle.link_tests.specs.Met.{link_met, lane_met}
 use Rattle.link_tests.proofs.Followed.{length-after}
 use Rattle.link_tests.proofs.Steps.{lane-moved}
 use Rattle.link_tests.proofs.lane_met.Goals as goal
@@ -38,9 +37,6 @@ room c = lane_room (words c) (sorted c) c.args.i c.requires.1.0
 
 count-is : (c : AtStart) → get_or (words c) (1 + c.args.i * 52 + 35) 0 ≡ word 35 (lane_at (words c) c.args.i)
 count-is c = word_at (words c) c.args.i 35 (omega arith)
-
-few : (c : AtStart) → 35 + 1 + get_or (words c) (1 + c.args.i * 52 + 35) 0 ≤ 52
-few c = links-within (words c) (sorted c) c.args.i c.requires.1.0 35 (inr refl)
 
 -- the links from one on, one after the other
 turn : (c : AtInLoopK)
@@ -87,9 +83,6 @@ pub returns-then-not-link_met : goal.returns-then-not-link_met
 returns-then-not-link_met c =
     let l = c.link_met in
     (sym (turn c.before.before.before.before.before.before ∙ rw (← l.ensures.0, (not-true c.link_met.result (ap not c.if-not-link_met.true)))), λ z. absurd (true≢false (sym z)))
-
-pub shape_of-met : goal.shape_of-met
-shape_of-met c = c.loop-k.invariant.1.0
 
 pub returns : goal.returns
 returns c =

@@ -1,6 +1,5 @@
 -- `link_tests::link_met` meets its contract. By the three ways out: the lane is absent, its list has a place for the link, its list is at its end. Assumes nothing.
 use Rattle.std.specs.Prelude.{Some}
-use borrow.Author.Rules.{rules}
 use mathlib.Core.Path.{◌≡◌, refl, sym, ap, ◌∙◌}
 use mathlib.Core.List.{List}
 use mathlib.Core.Bool.{true, true≢false}

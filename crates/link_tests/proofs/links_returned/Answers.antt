@@ -1,5 +1,4 @@
 -- `link_tests::links_returned` meets its contract: no link is counted at first. Assumes nothing.
-use borrow.Author.Rules.{rules}
 use native.Mathlib.Omega.{arith}
 use Rattle.tables.specs.View.{word}
 use Rattle.row_tests.proofs.Lanes.{lanes-some, lanes-few}

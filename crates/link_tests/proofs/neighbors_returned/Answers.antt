@@ -1,15 +1,13 @@
 -- `link_tests::neighbors_returned` meets its contract. The invariant: every row passes where those from i on do. Assumes nothing.
 use mathlib.Core.Bool.{not}
 use borrow.Author.Tests.{not-true, not-false}
-use borrow.Author.Rules.{rules}
 use mathlib.Core.Path.{◌≡◌, refl, ap}
 use mathlib.Core.Logic.{inl, inr}
-use Prim.Native.Nat.{◌-◌, ◌≤◌}
 use native.Mathlib.Omega.{arith}
 use Rattle.row_tests.specs.Good.{all_rows}
 use Rattle.row_tests.specs.Returned.{slots_returned}
-use Rattle.row_tests.proofs.Tables.{rest_rows, row_of, pass-begins, pass-goes-on, pass-stops, pass-ends}
-use Rattle.row_tests.proofs.Lanes.{lanes-some, lanes-few, lane_row}
+use Rattle.row_tests.proofs.Tables.{row_of, pass-begins, pass-goes-on, pass-stops, pass-ends}
+use Rattle.row_tests.proofs.Lanes.{lanes-some, lane_row}
 use Rattle.link_tests.proofs.neighbors_returned.Goals as goal
 use Rattle.link_tests.proofs.neighbors_returned.Lts as lts
 use Rattle.link_tests.proofs.neighbors_returned.Reads as reads

@@ -1,13 +1,9 @@
 -- `link_tests::neighbors_returned` meets its contract. The invariant: every row passes where those from i on do. Assumes nothing.
-use borrow.Author.Rules.{rules}
-use mathlib.Core.Path.{◌≡◌, refl}
-use mathlib.Core.Logic.{inl, inr}
-use Prim.Native.Nat.{◌-◌, ◌≤◌}
-use native.Mathlib.Omega.{arith}
+use mathlib.Core.Path.{◌≡◌}
+use Prim.Native.Nat.{◌≤◌}
 use Rattle.row_tests.specs.Good.{all_rows}
 use Rattle.row_tests.specs.Returned.{slots_returned}
-use Rattle.row_tests.proofs.Tables.{rest_rows, row_of, pass-begins, pass-goes-on, pass-stops, pass-ends}
-use Rattle.row_tests.proofs.Lanes.{lanes-some, lanes-few, lane_row}
+use Rattle.row_tests.proofs.Tables.{rest_rows}
 use Rattle.link_tests.proofs.neighbors_returned.Given as goal
 
 abbrev pub invariant-loop-i : goal.invariant-loop-i

@@ -1,6 +1,5 @@
 -- `link_tests::slot_returned` meets its contract. By the three ways out: the slot is empty, its lane is absent, its lane is there. Assumes nothing.
 use Rattle.std.specs.Prelude.{Some}
-use borrow.Author.Rules.{rules}
 use mathlib.Core.Path.{◌≡◌, ◌∙◌}
 use mathlib.Core.Bool.{true}
 use mathlib.Core.List.{List}

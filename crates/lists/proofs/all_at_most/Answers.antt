@@ -1,14 +1,11 @@
 -- `lists::all_at_most` meets its contract. The invariant: the list passes where what is left does. Assumes nothing.
-use mathlib.Core.Path.{◌≡◌, refl, sym, ◌∙◌}
+use mathlib.Core.Path.{sym, ◌∙◌}
 use Prim.Native.Nat.{ℕ}
 use lib.Dec.{leb}
 use lib.ListN.{get_or}
 use borrow.Author.Tests.{le-leb, lt-leb}
 use Rattle.lists.proofs.Every.{all-step, all_end}
 use Rattle.lists.proofs.all_at_most.Goals as goal
-
-pub loop-id-init : goal.loop-id-init
-loop-id-init c = refl
 
 pub returns-then-most-id : goal.returns-then-most-id
 returns-then-most-id c =

@@ -1,12 +1,8 @@
 -- `lists::all_at_most` meets its contract. The invariant: the list passes where what is left from i on does. Assumes nothing.
-use mathlib.Core.Path.{◌≡◌, refl, sym, ◌∙◌}
-use Prim.Native.Nat.{ℕ, ◌-◌, ◌≤◌}
-use native.Mathlib.Omega.{arith}
+use mathlib.Core.Path.{◌≡◌}
 use lib.Dec.{leb}
-use lib.ListN.{length, get_or, drop}
-use borrow.Author.Tests.{le-leb, lt-leb}
+use lib.ListN.{drop}
 use Rattle.lists.specs.Every.{all}
-use Rattle.lists.proofs.Every.{all-step, all_end}
 use Rattle.lists.proofs.all_at_most.Given as goal
 
 abbrev pub invariant-loop-id : goal.invariant-loop-id

@@ -1,29 +1,13 @@
 -- `lists::ascends` meets its contract. The invariant: the list ascends where what is left from i on ascends from the id before i.
-use mathlib.Core.Path.{◌≡◌, sym, ◌∙◌}
-use Prim.Native.Nat.{◌-◌, ◌≤◌}
+use mathlib.Core.Path.{sym, ◌∙◌}
+use Prim.Native.Nat.{◌-◌}
 use native.Mathlib.Omega.{arith}
-use lib.ListN.{length, get_or, drop}
-use Rattle.lists.specs.Select.{above, ascending}
+use lib.ListN.{get_or}
 use Rattle.lists.proofs.Select.{ascending-start, ascending-step, ascending_breaks, above-end}
 use Rattle.lists.proofs.ascends.Goals as goal
 
 pub loop-i-init : goal.loop-i-init
 loop-i-init c = (omega arith, ascending-start c.args.ids.now)
-
-pub offset_bounds-ids-i : goal.offset_bounds-ids-i
-offset_bounds-ids-i c = omega arith
-
-pub bounds-ids-i : goal.bounds-ids-i
-bounds-ids-i c = omega arith
-
-pub overflow_sub-i : goal.overflow_sub-i
-overflow_sub-i c = omega arith
-
-pub offset_bounds-ids-i-in-loop-i : goal.offset_bounds-ids-i-in-loop-i
-offset_bounds-ids-i-in-loop-i c = omega arith
-
-pub bounds-ids-i-in-loop-i : goal.bounds-ids-i-in-loop-i
-bounds-ids-i-in-loop-i c = omega arith
 
 pub returns-then-ids-i : goal.returns-then-ids-i
 returns-then-ids-i c = sym (c.loop-i.invariant.1 ∙ ascending_breaks c.args.ids.now c.loop-i.i c.loop-i-test.true c.if-ids-i.true)

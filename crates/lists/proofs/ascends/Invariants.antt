@@ -1,10 +1,8 @@
 -- `lists::ascends` meets its contract. The invariant: the list ascends where what is left from i on ascends from the id before i. Assumes nothing.
-use mathlib.Core.Path.{◌≡◌, sym, ◌∙◌}
+use mathlib.Core.Path.{◌≡◌}
 use Prim.Native.Nat.{◌-◌, ◌≤◌}
-use native.Mathlib.Omega.{arith}
-use lib.ListN.{length, get_or, drop}
+use lib.ListN.{get_or, drop}
 use Rattle.lists.specs.Select.{above, ascending}
-use Rattle.lists.proofs.Select.{ascending-start, ascending-step, ascending_breaks, above-end}
 use Rattle.lists.proofs.ascends.Given as goal
 
 abbrev pub invariant-loop-i : goal.invariant-loop-i

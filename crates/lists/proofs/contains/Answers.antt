@@ -1,5 +1,5 @@
 -- `lists::contains` meets its contract: `has` asks of each id what the library's method asks. Assumes nothing.
-use Rattle.std.proofs.Common.{◌≡◌, ℕ, List, [], ◌∷◌, ◌==◌, Bool, ◌||◌, eqb, refl, ap, ◌∙◌, rules, arith}
+use Rattle.std.proofs.Common.{◌≡◌, ℕ, List, [], ◌∷◌, ◌==◌, ◌||◌, eqb, refl, ap, ◌∙◌, arith}
 use Rattle.std.specs.List.{list_any}
 use Rattle.lists.specs.Select.{has}
 use Rattle.lists.proofs.contains.Goals as goal

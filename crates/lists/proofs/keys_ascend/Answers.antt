@@ -3,8 +3,7 @@ use mathlib.Core.List.{List}
 use mathlib.Core.Path.{◌≡◌, sym, ◌∙◌}
 use Prim.Native.Nat.{ℕ, ◌-◌, ◌*◌, ◌≤◌, ◌<◌}
 use native.Mathlib.Omega.{arith}
-use lib.ListN.{length, get_or, drop}
-use Rattle.lists.specs.Select.{above, ascending}
+use lib.ListN.{length, get_or}
 use Rattle.lists.specs.Rows.{keys}
 use Rattle.lists.proofs.Select.{ascending-start, ascending-step, ascending_breaks, above-end}
 use Rattle.lists.proofs.Rows.{row-start, length-keys, key-at}
@@ -48,9 +47,6 @@ offset_bounds-rows-i c = omega (arith, here c.before)
 
 pub bounds-rows-i : goal.bounds-rows-i
 bounds-rows-i c = here c.before.before
-
-pub overflow_sub-i : goal.overflow_sub-i
-overflow_sub-i c = omega arith
 
 pub overflow_mul-i-in-loop-i : goal.overflow_mul-i-in-loop-i
 overflow_mul-i-in-loop-i c = omega (arith, prior c.before.before)

@@ -1,13 +1,9 @@
 -- `lists::keys_ascend` meets its contract. The invariant is that of `ascends`, of the list of keys. Assumes nothing.
-use mathlib.Core.List.{List}
-use mathlib.Core.Path.{◌≡◌, sym, ◌∙◌}
-use Prim.Native.Nat.{ℕ, ◌-◌, ◌*◌, ◌≤◌, ◌<◌}
-use native.Mathlib.Omega.{arith}
-use lib.ListN.{length, get_or, drop}
+use mathlib.Core.Path.{◌≡◌}
+use Prim.Native.Nat.{◌-◌, ◌≤◌}
+use lib.ListN.{get_or, drop}
 use Rattle.lists.specs.Select.{above, ascending}
 use Rattle.lists.specs.Rows.{keys}
-use Rattle.lists.proofs.Select.{ascending-start, ascending-step, ascending_breaks, above-end}
-use Rattle.lists.proofs.Rows.{row-start, length-keys, key-at}
 use Rattle.lists.proofs.keys_ascend.Given as goal
 
 abbrev pub invariant-loop-i : goal.invariant-loop-i

@@ -1,6 +1,5 @@
 -- `lookup::boundary_ref` meets its contract: the words of row i, by side. Assumes nothing.
 use native.Mathlib.Omega.{arith}
-use borrow.Author.Rules.{rules}
 use Rattle.lookup.proofs.Laws.{sorted-row, side-small, ref-read}
 use Rattle.lookup.proofs.boundary_ref.Goals as goal
 

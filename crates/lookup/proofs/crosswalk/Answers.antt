@@ -1,6 +1,5 @@
 -- `lookup::crosswalk` meets its contract: the table is sorted. Assumes nothing.
 use native.Mathlib.Omega.{arith}
-use borrow.Author.Rules.{rules}
 use Rattle.lookup.proofs.Laws.{sorted-search}
 use Rattle.lookup.proofs.crosswalk.Goals as goal
 

@@ -2,7 +2,6 @@
 use Prim.Native.Nat.{◌+◌}
 use native.Mathlib.Omega.{arith}
 use lib.ListN.{get_or}
-use borrow.Author.Rules.{rules}
 use Rattle.lookup.proofs.Laws.{stored-room, line-empty, line-part}
 use Rattle.lookup.proofs.line_of.Goals as goal
 

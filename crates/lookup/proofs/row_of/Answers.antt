@@ -1,5 +1,4 @@
 -- `lookup::row_of` meets its contract: a search in the rows behind the count. Assumes nothing.
-use borrow.Author.Rules.{rules}
 use Rattle.lookup.proofs.Laws.{lent_rows, lent-place}
 use Rattle.lookup.proofs.row_of.Goals as goal
 

@@ -1,6 +1,5 @@
 -- `lookup::stop_line` meets its contract: the table is sorted. Assumes nothing.
 use native.Mathlib.Omega.{arith}
-use borrow.Author.Rules.{rules}
 use Rattle.lookup.proofs.Laws.{sorted-search}
 use Rattle.lookup.proofs.stop_line.Goals as goal
 

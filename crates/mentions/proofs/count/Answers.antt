@@ -60,10 +60,10 @@ loop-i-preserved c =
     let l = c.loop-i in
     let s = c.row_words-s in
     let b = c.names_lane in
-    ⊎_elim
-    (λ z. (omega (arith, c.loop-i-test.true), count-on a.rows a.id a.t.now s.result s.ensures l.i b.result b.ensures l.count c.if-names_lane.count l.invariant.1 z.if-names_lane.true z.count-is))
-    (λ z. (omega (arith, c.loop-i-test.true), count-off a.rows a.id a.t.now s.result s.ensures l.i b.result b.ensures l.count c.if-names_lane.count l.invariant.1 z.if-names_lane.false z.count-is))
-    c.if-names_lane.branch-raw
+    elim c.if-names_lane.branch [
+      | goal.then-names_lane z ↦ (omega (arith, c.loop-i-test.true), count-on a.rows a.id a.t.now s.result s.ensures l.i b.result b.ensures l.count c.if-names_lane.count l.invariant.1 z.if-names_lane.true z.count-is)
+      | goal.else-names_lane z ↦ (omega (arith, c.loop-i-test.true), count-off a.rows a.id a.t.now s.result s.ensures l.i b.result b.ensures l.count c.if-names_lane.count l.invariant.1 z.if-names_lane.false z.count-is)
+    ]
 
 pub returns : goal.returns
 returns c =

@@ -1,4 +1,3 @@
-use borrow.Author.Rules.{rules}
 use native.Mathlib.Omega.{arith}
 use Rattle.merge_made.proofs.Parts.{ids_few, counted}
 use Rattle.merge_made.proofs.count.Goals as goal

@@ -1,6 +1,6 @@
-use borrow.Author.Rules.{rules}
+use Rattle.step.specs.Step.{given}
 use native.Mathlib.Omega.{arith}
-use Rattle.lent.specs.Lent.{map_tables, given}
+use Rattle.lent.specs.Lent.{map_tables}
 use mathlib.Core.Path.{sym}
 use Prim.Native.Nat.{ℕ}
 use lib.ListN.{replicate, length-replicate}

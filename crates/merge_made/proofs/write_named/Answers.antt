@@ -1,4 +1,3 @@
-use borrow.Author.Rules.{rules}
 use Rattle.merge_made.proofs.Parts.{three-tables}
 use Rattle.merge_made.proofs.write_named.Goals as goal
 

@@ -1,5 +1,4 @@
 -- `merge_points::center_after` meets its contract. Assumes nothing.
-use borrow.Author.Rules.{rules}
 use borrow.Author.Tests.{eq-eqb, ne_eqb}
 use lib.ListN.{get_or}
 use Rattle.merge_points.proofs.center_after.Goals as goal

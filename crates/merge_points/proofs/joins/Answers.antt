@@ -1,5 +1,4 @@
 -- `merge_points::joins` meets its contract. Assumes nothing.
-use borrow.Author.Rules.{rules}
 use Rattle.merge_points.proofs.joins.Goals as goal
 
 pub returns-in-InPlace : goal.returns-in-InPlace

@@ -1,5 +1,4 @@
 -- `merge_points::points_after` meets its contract. Assumes nothing.
-use borrow.Author.Rules.{rules}
 use native.Mathlib.Omega.{arith}
 use Prim.Native.Nat.{◌+◌, ◌≤◌, ◌<◌}
 use Rattle.room.proofs.Sums.{columns-counted}

@@ -1,5 +1,4 @@
 -- `merge_points::row_points` meets its contract. Assumes nothing.
-use borrow.Author.Rules.{rules}
 use mathlib.Core.Path.{sym, ◌∙◌}
 use Rattle.merge_points.proofs.row_points.Goals as goal
 

@@ -1,5 +1,4 @@
 -- `merge_tables::add_boundary` meets its contract: a store a word. Assumes nothing.
-use borrow.Author.Rules.{rules}
 use Rattle.merge_draw.proofs.Boundaries.{id-room, kind-room, start-room, size_room, attributes-room, added}
 use Rattle.merge_tables.proofs.add_boundary.Goals as goal
 

@@ -1,5 +1,4 @@
 -- `merge_tables::merge_row` meets its contract. Assumes nothing.
-use borrow.Author.Rules.{rules}
 use Rattle.merge_draw.proofs.Lanes.{comes-asks, merged-first, merged-other}
 use Rattle.merge_tables.proofs.merge_row.Goals as goal
 

@@ -1,5 +1,4 @@
 -- `merge_tables::point_row` meets its contract: two stores, or none. Assumes nothing.
-use borrow.Author.Rules.{rules}
 use Rattle.merge_draw.proofs.Boundaries.{point-on, point-off}
 use Rattle.merge_tables.proofs.point_row.Goals as goal
 

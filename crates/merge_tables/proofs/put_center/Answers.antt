@@ -1,5 +1,4 @@
 -- `merge_tables::put_center` meets its contract: three stores, or one. Assumes nothing.
-use borrow.Author.Rules.{rules}
 use Rattle.merge_draw.proofs.Lanes.{center_put, center_off}
 use Rattle.merge_tables.proofs.put_center.Goals as goal
 

@@ -1,5 +1,4 @@
 -- `merge_tables::put_ref` meets its contract: two stores, or none. Assumes nothing.
-use borrow.Author.Rules.{rules}
 use Rattle.merge_draw.proofs.Lanes.{ref-room, ref-put, ref-off}
 use Rattle.merge_tables.proofs.put_ref.Goals as goal
 

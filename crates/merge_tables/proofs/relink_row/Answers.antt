@@ -1,5 +1,4 @@
 -- `merge_tables::relink_row` meets its contract. Assumes nothing.
-use borrow.Author.Rules.{rules}
 use Rattle.merge_draw.proofs.Lanes.{links-room, place-asks, came, came-not}
 use Rattle.merge_tables.proofs.relink_row.Goals as goal
 

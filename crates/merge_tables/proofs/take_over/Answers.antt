@@ -1,5 +1,4 @@
 -- `merge_tables::take_over` meets its contract: store by store. Assumes nothing.
-use borrow.Author.Rules.{rules}
 use Rattle.merge_draw.proofs.Lanes.{list-fits, taken-over}
 use Rattle.merge_tables.proofs.take_over.Goals as goal
 

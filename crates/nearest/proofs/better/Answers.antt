@@ -1,5 +1,4 @@
 -- `nearest::better` meets its contract: what squares tell without a root is what the root would tell. Assumes nothing.
-use borrow.Author.Rules.{rules}
 use mathlib.Core.Path.{sym, ap, ◌∙◌}
 use Rattle.root.specs.Root.{root}
 use Rattle.geometry.specs.Point.{distance2, norm2, dot2}

@@ -1,5 +1,4 @@
 -- `nearest::candidate` meets its contract. Assumes nothing.
-use borrow.Author.Rules.{rules}
 use Rattle.polyline.specs.Polyline.{candidate}
 use Rattle.nearest.proofs.candidate.Goals as goal
 

@@ -1,13 +1,12 @@
 -- `nearest::nearest_point` meets its contract: the answer is the best so far against what is left. Assumes nothing.
 use Rattle.std.specs.Prelude.{Some}
-use Prim.Native.Nat.{◌+◌, ◌≤◌, ◌<◌, ◌-◌}
+use Prim.Native.Nat.{◌+◌, ◌≤◌, ◌<◌}
 use mathlib.Core.Path.{◌≡◌, sym, subst, ◌∙◌, ap}
 use native.Mathlib.Omega.{arith}
-use borrow.Author.Rules.{rules}
-use lib.ListN.{length, drop}
+use lib.ListN.{length}
 use Rattle.geometry.specs.Float.{zeroᶠ}
 use Rattle.geometry.specs.Point.{distance2, xy}
-use Rattle.polyline.specs.Polyline.{points, candidate, nearest_point, nearest_from}
+use Rattle.polyline.specs.Polyline.{points, candidate}
 use Rattle.polyline.specs.declared.NearestPoint.{NearestPoint}
 use Rattle.nearest.proofs.Squares.{kept, offers}
 use Rattle.polyline.proofs.Walk.{nearest-none, nearest-one, nearest-begins, nearest-goes, nearest-ends}
@@ -16,23 +15,11 @@ use Rattle.nearest.proofs.nearest_point.Goals as goal
 pub returns-then-n-eq0 : goal.returns-then-n-eq0
 returns-then-n-eq0 c = nearest-none (points c.args.line.now) c.args.to (omega arith)
 
-pub point-first-requires : goal.point-first-requires
-point-first-requires c = omega arith
-
 pub returns-then-n-eq1 : goal.returns-then-n-eq1
 returns-then-n-eq1 c = rw (c.distance.ensures, c.xy.ensures, c.point-first.ensures) (nearest-one (points c.args.line.now) c.args.to (omega arith))
 
-pub point-p-requires : goal.point-p-requires
-point-p-requires c = omega arith
-
-pub candidate-best-requires : goal.candidate-best-requires
-candidate-best-requires c = c.distance-seg.ensures
-
 pub loop-i-init : goal.loop-i-init
 loop-i-init c = (omega arith, (rw (c.candidate-best.ensures, c.distance-seg.ensures, c.point-p.ensures, c.point-first.ensures) (nearest-begins (points c.args.line.now) c.args.to (omega arith)), subst (λ (b : NearestPoint). b.distance ≡ distance2 (xy b.point) c.args.to) (sym c.candidate-best.ensures) (offers 0 zeroᶠ c.args.to c.point-first.result c.point-p.result)))
-
-pub point-q-requires : goal.point-q-requires
-point-q-requires c = omega arith
 
 pub better-best-requires : goal.better-best-requires
 better-best-requires c = (c.distance-step.ensures, c.loop-i.invariant.1.1)

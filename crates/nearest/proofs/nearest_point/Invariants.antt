@@ -1,16 +1,10 @@
 -- `nearest::nearest_point` meets its contract: the answer is the best so far against what is left. Assumes nothing.
 use Rattle.std.specs.Prelude.{Some}
-use Prim.Native.Nat.{◌+◌, ◌≤◌, ◌<◌, ◌-◌}
-use mathlib.Core.Path.{◌≡◌, sym, subst, ◌∙◌, ap}
-use native.Mathlib.Omega.{arith}
-use borrow.Author.Rules.{rules}
-use lib.ListN.{length, drop}
-use Rattle.geometry.specs.Float.{zeroᶠ}
+use Prim.Native.Nat.{◌+◌, ◌≤◌}
+use mathlib.Core.Path.{◌≡◌}
+use lib.ListN.{drop}
 use Rattle.geometry.specs.Point.{distance2, xy}
-use Rattle.polyline.specs.Polyline.{points, candidate, nearest_point, nearest_from}
-use Rattle.polyline.specs.declared.NearestPoint.{NearestPoint}
-use Rattle.nearest.proofs.Squares.{kept, offers}
-use Rattle.polyline.proofs.Walk.{nearest-none, nearest-one, nearest-begins, nearest-goes, nearest-ends}
+use Rattle.polyline.specs.Polyline.{points, nearest_point, nearest_from}
 use Rattle.nearest.proofs.nearest_point.Given as goal
 
 abbrev pub invariant-loop-i : goal.invariant-loop-i

@@ -1,5 +1,4 @@
 -- `nearest::square_to` meets its contract. Assumes nothing.
-use borrow.Author.Rules.{rules}
 use Rattle.nearest.specs.Square.{square}
 use Rattle.nearest.proofs.square_to.Goals as goal
 

@@ -47,10 +47,10 @@ loop-i-preserved c =
     let ids = c.args.ids.now in
     let t = c.loop-i in
     walked_more ids t.seen t.i c.loop-i-test.true t.invariant
-    (⊎_elim
-    (λ s. sym s.contains.ensures ∙ s.if-contains.false)
-    (λ s. unmarked-lacks ids t.seen t.i (get_or ids t.i 0) t.invariant s.if-seen-mark.false)
-    c.if-seen-mark.branch-raw)
+    (elim c.if-seen-mark.branch [
+      | goal.then-seen-mark+else-contains s ↦ sym s.contains.ensures ∙ s.if-contains.false
+      | goal.else-seen-mark s ↦ unmarked-lacks ids t.seen t.i (get_or ids t.i 0) t.invariant s.if-seen-mark.false
+    ])
 
 pub returns : goal.returns
 returns c = sym (walked_all c.args.ids.now c.loop-i.seen c.loop-i.i c.loop-i-test.false c.loop-i.invariant)

@@ -1,9 +1,8 @@
 -- `order::column_behind` meets its contract. The invariant: the point behind all lines is that behind the lines of the rows from i on, from the place as it is.
 use mathlib.Core.Path.{◌≡◌, ap, ◌∙◌}
 use mathlib.Core.Bool.{true}
-use mathlib.Core.Logic.{⊎_elim}
 use native.Mathlib.Omega.{arith}
-use Prim.Native.Nat.{◌+◌, ◌-◌, ◌*◌, ◌≤◌}
+use Prim.Native.Nat.{◌+◌, ◌*◌, ◌≤◌}
 use lib.ListN.{length}
 use Rattle.lists.specs.Every.{all}
 use Rattle.lists.proofs.Every.{all_head}
@@ -87,10 +86,10 @@ loop-i-preserved c =
     let b = c.has_line in
     let g = room c.before.before.before in
     let ls = column_lines k t in
-    ⊎_elim
-    (λ w. (omega (arith, h), behind_more a.reach a.from l.far c.if-has_line.far ls (lines_from k t n (l.i + 1)) (lines_from k t n l.i) (line_here t (1 + l.i * a.stride + a.offset)) l.invariant.1 (from-with a.stride a.offset a.marked t n l.i s.requires.0 s.requires.1.0 h g b.result b.ensures w.if-has_line.true) (w.far-is ∙ w.line_behind-far.ensures)))
-    (λ w. (omega (arith, h), l.invariant.1 ∙ rw (from-without a.stride a.offset a.marked t n l.i s.requires.0 s.requires.1.0 h g b.result b.ensures w.if-has_line.false, w.far-is)))
-    c.if-has_line.branch-raw
+    elim c.if-has_line.branch [
+      | goal.then-has_line w ↦ (omega (arith, h), behind_more a.reach a.from l.far c.if-has_line.far ls (lines_from k t n (l.i + 1)) (lines_from k t n l.i) (line_here t (1 + l.i * a.stride + a.offset)) l.invariant.1 (from-with a.stride a.offset a.marked t n l.i s.requires.0 s.requires.1.0 h g b.result b.ensures w.if-has_line.true) (w.far-is ∙ w.line_behind-far.ensures))
+      | goal.else-has_line w ↦ (omega (arith, h), l.invariant.1 ∙ rw (from-without a.stride a.offset a.marked t n l.i s.requires.0 s.requires.1.0 h g b.result b.ensures w.if-has_line.false, w.far-is))
+    ]
 
 pub returns : goal.returns
 returns c =

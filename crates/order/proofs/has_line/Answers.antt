@@ -1,5 +1,4 @@
 -- `order::has_line` meets its contract: of a column whose rows are marked, and of one whose rows all have a line. Assumes nothing.
-use borrow.Author.Rules.{rules}
 use native.Mathlib.Omega.{arith}
 use lib.ListN.{length}
 use lib.Seq.{get_or-drop}

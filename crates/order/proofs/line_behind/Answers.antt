@@ -1,5 +1,4 @@
 -- `order::line_behind` meets its contract: of a line with no point, of one that is drawn, of one that lies in order, and of one that does not. Assumes nothing.
-use borrow.Author.Rules.{rules}
 use native.Mathlib.Omega.{arith}
 use mathlib.Core.Path.{◌≡◌, sym, ◌∙◌}
 use mathlib.Core.Bool.{true, false, ◌&&◌}

@@ -1,6 +1,5 @@
 -- `polyline::first` meets its contract. Assumes nothing.
 use Rattle.std.specs.Prelude.{Some}
-use borrow.Author.Rules.{rules}
 use native.Mathlib.Omega.{arith}
 use mathlib.Core.Path.{◌∙◌, ap}
 use Rattle.polyline.specs.Polyline.{points}

@@ -1,5 +1,4 @@
 -- `polyline::held` meets its contract. Assumes nothing.
-use borrow.Author.Rules.{rules}
 use Rattle.polyline.specs.Polyline.{held}
 use Rattle.polyline.proofs.held.Goals as goal
 

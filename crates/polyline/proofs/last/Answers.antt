@@ -1,5 +1,4 @@
 -- `polyline::last` meets its contract. Assumes nothing.
-use borrow.Author.Rules.{rules}
 use native.Mathlib.Omega.{arith}
 use Rattle.polyline.specs.Polyline.{points}
 use Rattle.polyline.proofs.Walk.{last_none, last_some}

@@ -1,14 +1,12 @@
 -- `polyline::length` meets its contract: the length is what is left added to the sum so far and the segment that is begun. Assumes nothing.
-use Prim.Native.Nat.{◌≤◌, ◌<◌, ◌-◌}
+use Prim.Native.Nat.{◌≤◌, ◌<◌}
 use mathlib.Core.Path.{◌≡◌, refl, sym, ◌∙◌}
 use native.Mathlib.Omega.{arith}
-use borrow.Author.Rules.{rules}
-use lib.Ieee.{Float, add, neg, of_bits}
-use lib.ListN.{length, drop}
-use Rattle.root.specs.Begun.{Unfinished}
+use lib.Ieee.{add, neg, of_bits}
+use lib.ListN.{length}
 use Rattle.geometry.specs.Float.{◌+ᶠ◌}
 use Rattle.geometry.specs.Point.{distance3}
-use Rattle.polyline.specs.Polyline.{points, line_length, length_from, minus_zero}
+use Rattle.polyline.specs.Polyline.{points, minus_zero}
 use Rattle.polyline.proofs.Walk.{length_none, length-begins, length-goes, length-ends}
 use Rattle.polyline.proofs.length.Goals as goal
 
@@ -21,15 +19,9 @@ pub returns-then-n-eq0 : goal.returns-then-n-eq0
 unfolding neg of_bits
 returns-then-n-eq0 c = length_none (points c.args.line.now) (omega arith)
 
-pub point-p-requires : goal.point-p-requires
-point-p-requires c = omega arith
-
 pub loop-i-init : goal.loop-i-init
 unfolding neg of_bits
 loop-i-init c = (omega arith, (minus_zero, c.known-segment.ensures, rw (c.point-p.ensures, no_more) (length-begins (points c.args.line.now) (omega arith))))
-
-pub point-q-requires : goal.point-q-requires
-point-q-requires c = omega arith
 
 pub finish-sum-requires : goal.finish-sum-requires
 finish-sum-requires c = (c.loop-i.invariant.1.0, c.loop-i.invariant.1.1)

@@ -1,15 +1,11 @@
 -- `polyline::length` meets its contract: the length is what is left added to the sum so far and the segment that is begun. Assumes nothing.
-use Prim.Native.Nat.{◌≤◌, ◌<◌, ◌-◌}
-use mathlib.Core.Path.{◌≡◌, refl, sym, ◌∙◌}
-use native.Mathlib.Omega.{arith}
-use borrow.Author.Rules.{rules}
-use lib.Ieee.{Float, add, neg, of_bits}
-use lib.ListN.{length, drop}
+use Prim.Native.Nat.{◌≤◌}
+use mathlib.Core.Path.{◌≡◌}
+use lib.Ieee.{Float}
+use lib.ListN.{drop}
 use Rattle.root.specs.Begun.{Unfinished}
 use Rattle.geometry.specs.Float.{◌+ᶠ◌}
-use Rattle.geometry.specs.Point.{distance3}
-use Rattle.polyline.specs.Polyline.{points, line_length, length_from, minus_zero}
-use Rattle.polyline.proofs.Walk.{length_none, length-begins, length-goes, length-ends}
+use Rattle.polyline.specs.Polyline.{points, line_length, length_from}
 use Rattle.polyline.proofs.length.Given as goal
 
 abbrev pub invariant-loop-i : goal.invariant-loop-i

@@ -1,11 +1,9 @@
 -- `polyline::locate` meets its contract: the place is the place on what is left. Assumes nothing.
 use Prim.Native.Nat.{◌+◌, ◌≤◌, ◌<◌, ◌-◌}
 use mathlib.Core.Path.{◌≡◌, sym, ◌∙◌}
-use mathlib.Core.Logic.{⊎_elim}
 use native.Mathlib.Omega.{arith}
-use borrow.Author.Rules.{rules}
-use lib.ListN.{length, drop}
-use Rattle.polyline.specs.Polyline.{points, locate, locate_from}
+use lib.ListN.{length}
+use Rattle.polyline.specs.Polyline.{points}
 use Rattle.polyline.proofs.Walk.{locate-none, locate-one, locate-before, locate-begins, locate-found, locate-goes, locate-ends}
 use Rattle.polyline.proofs.locate.Goals as goal
 
@@ -18,14 +16,8 @@ returns-then-n-eq1 c = locate-one (points c.args.line.now) c.args.station (omega
 pub returns-then-station : goal.returns-then-station
 returns-then-station c = locate-before (points c.args.line.now) c.args.station (omega arith) c.if-station.true
 
-pub point-p-requires : goal.point-p-requires
-point-p-requires c = omega arith
-
 pub loop-i-init : goal.loop-i-init
 loop-i-init c = (omega arith, rw c.point-p.ensures (locate-begins (points c.args.line.now) c.args.station (omega arith) c.if-station.false))
-
-pub point-q-requires : goal.point-q-requires
-point-q-requires c = omega arith
 
 pub returns-then-seg : goal.returns-then-seg
 returns-then-seg c =
@@ -43,11 +35,11 @@ loop-i-preserved c =
     let q = c.point-q.ensures in (
       omega (arith, c.count-n.ensures, c.loop-i-test.true),
       rw (d, q) (l.invariant.1 ∙ locate-goes (points c.args.line.now) l.i l.at c.args.station l.p h
-          (⊎_elim (λ w. rw (rw (d, q) at w.if-station-end.true, rw (d, q) at w.if-seg.false)) (λ w. rw (rw (d, q) at w.if-station-end.false)) c.if-station-end.branch-raw)),
+          (elim c.if-station-end.branch [
+            | goal.then-station-end+else-seg w ↦ rw (rw (d, q) at w.if-station-end.true, rw (d, q) at w.if-seg.false)
+            | goal.else-station-end w ↦ rw (rw (d, q) at w.if-station-end.false)
+          ])),
     )
-
-pub overflow_sub-result : goal.overflow_sub-result
-overflow_sub-result c = omega arith
 
 pub returns : goal.returns
 returns c =

@@ -1,12 +1,8 @@
 -- `polyline::locate` meets its contract: the place is the place on what is left. Assumes nothing.
-use Prim.Native.Nat.{◌+◌, ◌≤◌, ◌<◌, ◌-◌}
-use mathlib.Core.Path.{◌≡◌, sym, ◌∙◌}
-use mathlib.Core.Logic.{⊎_elim}
-use native.Mathlib.Omega.{arith}
-use borrow.Author.Rules.{rules}
-use lib.ListN.{length, drop}
+use Prim.Native.Nat.{◌+◌, ◌≤◌}
+use mathlib.Core.Path.{◌≡◌}
+use lib.ListN.{drop}
 use Rattle.polyline.specs.Polyline.{points, locate, locate_from}
-use Rattle.polyline.proofs.Walk.{locate-none, locate-one, locate-before, locate-begins, locate-found, locate-goes, locate-ends}
 use Rattle.polyline.proofs.locate.Given as goal
 
 abbrev pub invariant-loop-i : goal.invariant-loop-i

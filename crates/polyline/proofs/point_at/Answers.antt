@@ -1,5 +1,4 @@
 -- `polyline::point_at` meets its contract: a place lies on the line, so the next index does not wrap. Assumes nothing.
-use borrow.Author.Rules.{rules}
 use native.Mathlib.Omega.{arith}
 use mathlib.Core.Path.{sym, ◌∙◌}
 use Rattle.polyline.specs.Polyline.{points}

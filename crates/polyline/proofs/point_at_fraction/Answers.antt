@@ -1,5 +1,4 @@
 -- `polyline::point_at_fraction` meets its contract. Assumes nothing.
-use borrow.Author.Rules.{rules}
 use Rattle.polyline.specs.Polyline.{point_at_fraction}
 use Rattle.polyline.proofs.point_at_fraction.Goals as goal
 

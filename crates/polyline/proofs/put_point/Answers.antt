@@ -1,5 +1,4 @@
 -- `polyline::put_point` meets its contract: three stores are one list written over the part. Assumes nothing.
-use borrow.Author.Rules.{rules}
 use native.Mathlib.Omega.{arith}
 use lib.ListN.{length-set}
 use Rattle.polyline.specs.Polyline.{flat}

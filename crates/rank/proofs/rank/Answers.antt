@@ -1,4 +1,3 @@
-use borrow.Author.Rules.{rules}
 use native.Mathlib.Omega.{arith}
 use Rattle.rank.proofs.Ends.{none-there, before-first, behind-last}
 use Rattle.rank.proofs.rank.Goals as goal

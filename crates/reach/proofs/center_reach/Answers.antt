@@ -1,5 +1,4 @@
 -- `reach::center_reach` meets its contract: of a lane with no explicit centreline, and of one that has one. Assumes nothing.
-use borrow.Author.Rules.{rules}
 use native.Mathlib.Omega.{arith}
 use Rattle.layout.specs.Layout.{centerlines}
 use Rattle.layout.proofs.Column.{center_there, center_absent}

@@ -1,11 +1,11 @@
 -- `reach::centers_reach` meets its contract. The invariant: the whole reach is that of the lanes from i on, or the place as it is.
 use native.Mathlib.Omega.{arith}
-use Prim.Native.Nat.{◌+◌, ◌-◌, ◌*◌, ◌≤◌}
+use Prim.Native.Nat.{◌+◌, ◌*◌, ◌≤◌}
 use lib.ListN.{length}
 use Rattle.tables.specs.View.{word}
 use Rattle.apart.proofs.Marks.{counted-facts, row_in}
 use Rattle.layout.specs.Layout.{centerlines}
-use Rattle.layout.proofs.Reach.{Far, far-start, far-fits, far-turn, far-done}
+use Rattle.layout.proofs.Reach.{far-start, far-fits, far-turn, far-done}
 use Rattle.reach.proofs.centers_reach.Goals as goal
 use Rattle.reach.proofs.centers_reach.Lts as lts
 use Rattle.reach.proofs.centers_reach.Reads as reads

@@ -1,11 +1,7 @@
 -- `reach::centers_reach` meets its contract. The invariant: the whole reach is that of the lanes from i on, or the place as it is. Assumes nothing.
-use native.Mathlib.Omega.{arith}
-use Prim.Native.Nat.{◌+◌, ◌-◌, ◌*◌, ◌≤◌}
-use lib.ListN.{length}
-use Rattle.tables.specs.View.{word}
-use Rattle.apart.proofs.Marks.{counted-facts, row_in}
+use Prim.Native.Nat.{◌≤◌}
 use Rattle.layout.specs.Layout.{centerlines}
-use Rattle.layout.proofs.Reach.{Far, far-start, far-fits, far-turn, far-done}
+use Rattle.layout.proofs.Reach.{Far}
 use Rattle.reach.proofs.centers_reach.Given as goal
 
 abbrev pub invariant-loop-i : goal.invariant-loop-i

@@ -1,12 +1,12 @@
 -- `reach::column_reach` meets its contract. The invariant: the whole reach is that of the rows from i on, or the place as it is.
 use mathlib.Core.Path.{refl}
 use native.Mathlib.Omega.{arith}
-use Prim.Native.Nat.{◌+◌, ◌-◌, ◌*◌, ◌≤◌}
+use Prim.Native.Nat.{◌+◌, ◌*◌, ◌≤◌}
 use lib.ListN.{length}
 use Rattle.tables.specs.View.{word}
 use Rattle.apart.proofs.Marks.{counted-facts, row_in}
 use Rattle.layout.specs.Layout.{plain}
-use Rattle.layout.proofs.Reach.{Far, far-start, far-fits, far-turn, far-done, row-within-n, row-reach}
+use Rattle.layout.proofs.Reach.{far-start, far-fits, far-turn, far-done, row-within-n, row-reach}
 use Rattle.reach.proofs.column_reach.Goals as goal
 use Rattle.reach.proofs.column_reach.Lts as lts
 use Rattle.reach.proofs.column_reach.Reads as reads

@@ -1,5 +1,4 @@
 -- `naming::replace_list` meets its contract: the lane goes where the other stands, else the list stays as long as it was. Assumes nothing.
-use borrow.Author.Rules.{rules}
 use Rattle.mentions.proofs.Going.{replaced-there, replaced-read}
 use Rattle.replaces.proofs.replace_list.Goals as goal
 

@@ -1,5 +1,4 @@
 -- `naming::replace_rule` meets its contract: its lists lie apart, so each is as it was when its turn comes. Assumes nothing.
-use borrow.Author.Rules.{rules}
 use Rattle.rules.specs.Merge.{replace_lane}
 use Rattle.mentions.specs.Naming.{rule_replaces}
 use Rattle.mentions.proofs.Going.{RuleFits, lanes-room, priority-room, yielding-room, rule-changed-lanes, rule-changed, rule_fits_lem, length-replace}

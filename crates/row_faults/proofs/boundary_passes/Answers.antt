@@ -1,5 +1,4 @@
 -- `row_faults::boundary_passes` meets its contract. What the calls found. Assumes nothing.
-use borrow.Author.Rules.{rules}
 use Rattle.row_faults.specs.Passes.{boundary_passes}
 use Rattle.row_faults.proofs.boundary_passes.Goals as goal
 

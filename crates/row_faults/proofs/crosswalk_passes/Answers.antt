@@ -1,5 +1,4 @@
 -- `row_faults::crosswalk_passes` meets its contract. What the calls found. Assumes nothing.
-use borrow.Author.Rules.{rules}
 use Rattle.row_faults.specs.Passes.{crosswalk_passes}
 use Rattle.row_faults.proofs.crosswalk_passes.Goals as goal
 

@@ -1,5 +1,4 @@
 -- `row_faults::junction_passes` meets its contract. What the calls found. Assumes nothing.
-use borrow.Author.Rules.{rules}
 use Rattle.row_faults.specs.Passes.{junction_passes}
 use Rattle.row_faults.proofs.junction_passes.Goals as goal
 

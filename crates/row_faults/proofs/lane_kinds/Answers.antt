@@ -1,5 +1,4 @@
 -- `row_faults::lane_kinds` meets its contract. The tests of the definition in its order. Assumes nothing.
-use borrow.Author.Rules.{rules}
 use Rattle.row_faults.specs.Passes.{lane_kinds}
 use Rattle.row_faults.proofs.lane_kinds.Goals as goal
 

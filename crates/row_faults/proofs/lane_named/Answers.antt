@@ -1,5 +1,4 @@
 -- `row_faults::lane_named` meets its contract. A formed row's lists lie in the row; the parts lent are the lists. Assumes nothing.
-use borrow.Author.Rules.{rules}
 use mathlib.Core.Path.{◌≡◌, sym, ◌∙◌}
 use Prim.Native.Nat.{◌+◌, ◌-◌}
 use native.Mathlib.Omega.{arith}

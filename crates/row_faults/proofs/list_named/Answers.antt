@@ -1,5 +1,4 @@
 -- `row_faults::list_named` meets its contract. A list of at most 64 ids lies in the row; the part lent is the list. Assumes nothing.
-use borrow.Author.Rules.{rules}
 use mathlib.Core.Path.{◌≡◌}
 use Prim.Native.Nat.{suc, ◌+◌, ◌-◌}
 use native.Mathlib.Omega.{arith}

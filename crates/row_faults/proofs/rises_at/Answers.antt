@@ -1,5 +1,4 @@
 -- `row_faults::rises_at` meets its contract. Two rows lie in the table; the first has none before it. Assumes nothing.
-use borrow.Author.Rules.{rules}
 use Prim.Native.Nat.{◌-◌}
 use native.Mathlib.Omega.{arith}
 use Rattle.row_tests.proofs.Tables.{row_room}

@@ -1,5 +1,4 @@
 -- `row_faults::road_passes` meets its contract. What the calls found. Assumes nothing.
-use borrow.Author.Rules.{rules}
 use Rattle.row_faults.specs.Passes.{road_passes}
 use Rattle.row_faults.proofs.road_passes.Goals as goal
 

@@ -1,7 +1,6 @@
 -- `row_faults::rule_named` meets its contract. The lists are read of a formed row only. Assumes nothing.
 use mathlib.Core.Path.{sym, ◌∙◌}
 use native.Mathlib.Omega.{arith}
-use borrow.Author.Rules.{rules}
 use Rattle.lists.proofs.Booleans.{and-fst}
 use Rattle.row_faults.specs.Passes.{rule_named}
 use Rattle.row_faults.proofs.rule_named.Goals as goal

@@ -1,5 +1,4 @@
 -- `row_faults::rule_passes` meets its contract. What the calls found. Assumes nothing.
-use borrow.Author.Rules.{rules}
 use Rattle.row_faults.specs.Passes.{rule_passes}
 use Rattle.row_faults.proofs.rule_passes.Goals as goal
 

@@ -1,5 +1,4 @@
 -- `row_faults::stop_line_passes` meets its contract. What the calls found. Assumes nothing.
-use borrow.Author.Rules.{rules}
 use Rattle.row_faults.specs.Passes.{stop_line_passes}
 use Rattle.row_faults.proofs.stop_line_passes.Goals as goal
 

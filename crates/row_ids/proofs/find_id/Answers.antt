@@ -1,5 +1,4 @@
 -- `row_ids::find_id` meets its contract: one of the two looks finds the id, or the search tells. Assumes nothing.
-use borrow.Author.Rules.{rules}
 use native.Mathlib.Omega.{arith}
 use Rattle.row_ids.proofs.Laws.{search-found}
 use Rattle.row_ids.proofs.find_id.Goals as goal

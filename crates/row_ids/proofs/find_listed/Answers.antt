@@ -1,8 +1,7 @@
 -- `row_ids::find_listed` meets its contract. The invariant: where the search still looks. The measure is how many places are left. Assumes nothing.
 use Prim.Native.Nat.{◌/◌, ◌≤◌}
 use native.Mathlib.Omega.{arith}
-use borrow.Author.Rules.{rules}
-use Rattle.row_ids.proofs.Laws.{Left, search-all, turn-less, search-turn, search-found, search-ends}
+use Rattle.row_ids.proofs.Laws.{search-all, turn-less, search-turn, search-found, search-ends}
 use Rattle.row_ids.proofs.find_listed.Goals as goal
 use Rattle.row_ids.proofs.find_listed.Lts as lts
 use Rattle.row_ids.proofs.find_listed.Reads as reads
@@ -26,38 +25,14 @@ less c =
 pub loop-left-init : goal.loop-left-init
 loop-left-init c = search-all c.args.ids.now c.args.n c.args.id c.requires (fits c.before.before)
 
-pub overflow_add-low : goal.overflow_add-low
-overflow_add-low c = omega (arith, c.loop-left.invariant.within)
-
-pub overflow_sub-low : goal.overflow_sub-low
-overflow_sub-low c = omega (arith, c.loop-left-test.true)
-
-pub offset_bounds-ids-low : goal.offset_bounds-ids-low
-offset_bounds-ids-low c = omega (arith, c.loop-left.invariant.within)
-
-pub bounds-ids-low : goal.bounds-ids-low
-bounds-ids-low c = omega (arith, c.loop-left.invariant.within, c.requires.long)
-
 pub overflow_add-low-in-loop-left : goal.overflow_add-low-in-loop-left
 overflow_add-low-in-loop-left c = omega (arith, c.loop-left.invariant.within, less c.before)
-
-pub overflow_sub-left : goal.overflow_sub-left
-overflow_sub-left c = omega (arith, c.loop-left-test.true)
-
-pub loop-left-smaller : goal.loop-left-smaller
-loop-left-smaller c = omega (arith, c.loop-left-test.true)
 
 pub loop-left-preserved : goal.loop-left-preserved
 loop-left-preserved c =
     let b = c in
     let l = c.loop-left in
     search-turn b.args.ids.now b.args.n b.args.id b.requires (fits c.before.before.before.before.before.before) l.low l.left l.invariant c.loop-left-test.true c.past-low.result c.past-low.ensures
-
-pub offset_bounds-ids-low-then-low-n : goal.offset_bounds-ids-low-then-low-n
-offset_bounds-ids-low-then-low-n c = omega (arith, c.requires.few, c.if-low-n.true)
-
-pub bounds-ids-low-then-low-n : goal.bounds-ids-low-then-low-n
-bounds-ids-low-then-low-n c = omega (arith, c.requires.long, c.requires.few, c.if-low-n.true)
 
 pub returns-then-ids-low : goal.returns-then-ids-low
 returns-then-ids-low c =

@@ -1,8 +1,5 @@
 -- `row_ids::find_listed` meets its contract. The invariant: where the search still looks. The measure is how many places are left. Assumes nothing.
-use Prim.Native.Nat.{◌/◌, ◌≤◌}
-use native.Mathlib.Omega.{arith}
-use borrow.Author.Rules.{rules}
-use Rattle.row_ids.proofs.Laws.{Left, search-all, turn-less, search-turn, search-found, search-ends}
+use Rattle.row_ids.proofs.Laws.{Left}
 use Rattle.row_ids.proofs.find_listed.Given as goal
 
 abbrev pub invariant-loop-left : goal.invariant-loop-left

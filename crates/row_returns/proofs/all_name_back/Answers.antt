@@ -1,11 +1,8 @@
 -- `row_returns::all_name_back` meets its contract. The invariant: every id passes where those from i on do. Assumes nothing.
 use mathlib.Core.Bool.{not}
 use borrow.Author.Tests.{not-true, not-false}
-use mathlib.Core.Path.{◌≡◌, refl, sym, ◌∙◌, ap}
-use Prim.Native.Nat.{◌-◌, ◌≤◌}
+use mathlib.Core.Path.{refl, sym, ◌∙◌, ap}
 use native.Mathlib.Omega.{arith}
-use lib.ListN.{length, drop}
-use Rattle.lists.specs.Every.{all}
 use Rattle.lists.proofs.Every.{all-step, all_end}
 use Rattle.row_tests.specs.Returned.{names_back}
 use Rattle.row_returns.proofs.all_name_back.Goals as goal

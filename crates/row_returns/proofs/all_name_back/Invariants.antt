@@ -1,10 +1,8 @@
 -- `row_returns::all_name_back` meets its contract. The invariant: every id passes where those from i on do. Assumes nothing.
-use mathlib.Core.Path.{◌≡◌, refl, sym, ◌∙◌}
-use Prim.Native.Nat.{◌-◌, ◌≤◌}
-use native.Mathlib.Omega.{arith}
+use mathlib.Core.Path.{◌≡◌}
+use Prim.Native.Nat.{◌≤◌}
 use lib.ListN.{length, drop}
 use Rattle.lists.specs.Every.{all}
-use Rattle.lists.proofs.Every.{all-step, all_end}
 use Rattle.row_tests.specs.Returned.{names_back}
 use Rattle.row_returns.proofs.all_name_back.Given as goal
 

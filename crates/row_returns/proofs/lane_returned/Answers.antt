@@ -4,7 +4,6 @@ use mathlib.Core.Logic.{inl, inr}
 use Prim.Native.Nat.{◌+◌, ◌*◌, ◌≤◌}
 use native.Mathlib.Omega.{arith}
 use lib.ListN.{length, get_or}
-use borrow.Author.Rules.{rules}
 use Rattle.lists.specs.Every.{all}
 use Rattle.tables.specs.View.{word, ids_at}
 use Rattle.row_tests.specs.Returned.{names_back, lane_at, lane_returned}

@@ -4,7 +4,6 @@ use mathlib.Core.Path.{◌≡◌, ◌∙◌}
 use Prim.Native.Nat.{◌+◌, ◌*◌, ◌≤◌}
 use native.Mathlib.Omega.{arith}
 use lib.ListN.{length, drop, get_or}
-use borrow.Author.Rules.{rules}
 use Rattle.lists.specs.Rows.{keys, row_with}
 use Rattle.tables.specs.View.{word}
 use Rattle.row_tests.proofs.Lanes.{lanes-some, search-may, search-gives, lane-found, lane_room, slot-within, answer-within, slot-none, slot-absent, slot-there}

@@ -1,25 +1,34 @@
 -- `settling::settle` meets its contract: down, up, then the rows. Assumes nothing.
-use borrow.Author.Rules.{rules}
 use native.Mathlib.Omega.{arith}
-use Rattle.in_place.proofs.Whole.{placed-down, placed-up, movable_down, movable_up, points-room, settled-tables}
+use Rattle.lent.specs.Lent.{lines_tables}
+use Rattle.in_place.specs.Settle.{down_all, up_all}
+use Rattle.tables.specs.Formed.{spans}
+use Rattle.in_place.proofs.Whole.{placed-down, movable_down, up_asks, starts_ask, settled-tables}
 use Rattle.settling.proofs.settle.Goals as goal
 
 pub all_down-end-requires : goal.all_down-end-requires
-all_down-end-requires c = let s = c in (placed-down s.args.reach s.args.drawn.now s.args.lanes.now s.args.boundaries.now s.args.stop_lines.now s.args.crosswalks.now s.args.coordinates.now s.requires, movable_down s.args.reach s.args.drawn.now s.args.lanes.now s.args.boundaries.now s.args.stop_lines.now s.args.crosswalks.now s.args.coordinates.now s.requires)
+all_down-end-requires c = let a = c.args in let t = lines_tables a.lines.now in (placed-down a.reach a.drawn.now t c.requires, movable_down a.reach a.drawn.now t c.requires)
 
 pub all_up-requires : goal.all_up-requires
 all_up-requires c =
-    let s = c in
+    let a = c.args in
+    let t = lines_tables a.lines.now in
     let g = c.all_down-end in
-    (placed-up s.args.reach s.args.drawn.now s.args.lanes.now s.args.boundaries.now s.args.stop_lines.now s.args.crosswalks.now s.args.coordinates.now s.requires, (g.ensures.0, movable_up s.args.reach s.args.drawn.now s.args.lanes.now s.args.boundaries.now s.args.stop_lines.now s.args.crosswalks.now s.args.coordinates.now s.requires g.new.coordinates g.result g.auto.coordinates g.ensures.0))
+    up_asks a.reach a.drawn.now t c.requires (lines_tables g.new.lines) (down_all a.reach 0 (spans t) t.coordinates) g.ensures.made g.result g.ensures.same.coordinates_length g.ensures.ends
 
 pub all_starts-requires : goal.all_starts-requires
-all_starts-requires c = let s = c in ((placed-up s.args.reach s.args.drawn.now s.args.lanes.now s.args.boundaries.now s.args.stop_lines.now s.args.crosswalks.now s.args.coordinates.now s.requires).counts, omega (arith, points-room s.args.reach s.args.drawn.now s.args.lanes.now s.args.boundaries.now s.args.stop_lines.now s.args.crosswalks.now s.args.coordinates.now s.requires, s.well_formed))
-
-pub returns : goal.returns
-returns c =
-    let s = c in
+all_starts-requires c =
+    let a = c.args in
+    let t = lines_tables a.lines.now in
     let d = c.all_down-end in
     let u = c.all_up in
-    let r = c.all_starts in
-    settled-tables s.args.reach s.args.drawn.now s.args.lanes.now s.args.boundaries.now s.args.stop_lines.now s.args.crosswalks.now s.args.coordinates.now s.requires r.new.lanes r.new.boundaries r.new.stop_lines r.new.crosswalks d.new.coordinates u.new.coordinates d.ensures.1 u.ensures r.ensures
+    let t₁ = lines_tables d.new.lines in
+    let e = starts_ask a.reach a.drawn.now t c.requires t₁ (down_all a.reach 0 (spans t) t.coordinates) d.ensures.made (lines_tables u.new.lines) (up_all a.drawn.now a.reach 0 (spans t₁) t₁.coordinates) u.ensures.made in
+    (e.0, omega (arith, e.1, c.well_formed))
+
+pub returns-clause-made : goal.returns-clause-made
+returns-clause-made c =
+    let a = c.args in
+    let d = c.all_down-end in
+    let u = c.all_up in
+    settled-tables a.reach a.drawn.now (lines_tables a.lines.now) c.requires (lines_tables d.new.lines) (lines_tables u.new.lines) (lines_tables c.all_starts.new.lines) d.ensures.made u.ensures.made c.all_starts.ensures.made

@@ -1,5 +1,4 @@
 -- `slots::append` meets its contract. Assumes nothing.
-use borrow.Author.Rules.{rules}
 use Rattle.lists.proofs.Rows.{store-end}
 use Rattle.slots.proofs.append.Goals as goal
 

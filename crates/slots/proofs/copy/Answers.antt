@@ -1,5 +1,5 @@
 -- `slots::copy` meets its contract: the part that is written is what `over` puts there. Assumes nothing.
-use Rattle.std.proofs.Common.{◌++◌, ◌+◌, ◌-◌, length, take, drop, ap, ◌∙◌, arith}
+use Rattle.std.proofs.Common.{◌++◌, ◌+◌, ◌-◌, length, take, ap, ◌∙◌, arith}
 use borrow.Rule.Slice.PartMut.{put_mid, Post-is}
 use Rattle.lists.specs.Rows.{over}
 use Rattle.slots.proofs.copy.Goals as goal

@@ -1,13 +1,10 @@
 -- `slots::insert` meets its contract. The invariant: the ids from i on, each larger than the new one, stand one slot later.
 use mathlib.Core.Path.{◌≡◌, refl, sym}
-use mathlib.Core.Bool.{true}
 use mathlib.Core.List.{[]}
 use Prim.Native.Nat.{◌+◌, ◌≤◌, ◌-◌}
 use native.Mathlib.Omega.{arith}
 use lib.Dec.{ltb}
 use lib.ListN.{length, take, drop, length-set, length-take, drop_of_length-le}
-use Rattle.lists.specs.Rows.{over}
-use Rattle.lists.specs.Every.{all}
 use Rattle.lists.proofs.Every.{all_nil}
 use Rattle.lists.proofs.Rows.{over-nil}
 use Rattle.lists.proofs.Turns.{room-step, room-found, room-first, room-larger}
@@ -42,9 +39,6 @@ loop-i-preserved c =
     let up : t.i - 1 + 1 ≡ t.i = omega arith in
     let larger = room-larger a.slots.now t.slots a.n t.i t.invariant.0 s.requires.0 t.invariant.1.1.0 a.id s.requires.1.1 l c.if-before-id.false t.invariant.1.1.1 in
     (omega arith, (simp length-set t.invariant.1.0, (rw up (rw up at moved), larger)))
-
-pub bounds-slots-0 : goal.bounds-slots-0
-bounds-slots-0 c = omega arith
 
 pub shape_of-slots : goal.shape_of-slots
 shape_of-slots c = simp length-set c.loop-i.invariant.1.0

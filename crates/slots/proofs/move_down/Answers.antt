@@ -1,5 +1,5 @@
 -- `slots::move_down` meets its contract: what is copied within is what `over` puts there. Assumes nothing.
-use Rattle.std.proofs.Common.{◌≡◌, ◌++◌, ◌+◌, ◌-◌, length, take, drop, refl, sym, ◌∙◌, arith, append_assoc, length-take, length-drop}
+use Rattle.std.proofs.Common.{◌≡◌, ◌+◌, ◌-◌, length, take, drop, ◌∙◌, arith, append_assoc, length-take, length-drop}
 use Rattle.lists.specs.Rows.{over}
 use Rattle.slots.proofs.move_down.Goals as goal
 

@@ -1,13 +1,11 @@
 -- `slots::remove` meets its contract. The invariant: the first i ids without the one to remove are written over the front.
 use mathlib.Core.Path.{◌≡◌, refl, sym, ap, ◌∙◌}
 use mathlib.Core.Bool.{Bool, true, not}
-use mathlib.Core.Logic.{⊎_elim}
-use Prim.Native.Nat.{ℕ, ◌-◌, ◌≤◌, ◌<◌}
+use Prim.Native.Nat.{ℕ, ◌<◌}
 use native.Mathlib.Omega.{arith}
 use lib.Dec.{eqb}
-use lib.ListN.{length, get_or, take, length-set}
+use lib.ListN.{length, get_or, length-set}
 use borrow.Author.Tests.{eq-eqb, ne_eqb}
-use Rattle.lists.specs.Rows.{over}
 use Rattle.lists.specs.Select.{without, keep}
 use Rattle.lists.proofs.Rows.{over-nil}
 use Rattle.lists.proofs.Turns.{keep-store, keep-count, keep-not}
@@ -16,21 +14,6 @@ use Rattle.slots.proofs.remove.Goals as goal
 pub loop-i-init : goal.loop-i-init
 unfolding without keep
 loop-i-init c = (omega arith, (omega arith, (refl, (refl, sym (over-nil c.args.slots.now 0)))))
-
-pub offset_bounds-slots-i : goal.offset_bounds-slots-i
-offset_bounds-slots-i c = omega arith
-
-pub bounds-slots-i : goal.bounds-slots-i
-bounds-slots-i c = omega arith
-
-pub offset_bounds-slots-left : goal.offset_bounds-slots-left
-offset_bounds-slots-left c = omega arith
-
-pub bounds-slots-left : goal.bounds-slots-left
-bounds-slots-left c = omega arith
-
-pub overflow_add-left : goal.overflow_add-left
-overflow_add-left c = omega arith
 
 pub loop-i-preserved : goal.loop-i-preserved
 unfolding without
@@ -43,17 +26,14 @@ loop-i-preserved c =
     let h : t.i < length w = omega arith in
     let m = t.invariant.1.1.1.0 in
     let e = t.invariant.1.1.1.1 in
-    ⊎_elim
-    (λ s.
-    let k : p x ≡ true = rw (ne_eqb a.id x s.if-id-x.true) in
-    (omega arith, (omega arith, (ap length s.slots-is ∙ simp length-set t.invariant.1.1.0, (s.left-is ∙ keep-count p w t.slots t.i t.left 0 h m e k, s.slots-is ∙ keep-store p w t.slots t.i t.left 0 h m e k)))))
-    (λ s.
-    let k = keep-not p w t.slots t.i t.left 0 h m e (rw (eq-eqb a.id x s.if-id-x.false)) in
-    (omega arith, (omega arith, (ap length s.slots-is ∙ t.invariant.1.1.0, (rw k (s.left-is ∙ m), rw k (s.slots-is ∙ e))))))
-    c.if-id-x.branch-raw
-
-pub shape_of-slots : goal.shape_of-slots
-shape_of-slots c = c.loop-i.invariant.1.1.0
+    elim c.if-id-x.branch [
+      | goal.then-id-x s ↦
+          let k : p x ≡ true = rw (ne_eqb a.id x s.if-id-x.true) in
+          (omega arith, (omega arith, (ap length s.slots-is ∙ simp length-set t.invariant.1.1.0, (s.left-is ∙ keep-count p w t.slots t.i t.left 0 h m e k, s.slots-is ∙ keep-store p w t.slots t.i t.left 0 h m e k))))
+      | goal.else-id-x s ↦
+          let k = keep-not p w t.slots t.i t.left 0 h m e (rw (eq-eqb a.id x s.if-id-x.false)) in
+          (omega arith, (omega arith, (ap length s.slots-is ∙ t.invariant.1.1.0, (rw k (s.left-is ∙ m), rw k (s.slots-is ∙ e)))))
+    ]
 
 pub returns : goal.returns
 returns c =

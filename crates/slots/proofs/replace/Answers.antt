@@ -1,12 +1,11 @@
 -- `slots::replace` meets its contract. The invariant: the ids before i are replaced, and the others are as at entry.
-use mathlib.Core.Path.{◌≡◌, refl, ap, ◌∙◌}
+use mathlib.Core.Path.{refl, ap, ◌∙◌}
 use mathlib.Core.Bool.{cond}
-use mathlib.Core.Logic.{⊎_elim}
-use mathlib.Core.List.{◌++◌, map, append-nil}
-use Prim.Native.Nat.{ℕ, ◌-◌, ◌≤◌, ◌<◌}
+use mathlib.Core.List.{append-nil}
+use Prim.Native.Nat.{ℕ, ◌≤◌, ◌<◌}
 use native.Mathlib.Omega.{arith}
 use lib.Dec.{eqb}
-use lib.ListN.{length, get_or, take, drop, length-set, drop_of_length-le}
+use lib.ListN.{length, get_or, length-set, drop_of_length-le}
 use lib.Seq.{take_all}
 use borrow.Author.Tests.{eq-eqb, ne_eqb}
 use Rattle.lists.proofs.Turns.{change-step, change-none}
@@ -15,18 +14,6 @@ use Rattle.slots.proofs.replace.Goals as goal
 pub loop-i-init : goal.loop-i-init
 loop-i-init c = (omega arith, (refl, refl))
 
-pub offset_bounds-ids-i : goal.offset_bounds-ids-i
-offset_bounds-ids-i c = omega arith
-
-pub bounds-ids-i : goal.bounds-ids-i
-bounds-ids-i c = omega arith
-
-pub offset_bounds-ids-i-then-ids-i : goal.offset_bounds-ids-i-then-ids-i
-offset_bounds-ids-i-then-ids-i c = omega arith
-
-pub bounds-ids-i-then-ids-i : goal.bounds-ids-i-then-ids-i
-bounds-ids-i-then-ids-i c = omega arith
-
 pub loop-i-preserved : goal.loop-i-preserved
 loop-i-preserved c =
     let a = c.args in
@@ -34,13 +21,10 @@ loop-i-preserved c =
     let f : ℕ → ℕ = λ x. cond (eqb x a.from) a.to x in
     let x = get_or t.ids t.i 0 in
     let h : t.i < length a.ids.now = omega arith in
-    ⊎_elim
-    (λ w. (omega arith, (ap length w.ids-is ∙ simp length-set t.invariant.1.0, w.ids-is ∙ change-step f a.ids.now t.ids t.i 0 h t.invariant.1.1 a.to (rw (eq-eqb x a.from w.if-ids-i.true)))))
-    (λ w. (omega arith, (ap length w.ids-is ∙ t.invariant.1.0, w.ids-is ∙ change-none f a.ids.now t.ids t.i 0 h t.invariant.1.1 (rw (ne_eqb x a.from w.if-ids-i.false)))))
-    c.if-ids-i.branch-raw
-
-pub shape_of-ids : goal.shape_of-ids
-shape_of-ids c = c.loop-i.invariant.1.0
+    elim c.if-ids-i.branch [
+      | goal.then-ids-i w ↦ (omega arith, (ap length w.ids-is ∙ simp length-set t.invariant.1.0, w.ids-is ∙ change-step f a.ids.now t.ids t.i 0 h t.invariant.1.1 a.to (rw (eq-eqb x a.from w.if-ids-i.true))))
+      | goal.else-ids-i w ↦ (omega arith, (ap length w.ids-is ∙ t.invariant.1.0, w.ids-is ∙ change-none f a.ids.now t.ids t.i 0 h t.invariant.1.1 (rw (ne_eqb x a.from w.if-ids-i.false))))
+    ]
 
 pub returns : goal.returns
 returns c =

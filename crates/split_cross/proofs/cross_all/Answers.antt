@@ -30,10 +30,10 @@ returns-in_err-row_crosses c =
 
 pub loop-j-preserved : goal.loop-j-preserved
 loop-j-preserved c =
-    ⊎_elim
-    (λ s. (omega arith, cross-one (row_crosses c.args.coordinates.now c.args.boundaries.now c.args.point) c.args.seen.now c.args.lanes.now c.loop-j.j c.loop-j.invariant.1 c.loop-j-test.true c.requires.1 s.if-seen-j.true (sym s.in_ok-row_crosses.was ∙ s.row_crosses.ensures)))
-    (λ s. (omega arith, cross-none (row_crosses c.args.coordinates.now c.args.boundaries.now c.args.point) c.args.seen.now c.args.lanes.now c.loop-j.j c.loop-j.invariant.1 c.loop-j-test.true c.requires.1 s.if-seen-j.false))
-    c.if-seen-j.branch-raw
+    elim c.if-seen-j.branch [
+      | goal.then-seen-j+in_ok-row_crosses s ↦ (omega arith, cross-one (row_crosses c.args.coordinates.now c.args.boundaries.now c.args.point) c.args.seen.now c.args.lanes.now c.loop-j.j c.loop-j.invariant.1 c.loop-j-test.true c.requires.1 s.if-seen-j.true (sym s.in_ok-row_crosses.was ∙ s.row_crosses.ensures))
+      | goal.else-seen-j s ↦ (omega arith, cross-none (row_crosses c.args.coordinates.now c.args.boundaries.now c.args.point) c.args.seen.now c.args.lanes.now c.loop-j.j c.loop-j.invariant.1 c.loop-j-test.true c.requires.1 s.if-seen-j.false)
+    ]
 
 pub returns : goal.returns
 returns c = cross-ends (row_crosses c.args.coordinates.now c.args.boundaries.now c.args.point) c.args.seen.now c.args.lanes.now c.loop-j.j c.loop-j.invariant.1 c.loop-j-test.false

@@ -24,10 +24,10 @@ draw_row-at-requires c = let a = c.args in let p = c.requires in let t = c.loop-
 pub loop-i-preserved : goal.loop-i-preserved
 loop-i-preserved c =
     let a = c.args in let p = c.requires in let t = c.loop-i in let l = c.loop-i-test.true in
-    ⊎_elim
-    (λ s. let w = draw_more a.coordinates.now a.stride a.offset a.marked a.chosen.now a.t.now p.table a.point a.from a.out.now t.i t.at t.out t.invariant.1 l s.if-chosen-i.true p.room s.draw_row-at.result s.draw_row-at.new.out s.draw_row-at.ensures s.draw_row-at.auto.out in (omega (arith, l), rw (s.out-is, s.at-is) w))
-    (λ s. let w = draw_skip a.coordinates.now a.stride a.offset a.marked a.chosen.now a.t.now p.table a.point a.from a.out.now t.i t.at t.out t.invariant.1 l s.if-chosen-i.false in (omega (arith, l), rw (s.out-is, s.at-is) w))
-    c.if-chosen-i.branch-raw
+    elim c.if-chosen-i.branch [
+      | goal.then-chosen-i s ↦ let w = draw_more a.coordinates.now a.stride a.offset a.marked a.chosen.now a.t.now p.table a.point a.from a.out.now t.i t.at t.out t.invariant.1 l s.if-chosen-i.true p.room s.draw_row-at.result s.draw_row-at.new.out s.draw_row-at.ensures s.draw_row-at.auto.out in (omega (arith, l), rw (s.out-is, s.at-is) w)
+      | goal.else-chosen-i s ↦ let w = draw_skip a.coordinates.now a.stride a.offset a.marked a.chosen.now a.t.now p.table a.point a.from a.out.now t.i t.at t.out t.invariant.1 l s.if-chosen-i.false in (omega (arith, l), rw (s.out-is, s.at-is) w)
+    ]
 
 pub shape_of-out : goal.shape_of-out
 shape_of-out c = c.loop-i.invariant.1.same

@@ -30,10 +30,10 @@ overflow_add-m c = let a = c.args in let p = c.requires in let t = c.loop-i in l
 pub loop-i-preserved : goal.loop-i-preserved
 loop-i-preserved c =
     let a = c.args in let p = c.requires in let t = c.loop-i in let l = c.loop-i-test.true in
-    ⊎_elim
-    (λ s. let w = list-more a.coordinates.now a.stride a.offset a.marked a.chosen.now a.t.now p.table a.point a.from a.out.now t.i t.m t.at t.out t.invariant.1 l s.if-chosen-i.true p.room s.row_sizes-s.result s.row_sizes-s.ensures s.put_measure-at.result s.put_measure-at.new.out s.put_measure-at.ensures s.put_measure-at.auto.out in (omega (arith, l), rw (s.out-is, s.at-is, s.m-is) w))
-    (λ s. let w = list-skip a.coordinates.now a.stride a.offset a.marked a.chosen.now a.t.now p.table a.point a.from a.out.now t.i t.m t.at t.out t.invariant.1 l s.if-chosen-i.false in (omega (arith, l), rw (s.out-is, s.at-is, s.m-is) w))
-    c.if-chosen-i.branch-raw
+    elim c.if-chosen-i.branch [
+      | goal.then-chosen-i s ↦ let w = list-more a.coordinates.now a.stride a.offset a.marked a.chosen.now a.t.now p.table a.point a.from a.out.now t.i t.m t.at t.out t.invariant.1 l s.if-chosen-i.true p.room s.row_sizes-s.result s.row_sizes-s.ensures s.put_measure-at.result s.put_measure-at.new.out s.put_measure-at.ensures s.put_measure-at.auto.out in (omega (arith, l), rw (s.out-is, s.at-is, s.m-is) w)
+      | goal.else-chosen-i s ↦ let w = list-skip a.coordinates.now a.stride a.offset a.marked a.chosen.now a.t.now p.table a.point a.from a.out.now t.i t.m t.at t.out t.invariant.1 l s.if-chosen-i.false in (omega (arith, l), rw (s.out-is, s.at-is, s.m-is) w)
+    ]
 
 pub shape_of-out : goal.shape_of-out
 shape_of-out c = c.loop-i.invariant.1.same

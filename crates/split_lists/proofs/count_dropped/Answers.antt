@@ -26,10 +26,10 @@ overflow_add-second c = omega (arith, number-below c.args.cut.now c.args.next c.
 
 pub loop-i-preserved : goal.loop-i-preserved
 loop-i-preserved c =
-    ⊎_elim
-    (λ s. (numbers-one c.args.cut.now c.args.next c.args.seen.now c.args.lanes.now c.requires c.loop-i.i c.loop-i.second c.loop-i.invariant.0 c.loop-i-test.true s.if-seen-i.true c.if-seen-i.second s.second-is, count-one c.args.cut.now c.args.next c.args.seen.now c.args.lanes.now c.requires c.loop-i.i c.loop-i.count c.loop-i.invariant.1 c.loop-i.second c.loop-i.invariant.0 c.loop-i-test.true s.if-seen-i.true s.count_row-count.result c.if-seen-i.count s.count_row-count.ensures s.count-is))
-    (λ s. (numbers-none c.args.cut.now c.args.next c.args.seen.now c.args.lanes.now c.requires c.loop-i.i c.loop-i.second c.loop-i.invariant.0 c.loop-i-test.true s.if-seen-i.false c.if-seen-i.second s.second-is, count_none c.args.cut.now c.args.next c.args.seen.now c.args.lanes.now c.requires c.loop-i.i c.loop-i.count c.loop-i.invariant.1 c.loop-i.second c.loop-i.invariant.0 c.loop-i-test.true s.if-seen-i.false c.if-seen-i.count s.count-is))
-    c.if-seen-i.branch-raw
+    elim c.if-seen-i.branch [
+      | goal.then-seen-i s ↦ (numbers-one c.args.cut.now c.args.next c.args.seen.now c.args.lanes.now c.requires c.loop-i.i c.loop-i.second c.loop-i.invariant.0 c.loop-i-test.true s.if-seen-i.true c.if-seen-i.second s.second-is, count-one c.args.cut.now c.args.next c.args.seen.now c.args.lanes.now c.requires c.loop-i.i c.loop-i.count c.loop-i.invariant.1 c.loop-i.second c.loop-i.invariant.0 c.loop-i-test.true s.if-seen-i.true s.count_row-count.result c.if-seen-i.count s.count_row-count.ensures s.count-is)
+      | goal.else-seen-i s ↦ (numbers-none c.args.cut.now c.args.next c.args.seen.now c.args.lanes.now c.requires c.loop-i.i c.loop-i.second c.loop-i.invariant.0 c.loop-i-test.true s.if-seen-i.false c.if-seen-i.second s.second-is, count_none c.args.cut.now c.args.next c.args.seen.now c.args.lanes.now c.requires c.loop-i.i c.loop-i.count c.loop-i.invariant.1 c.loop-i.second c.loop-i.invariant.0 c.loop-i-test.true s.if-seen-i.false c.if-seen-i.count s.count-is)
+    ]
 
 pub returns : goal.returns
 returns c = count-ends c.args.cut.now c.args.next c.args.seen.now c.args.lanes.now c.requires c.loop-i.i c.loop-i.count c.loop-i.invariant.1 c.loop-i.invariant.0.upto c.loop-i-test.false

@@ -50,10 +50,10 @@ overflow_add-place c = omega (arith, place-room c.args.s c.args.marks.now c.args
 
 pub loop-i-preserved : goal.loop-i-preserved
 loop-i-preserved c =
-    ⊎_elim
-    (λ s. listing-one c.args.s c.args.marks.now c.args.t.now c.from-number.result c.args.at c.args.out.now c.args.kind c.from-number.ensures c.requires.0 c.requires.1 c.loop-i.i c.loop-i.place c.loop-i.out c.loop-i.invariant c.loop-i-test.true s.if-marks-i.true c.if-marks-i.place c.if-marks-i.out s.place-is s.out-is)
-    (λ s. listing_none c.args.s c.args.marks.now c.args.t.now c.from-number.result c.args.at c.args.out.now c.args.kind c.from-number.ensures c.requires.0 c.requires.1 c.loop-i.i c.loop-i.place c.loop-i.out c.loop-i.invariant c.loop-i-test.true s.if-marks-i.false c.if-marks-i.place c.if-marks-i.out s.place-is s.out-is)
-    c.if-marks-i.branch-raw
+    elim c.if-marks-i.branch [
+      | goal.then-marks-i s ↦ listing-one c.args.s c.args.marks.now c.args.t.now c.from-number.result c.args.at c.args.out.now c.args.kind c.from-number.ensures c.requires.0 c.requires.1 c.loop-i.i c.loop-i.place c.loop-i.out c.loop-i.invariant c.loop-i-test.true s.if-marks-i.true c.if-marks-i.place c.if-marks-i.out s.place-is s.out-is
+      | goal.else-marks-i s ↦ listing_none c.args.s c.args.marks.now c.args.t.now c.from-number.result c.args.at c.args.out.now c.args.kind c.from-number.ensures c.requires.0 c.requires.1 c.loop-i.i c.loop-i.place c.loop-i.out c.loop-i.invariant c.loop-i-test.true s.if-marks-i.false c.if-marks-i.place c.if-marks-i.out s.place-is s.out-is
+    ]
 
 pub shape_of-out : goal.shape_of-out
 shape_of-out c = listing-whole c.args.s c.args.marks.now c.args.t.now c.from-number.result c.args.at c.args.out.now c.args.kind c.from-number.ensures c.requires.0 c.requires.1 c.loop-i.i c.loop-i.place c.loop-i.out c.loop-i.invariant c.loop-i-test.false

@@ -23,10 +23,10 @@ overflow_add-second c = omega (arith, number-below c.args.cut.now c.args.next c.
 
 pub loop-i-preserved : goal.loop-i-preserved
 loop-i-preserved c =
-    ⊎_elim
-    (λ s. (numbers-one c.args.cut.now c.args.next c.args.seen.now c.args.lanes.now c.requires.0 c.loop-i.i c.loop-i.second c.loop-i.invariant.0 c.loop-i-test.true s.if-seen-i.true c.if-seen-i.second s.second-is, warned-one c.args.cut.now c.args.next c.args.seen.now c.args.lanes.now c.args.warnings.now c.args.from c.requires.0 c.requires.1 c.loop-i.i c.loop-i.warnings c.loop-i.at c.loop-i.invariant.1 c.loop-i.second c.loop-i.invariant.0 c.loop-i-test.true s.if-seen-i.true s.warn_row-at.result s.warn_row-at.new.warnings c.if-seen-i.at c.if-seen-i.warnings s.warn_row-at.ensures s.warnings-is s.at-is))
-    (λ s. (numbers-none c.args.cut.now c.args.next c.args.seen.now c.args.lanes.now c.requires.0 c.loop-i.i c.loop-i.second c.loop-i.invariant.0 c.loop-i-test.true s.if-seen-i.false c.if-seen-i.second s.second-is, warned-none c.args.cut.now c.args.next c.args.seen.now c.args.lanes.now c.args.warnings.now c.args.from c.requires.0 c.requires.1 c.loop-i.i c.loop-i.warnings c.loop-i.at c.loop-i.invariant.1 c.loop-i.second c.loop-i.invariant.0 c.loop-i-test.true s.if-seen-i.false c.if-seen-i.warnings c.if-seen-i.at s.warnings-is s.at-is))
-    c.if-seen-i.branch-raw
+    elim c.if-seen-i.branch [
+      | goal.then-seen-i s ↦ (numbers-one c.args.cut.now c.args.next c.args.seen.now c.args.lanes.now c.requires.0 c.loop-i.i c.loop-i.second c.loop-i.invariant.0 c.loop-i-test.true s.if-seen-i.true c.if-seen-i.second s.second-is, warned-one c.args.cut.now c.args.next c.args.seen.now c.args.lanes.now c.args.warnings.now c.args.from c.requires.0 c.requires.1 c.loop-i.i c.loop-i.warnings c.loop-i.at c.loop-i.invariant.1 c.loop-i.second c.loop-i.invariant.0 c.loop-i-test.true s.if-seen-i.true s.warn_row-at.result s.warn_row-at.new.warnings c.if-seen-i.at c.if-seen-i.warnings s.warn_row-at.ensures s.warnings-is s.at-is)
+      | goal.else-seen-i s ↦ (numbers-none c.args.cut.now c.args.next c.args.seen.now c.args.lanes.now c.requires.0 c.loop-i.i c.loop-i.second c.loop-i.invariant.0 c.loop-i-test.true s.if-seen-i.false c.if-seen-i.second s.second-is, warned-none c.args.cut.now c.args.next c.args.seen.now c.args.lanes.now c.args.warnings.now c.args.from c.requires.0 c.requires.1 c.loop-i.i c.loop-i.warnings c.loop-i.at c.loop-i.invariant.1 c.loop-i.second c.loop-i.invariant.0 c.loop-i-test.true s.if-seen-i.false c.if-seen-i.warnings c.if-seen-i.at s.warnings-is s.at-is)
+    ]
 
 pub shape_of-warnings : goal.shape_of-warnings
 shape_of-warnings c = warned-length c.args.cut.now c.args.next c.args.seen.now c.args.lanes.now c.args.warnings.now c.args.from c.requires.0 c.requires.1 c.loop-i.i c.loop-i.warnings c.loop-i.at c.loop-i.invariant.1 c.loop-i-test.false

@@ -1,5 +1,4 @@
 -- `split_marks::lane_touched` meets its contract: of a lane that is cut, and of another. Assumes nothing.
-use borrow.Author.Rules.{rules}
 use Rattle.lists.proofs.Rows.{keys-one}
 use Rattle.split_marks.proofs.Marks.{lane-cut, lane-other}
 use Rattle.split_marks.proofs.lane_touched.Goals as goal

@@ -1,10 +1,8 @@
 -- `split_marks::mark_lanes` meets its contract. The invariant: the marks before row i are written. Assumes nothing.
 use mathlib.Core.Path.{◌∙◌}
-use Prim.Native.Nat.{◌-◌, ◌≤◌}
 use native.Mathlib.Omega.{arith}
-use Rattle.tables.specs.View.{word}
 use Rattle.split_marks.specs.Touched.{lane_touched}
-use Rattle.split_marks.proofs.Marks.{Tested, test-begins, test-more, test-ends, table-there, table-small, row-there, row_list, lane-named}
+use Rattle.split_marks.proofs.Marks.{test-begins, test-more, test-ends, table-there, row-there, row_list, lane-named}
 use Rattle.split_marks.proofs.mark_lanes.Goals as goal
 
 pub bounds-t-0 : goal.bounds-t-0

@@ -1,5 +1,4 @@
 -- `split_marks::row_names` meets its contract: the list is lent as its part of the table. Assumes nothing.
-use borrow.Author.Rules.{rules}
 use Rattle.split_marks.proofs.Marks.{names-lent}
 use Prim.Native.Nat.{◌+◌}
 use mathlib.Core.Path.{refl}

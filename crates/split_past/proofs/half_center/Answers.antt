@@ -40,5 +40,8 @@ pub returns : goal.returns
 returns c =
     let a = c.args in let p = c.requires in
     written_as (row_derived a.coordinates.now a.lanes.now a.boundaries.now a.point a.second a.i) (row_half a.coordinates.now a.lanes.now a.boundaries.now a.point a.second a.i) c.half_derived.result a.out.now c.half_derived.new.out
-    (⊎_elim (λ s. half-between a.coordinates.now a.lanes.now a.boundaries.now a.point a.second a.i (inl (s.if-lanes-at-ne0.true, (s.line_of-line.result.now, (s.line_of-line.ensures, sym s.count.ensures ∙ s.if-count-ne0.false))))) (λ s. half-between a.coordinates.now a.lanes.now a.boundaries.now a.point a.second a.i (inr s.if-lanes-at-ne0.false)) c.if-lanes-at-ne0.branch-raw)
+    (elim c.if-lanes-at-ne0.branch [
+      | goal.then-lanes-at-ne0+else-count-ne0 s ↦ half-between a.coordinates.now a.lanes.now a.boundaries.now a.point a.second a.i (inl (s.if-lanes-at-ne0.true, (s.line_of-line.result.now, (s.line_of-line.ensures, sym s.count.ensures ∙ s.if-count-ne0.false))))
+      | goal.else-lanes-at-ne0 s ↦ half-between a.coordinates.now a.lanes.now a.boundaries.now a.point a.second a.i (inr s.if-lanes-at-ne0.false)
+    ])
     c.half_derived.ensures

@@ -45,10 +45,10 @@ loop-x-preserved c =
     let a = c.args in
     let t = c.loop-x in
     let l = c.loop-x-test.true in
-    ⊎_elim
-    (λ s. (omega (arith, l), rw s.ids-is (count-one a.seen.now a.lanes.now a.boundaries.now a.marks.now t.x t.ids t.invariant.1 l c.requires.0.1.1 s.if-marks-x.true s.ids_for-ids.result s.ids_for-ids.ensures)))
-    (λ s. (omega (arith, l), rw s.ids-is (count_none a.seen.now a.lanes.now a.boundaries.now a.marks.now t.x t.ids t.invariant.1 l c.requires.0.1.1 s.if-marks-x.false)))
-    c.if-marks-x.branch-raw
+    elim c.if-marks-x.branch [
+      | goal.then-marks-x s ↦ (omega (arith, l), rw s.ids-is (count-one a.seen.now a.lanes.now a.boundaries.now a.marks.now t.x t.ids t.invariant.1 l c.requires.0.1.1 s.if-marks-x.true s.ids_for-ids.result s.ids_for-ids.ensures))
+      | goal.else-marks-x s ↦ (omega (arith, l), rw s.ids-is (count_none a.seen.now a.lanes.now a.boundaries.now a.marks.now t.x t.ids t.invariant.1 l c.requires.0.1.1 s.if-marks-x.false))
+    ]
 
 pub returns : goal.returns
 returns c =

@@ -52,14 +52,14 @@ loop-x-preserved c =
     let p = c.requires in
     let t = c.loop-x in
     let l = c.loop-x-test.true in
-    ⊎_elim
-    (λ s.
-    let w = list-one a.seen.now a.lanes.now a.boundaries.now a.marks.now a.next a.pieces.now t.x t.m t.id t.pieces t.invariant.1 l p.0.0.1.1 s.if-marks-x.true s.used_beyond.result s.used_beyond.ensures p.1.1 s.put_piece-id.result s.put_piece-id.new.pieces s.put_piece-id.ensures in
-    (omega (arith, l), rw (s.pieces-is, s.id-is, s.m-is) w))
-    (λ s.
-    let w = list-none a.seen.now a.lanes.now a.boundaries.now a.marks.now a.next a.pieces.now t.x t.m t.id t.pieces t.invariant.1 l p.0.0.1.1 s.if-marks-x.false in
-    (omega (arith, l), rw (s.pieces-is, s.id-is, s.m-is) w))
-    c.if-marks-x.branch-raw
+    elim c.if-marks-x.branch [
+      | goal.then-marks-x s ↦
+          let w = list-one a.seen.now a.lanes.now a.boundaries.now a.marks.now a.next a.pieces.now t.x t.m t.id t.pieces t.invariant.1 l p.0.0.1.1 s.if-marks-x.true s.used_beyond.result s.used_beyond.ensures p.1.1 s.put_piece-id.result s.put_piece-id.new.pieces s.put_piece-id.ensures in
+          (omega (arith, l), rw (s.pieces-is, s.id-is, s.m-is) w)
+      | goal.else-marks-x s ↦
+          let w = list-none a.seen.now a.lanes.now a.boundaries.now a.marks.now a.next a.pieces.now t.x t.m t.id t.pieces t.invariant.1 l p.0.0.1.1 s.if-marks-x.false in
+          (omega (arith, l), rw (s.pieces-is, s.id-is, s.m-is) w)
+    ]
 
 pub shape_of-pieces : goal.shape_of-pieces
 shape_of-pieces c =

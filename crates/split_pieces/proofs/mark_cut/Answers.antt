@@ -40,15 +40,15 @@ loop-j-preserved c =
     let p = c.requires in
     let t = c.loop-j in
     let l = c.loop-j-test.true in
-    ⊎_elim
-    (λ s.
-    let x = s.mark_side.new.marks in
-    let y = s.mark_side-then-seen-j.new.marks in
-    let d = side-length a.lanes.now t.j Left a.boundaries.now t.marks x s.mark_side.ensures in
-    let e = side-length a.lanes.now t.j Right a.boundaries.now x y s.mark_side-then-seen-j.ensures in
-    (omega (arith, l), (ap length s.marks-is ∙ e ∙ d ∙ t.invariant.1.0, s.marks-is ∙ mark-one a.seen.now a.lanes.now a.boundaries.now a.marks.now t.j t.marks t.invariant.1.1 l p.1.0 p.0.1.0 s.if-seen-j.true x y s.mark_side.ensures s.mark_side-then-seen-j.ensures)))
-    (λ s. (omega (arith, l), (ap length s.marks-is ∙ t.invariant.1.0, s.marks-is ∙ mark-none a.seen.now a.lanes.now a.boundaries.now a.marks.now t.j t.marks t.invariant.1.1 l p.1.0 s.if-seen-j.false)))
-    c.if-seen-j.branch-raw
+    elim c.if-seen-j.branch [
+      | goal.then-seen-j s ↦
+          let x = s.mark_side.new.marks in
+          let y = s.mark_side-then-seen-j.new.marks in
+          let d = side-length a.lanes.now t.j Left a.boundaries.now t.marks x s.mark_side.ensures in
+          let e = side-length a.lanes.now t.j Right a.boundaries.now x y s.mark_side-then-seen-j.ensures in
+          (omega (arith, l), (ap length s.marks-is ∙ e ∙ d ∙ t.invariant.1.0, s.marks-is ∙ mark-one a.seen.now a.lanes.now a.boundaries.now a.marks.now t.j t.marks t.invariant.1.1 l p.1.0 p.0.1.0 s.if-seen-j.true x y s.mark_side.ensures s.mark_side-then-seen-j.ensures))
+      | goal.else-seen-j s ↦ (omega (arith, l), (ap length s.marks-is ∙ t.invariant.1.0, s.marks-is ∙ mark-none a.seen.now a.lanes.now a.boundaries.now a.marks.now t.j t.marks t.invariant.1.1 l p.1.0 s.if-seen-j.false))
+    ]
 
 pub shape_of-marks : goal.shape_of-marks
 shape_of-marks c = c.loop-j.invariant.1.0

@@ -29,10 +29,10 @@ loop-j-preserved c =
     let u = c.before.before.before.before.before.before.before.before in
     let t = c.loop-j in
     let l = c.loop-j-test.true in
-    ⊎_elim
-    (λ s. (omega (arith, l), beyond-none u.args.seen.now u.args.lanes.now u.args.id t.j t.invariant.1 l u.requires.1 (ap not s.if-not-seen-j.true) s.row_uses.result s.row_uses.ensures s.if-row_uses.false))
-    (λ s. (omega (arith, l), beyond-marked u.args.seen.now u.args.lanes.now u.args.id t.j t.invariant.1 l u.requires.1 (ap not s.if-not-seen-j.false)))
-    c.if-not-seen-j.branch-raw
+    elim c.if-not-seen-j.branch [
+      | goal.then-not-seen-j+else-row_uses s ↦ (omega (arith, l), beyond-none u.args.seen.now u.args.lanes.now u.args.id t.j t.invariant.1 l u.requires.1 (ap not s.if-not-seen-j.true) s.row_uses.result s.row_uses.ensures s.if-row_uses.false)
+      | goal.else-not-seen-j s ↦ (omega (arith, l), beyond-marked u.args.seen.now u.args.lanes.now u.args.id t.j t.invariant.1 l u.requires.1 (ap not s.if-not-seen-j.false))
+    ]
 
 pub returns : goal.returns
 returns c = beyond-ends c.args.seen.now c.args.lanes.now c.args.id c.loop-j.j c.loop-j.invariant.1 c.loop-j-test.false

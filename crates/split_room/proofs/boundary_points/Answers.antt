@@ -1,9 +1,9 @@
 -- `split_room::boundary_points` meets its contract. The invariant: the points of the boundaries before number i, of which j are marked, and of those from there
 -- on are the whole. Assumes nothing.
 use mathlib.Core.Logic.{⊎_elim}
-use Prim.Native.Nat.{◌+◌, ◌*◌, ◌-◌, ◌≤◌}
+use Prim.Native.Nat.{◌+◌, ◌*◌, ◌≤◌}
 use native.Mathlib.Omega.{arith}
-use Rattle.split_room.proofs.Points.{Bounds, bounds-begin, bounds-some, bounds-end, bounds-few, bounds-row, size_few, line-few, kept-own, kept-none, number-rooms, bounds-one, bounds-none}
+use Rattle.split_room.proofs.Points.{bounds-begin, bounds-some, bounds-end, bounds-few, bounds-row, size_few, line-few, kept-own, kept-none, number-rooms, bounds-one, bounds-none}
 use Rattle.split_room.proofs.boundary_points.Goals as goal
 
 pub bounds-boundaries-0 : goal.bounds-boundaries-0

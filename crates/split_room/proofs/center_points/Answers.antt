@@ -1,5 +1,4 @@
 -- `split_room::center_points` meets its contract. Assumes nothing.
-use borrow.Author.Rules.{rules}
 use Rattle.split_room.proofs.Points.{center_none, center_some}
 use Rattle.split_room.proofs.center_points.Goals as goal
 

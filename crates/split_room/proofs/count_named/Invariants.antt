@@ -1,12 +1,8 @@
 -- `split_room::count_named` meets its contract. The invariant: the count is that of the first r cut lanes. Assumes nothing.
-use mathlib.Core.Path.{◌≡◌, refl, sym, ◌∙◌}
-use mathlib.Core.Logic.{⊎_elim}
-use Prim.Native.Nat.{◌-◌, ◌≤◌}
-use native.Mathlib.Omega.{arith}
+use mathlib.Core.Path.{◌≡◌}
+use Prim.Native.Nat.{◌≤◌}
 use lib.ListN.{length, take}
-use lib.Seq.{take_all}
 use Rattle.lists.specs.Select.{keep, has}
-use Rattle.lists.proofs.Turns.{count-one, count_none}
 use Rattle.split_room.proofs.count_named.Given as goal
 
 abbrev pub invariant-loop-r : goal.invariant-loop-r

@@ -1,5 +1,4 @@
 -- `split_room::list_fits` meets its contract. Assumes nothing.
-use borrow.Author.Rules.{rules}
 use native.Mathlib.Omega.{arith}
 use Rattle.split_room.proofs.Places.{named-few, list-fits-is}
 use Rattle.split_room.proofs.list_fits.Goals as goal

@@ -1,5 +1,4 @@
 -- `split_room::own_fits` meets its contract. Assumes nothing.
-use borrow.Author.Rules.{rules}
 use native.Mathlib.Omega.{arith}
 use Rattle.split_room.proofs.Places.{own_room, own-few, own-named}
 use Rattle.split_room.proofs.own_fits.Goals as goal

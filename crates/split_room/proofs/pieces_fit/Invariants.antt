@@ -1,10 +1,12 @@
--- `split_room::pieces_fit` meets its contract. The invariant: the pieces before number j are short, so all are where those from there on are. Assumes nothing.
-use mathlib.Core.Path.{◌≡◌}
-use Prim.Native.Nat.{◌-◌, ◌≤◌}
-use native.Mathlib.Omega.{arith}
+-- `split_room::pieces_fit` meets its contract. The invariant: all pieces are short where those that are left are. Assumes nothing.
+use Rattle.std.proofs.Common.{◌≡◌, ◌/◌, length}
+use Rattle.std.specs.Slice.Iter.{chunks_exact_rest, chunks_exact_size}
 use Rattle.split_room.specs.Fitting.{pieces_fit}
-use Rattle.split_room.proofs.Points.{fit-ends, fit-stops, fit-goes-on}
 use Rattle.split_room.proofs.pieces_fit.Given as goal
 
-abbrev pub invariant-loop-j : goal.invariant-loop-j
-invariant-loop-j l = (l.j ≤ l.n) × (pieces_fit l.lines 0 l.n ≡ pieces_fit l.lines l.j (l.n - l.j))
+abbrev pub invariant-loop-line : goal.invariant-loop-line
+invariant-loop-line l =
+    (goal.iterator-loop-line).can_next l.line-iterator
+    × (goal.iterator-loop-line).is_finite l.line-iterator
+    × (chunks_exact_size l.line-iterator ≡ 3)
+    × (pieces_fit l.lines 0 (length l.lines / 3) ≡ pieces_fit (chunks_exact_rest l.line-iterator) 0 (length (chunks_exact_rest l.line-iterator) / 3))

@@ -1,5 +1,4 @@
 -- `split_room::points_after` meets its contract: the five sums together. Assumes nothing.
-use borrow.Author.Rules.{rules}
 use native.Mathlib.Omega.{arith}
 use Rattle.split_room.specs.Fitting.{points_after}
 use Rattle.split_room.proofs.Points.{column-asks}

@@ -1,7 +1,6 @@
 -- `split_room::rule_fits` meets its contract: each return by the tests that led there. Assumes nothing.
 use mathlib.Core.Bool.{not}
 use mathlib.Core.Path.{ap}
-use borrow.Author.Rules.{rules}
 use Rattle.split_room.proofs.Places.{rule-crowded, rule-other, rule-both, priority-asks, yielding-asks}
 use Rattle.split_room.proofs.rule_fits.Goals as goal
 

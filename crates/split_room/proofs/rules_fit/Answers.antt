@@ -1,11 +1,7 @@
 -- `split_room::rules_fit` meets its contract. The invariant: the rules before number i fit, so all do where those from there on do. Assumes nothing.
 use mathlib.Core.Bool.{not}
-use mathlib.Core.Path.{◌≡◌, refl, ap}
-use Prim.Native.Nat.{◌-◌, ◌≤◌}
+use mathlib.Core.Path.{refl, ap}
 use native.Mathlib.Omega.{arith}
-use lib.ListN.{drop}
-use Rattle.tables.specs.View.{word, rows}
-use Rattle.split_room.specs.Fitting.{rules_fit}
 use Rattle.split_room.proofs.Places.{rules-some, rules-end, rules-few, rules-room, rule-asks, rules-stop, rules-go-on}
 use Rattle.split_room.proofs.rules_fit.Goals as goal
 

@@ -1,11 +1,9 @@
 -- `split_room::rules_fit` meets its contract. The invariant: the rules before number i fit, so all do where those from there on do. Assumes nothing.
-use mathlib.Core.Path.{◌≡◌, refl}
-use Prim.Native.Nat.{◌-◌, ◌≤◌}
-use native.Mathlib.Omega.{arith}
+use mathlib.Core.Path.{◌≡◌}
+use Prim.Native.Nat.{◌≤◌}
 use lib.ListN.{drop}
 use Rattle.tables.specs.View.{word, rows}
 use Rattle.split_room.specs.Fitting.{rules_fit}
-use Rattle.split_room.proofs.Places.{rules-some, rules-end, rules-few, rules-room, rule-asks, rules-stop, rules-go-on}
 use Rattle.split_room.proofs.rules_fit.Given as goal
 
 abbrev pub invariant-loop-i : goal.invariant-loop-i

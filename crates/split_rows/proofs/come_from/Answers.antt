@@ -54,7 +54,13 @@ pub overflow_add-left : goal.overflow_add-left
 overflow_add-left c = let a = c.args in let l = c.loop-i in omega (arith, l.invariant.0.upto, l.invariant.1, coming-bounds a.cut.now a.next a.row.now (replicate 16 0) c.requires.0 c.requires.1 refl l.row l.seconds l.left l.came l.i l.invariant.0)
 
 pub loop-i-preserved : goal.loop-i-preserved
-loop-i-preserved c = let a = c.args in let l = c.loop-i in (⊎_elim (λ x. coming-cut a.cut.now a.next a.row.now (replicate 16 0) c.requires.0 c.requires.1 refl l.row l.seconds l.left l.came l.i l.invariant.0 (omega (arith, c.loop-i-test, l.invariant.1)) c.find_row-found.result c.find_row-found.ensures c.match-found.row c.match-found.seconds c.match-found.left c.match-found.came x.in-Some.r x.in-Some.is x.row-is x.seconds-is x.left-is x.came-is) (λ x. coming-stays a.cut.now a.next a.row.now (replicate 16 0) c.requires.0 c.requires.1 refl l.row l.seconds l.left l.came l.i l.invariant.0 (omega (arith, c.loop-i-test, l.invariant.1)) c.find_row-found.result c.find_row-found.ensures c.match-found.row c.match-found.seconds c.match-found.left c.match-found.came x.in-None.is x.row-is x.seconds-is x.left-is x.came-is) c.match-found.branch-raw, l.invariant.1)
+loop-i-preserved c = let a = c.args in let l = c.loop-i in (
+  elim c.match-found.branch [
+    | goal.in-Some x ↦ coming-cut a.cut.now a.next a.row.now (replicate 16 0) c.requires.0 c.requires.1 refl l.row l.seconds l.left l.came l.i l.invariant.0 (omega (arith, c.loop-i-test, l.invariant.1)) c.find_row-found.result c.find_row-found.ensures c.match-found.row c.match-found.seconds c.match-found.left c.match-found.came x.in-Some.r x.in-Some.is x.row-is x.seconds-is x.left-is x.came-is
+    | goal.in-None x ↦ coming-stays a.cut.now a.next a.row.now (replicate 16 0) c.requires.0 c.requires.1 refl l.row l.seconds l.left l.came l.i l.invariant.0 (omega (arith, c.loop-i-test, l.invariant.1)) c.find_row-found.result c.find_row-found.ensures c.match-found.row c.match-found.seconds c.match-found.left c.match-found.came x.in-None.is x.row-is x.seconds-is x.left-is x.came-is
+  ],
+  l.invariant.1,
+)
 
 pub slice_bounds-seconds-end : goal.slice_bounds-seconds-end
 slice_bounds-seconds-end c = let a = c.args in let l = c.loop-i in omega (arith, l.invariant.0.upto, l.invariant.1, coming-bounds a.cut.now a.next a.row.now (replicate 16 0) c.requires.0 c.requires.1 refl l.row l.seconds l.left l.came l.i l.invariant.0)

@@ -1,5 +1,4 @@
 -- `split_rules::anchor_of` meets its contract: a rule that names no cut lane has no anchor here. Assumes nothing.
-use borrow.Author.Rules.{rules}
 use mathlib.Core.Path.{refl}
 use native.Mathlib.Omega.{arith}
 use Rattle.split_rules.proofs.Passing.{rule-there, rule-few, anchor_named, anchor_other}
@@ -33,7 +32,7 @@ pub slice_bounds-names_cut-end : goal.slice_bounds-names_cut-end
 slice_bounds-names_cut-end c = let a = c.args in omega (arith, rule-there a.rules.now c.requires.0 a.i c.requires.1.0 c.requires.1.1.0, rule-few a.rules.now c.requires.0 a.i c.requires.1.0 c.requires.1.1.0)
 
 pub names_cut-requires : goal.names_cut-requires
-names_cut-requires c = (omega (arith, c.names_cut-arg-1), c.requires.1.1.1.0)
+names_cut-requires c = c.requires.1.1.1.0
 
 pub rule_anchor-requires : goal.rule_anchor-requires
 rule_anchor-requires c = (c.requires.0, (c.requires.1.0, c.requires.1.1.1.1))

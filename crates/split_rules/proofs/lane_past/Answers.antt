@@ -1,5 +1,4 @@
 -- `split_rules::lane_past` meets its contract: a lane that is not cut, or not there, is not passed. Assumes nothing.
-use borrow.Author.Rules.{rules}
 use mathlib.Core.Path.{sym, ◌∙◌}
 use native.Mathlib.Omega.{arith}
 use Rattle.lists.proofs.Rows.{keys-one}

@@ -1,9 +1,7 @@
 -- `split_rules::mark_lanes` meets its contract. The invariant: the marks before place p are written. Assumes nothing.
-use Prim.Native.Nat.{◌-◌, ◌≤◌}
 use native.Mathlib.Omega.{arith}
-use lib.ListN.{length}
 use Rattle.split_rules.specs.Past.{lane_past}
-use Rattle.split_rules.proofs.Passing.{Listed, listed-none, listed_more, listed-all}
+use Rattle.split_rules.proofs.Passing.{listed-none, listed_more, listed-all}
 use Rattle.split_rules.proofs.mark_lanes.Goals as goal
 
 pub loop-p-init : goal.loop-p-init

@@ -1,9 +1,8 @@
 -- `split_rules::mark_lanes` meets its contract. The invariant: the marks before place p are written. Assumes nothing.
-use Prim.Native.Nat.{◌-◌, ◌≤◌}
-use native.Mathlib.Omega.{arith}
+use Prim.Native.Nat.{◌≤◌}
 use lib.ListN.{length}
 use Rattle.split_rules.specs.Past.{lane_past}
-use Rattle.split_rules.proofs.Passing.{Listed, listed-none, listed_more, listed-all}
+use Rattle.split_rules.proofs.Passing.{Listed}
 use Rattle.split_rules.proofs.mark_lanes.Given as goal
 
 abbrev pub invariant-loop-p : goal.invariant-loop-p

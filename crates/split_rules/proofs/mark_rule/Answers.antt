@@ -1,5 +1,4 @@
 -- `split_rules::mark_rule` meets its contract: its lanes are lent, and marked where there is an anchor. Assumes nothing.
-use borrow.Author.Rules.{rules}
 use mathlib.Core.Path.{refl, ap}
 use Prim.Native.Nat.{◌+◌, ◌*◌, ◌-◌}
 use native.Mathlib.Omega.{arith}

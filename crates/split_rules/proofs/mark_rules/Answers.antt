@@ -1,8 +1,6 @@
 -- `split_rules::mark_rules` meets its contract. The invariant: the first i rules are marked. Assumes nothing.
-use Prim.Native.Nat.{◌-◌}
 use native.Mathlib.Omega.{arith}
-use Rattle.tables.specs.View.{word}
-use Rattle.split_rules.proofs.Passing.{Done, done_none, done_more, done_all, rules-some, rules-few, marks-room, rule-may}
+use Rattle.split_rules.proofs.Passing.{done_none, done_more, done_all, rules-some, rules-few, marks-room, rule-may}
 use Rattle.split_rules.proofs.mark_rules.Goals as goal
 
 pub bounds-rules-0 : goal.bounds-rules-0

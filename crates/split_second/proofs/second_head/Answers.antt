@@ -25,29 +25,44 @@ bounds-row-10 c = simp length-set (omega (arith, c.requires.0))
 pub bounds-row-11 : goal.bounds-row-11
 bounds-row-11 c =
     let a = c.args in
-    let e : c.if-old-ne0.row ≡ limit a.row.now a.old.now a.id a.left a.right c.requires.0 = ⊎_elim (λ x. limit-on a.row.now a.old.now a.id a.left a.right c.requires.0 x.if-old-ne0.true c.if-old-ne0.row x.row-is) (λ x. limit-off a.row.now a.old.now a.id a.left a.right c.requires.0 x.if-old-ne0.false c.if-old-ne0.row x.row-is) c.if-old-ne0.branch-raw in
+    let e : c.if-old-ne0.row ≡ limit a.row.now a.old.now a.id a.left a.right c.requires.0 = elim c.if-old-ne0.branch [
+      | goal.then-old-ne0 x ↦ limit-on a.row.now a.old.now a.id a.left a.right c.requires.0 x.if-old-ne0.true c.if-old-ne0.row x.row-is
+      | goal.else-old-ne0 x ↦ limit-off a.row.now a.old.now a.id a.left a.right c.requires.0 x.if-old-ne0.false c.if-old-ne0.row x.row-is
+    ] in
     omega (arith, limit-long a.row.now a.old.now a.id a.left a.right c.requires.0 c.if-old-ne0.row e)
 
 pub bounds-row-12 : goal.bounds-row-12
 bounds-row-12 c =
     let a = c.args in
-    let e : c.if-old-ne0.row ≡ limit a.row.now a.old.now a.id a.left a.right c.requires.0 = ⊎_elim (λ x. limit-on a.row.now a.old.now a.id a.left a.right c.requires.0 x.if-old-ne0.true c.if-old-ne0.row x.row-is) (λ x. limit-off a.row.now a.old.now a.id a.left a.right c.requires.0 x.if-old-ne0.false c.if-old-ne0.row x.row-is) c.if-old-ne0.branch-raw in
+    let e : c.if-old-ne0.row ≡ limit a.row.now a.old.now a.id a.left a.right c.requires.0 = elim c.if-old-ne0.branch [
+      | goal.then-old-ne0 x ↦ limit-on a.row.now a.old.now a.id a.left a.right c.requires.0 x.if-old-ne0.true c.if-old-ne0.row x.row-is
+      | goal.else-old-ne0 x ↦ limit-off a.row.now a.old.now a.id a.left a.right c.requires.0 x.if-old-ne0.false c.if-old-ne0.row x.row-is
+    ] in
     simp length-set (omega (arith, limit-long a.row.now a.old.now a.id a.left a.right c.requires.0 c.if-old-ne0.row e))
 
 pub bounds-row-13 : goal.bounds-row-13
 bounds-row-13 c =
     let a = c.args in
-    let e : c.if-old-ne0.row ≡ limit a.row.now a.old.now a.id a.left a.right c.requires.0 = ⊎_elim (λ x. limit-on a.row.now a.old.now a.id a.left a.right c.requires.0 x.if-old-ne0.true c.if-old-ne0.row x.row-is) (λ x. limit-off a.row.now a.old.now a.id a.left a.right c.requires.0 x.if-old-ne0.false c.if-old-ne0.row x.row-is) c.if-old-ne0.branch-raw in
+    let e : c.if-old-ne0.row ≡ limit a.row.now a.old.now a.id a.left a.right c.requires.0 = elim c.if-old-ne0.branch [
+      | goal.then-old-ne0 x ↦ limit-on a.row.now a.old.now a.id a.left a.right c.requires.0 x.if-old-ne0.true c.if-old-ne0.row x.row-is
+      | goal.else-old-ne0 x ↦ limit-off a.row.now a.old.now a.id a.left a.right c.requires.0 x.if-old-ne0.false c.if-old-ne0.row x.row-is
+    ] in
     simp length-set (omega (arith, limit-long a.row.now a.old.now a.id a.left a.right c.requires.0 c.if-old-ne0.row e))
 
 pub shape_of-row : goal.shape_of-row
 shape_of-row c =
     let a = c.args in
-    let e : c.if-old-ne0.row ≡ limit a.row.now a.old.now a.id a.left a.right c.requires.0 = ⊎_elim (λ x. limit-on a.row.now a.old.now a.id a.left a.right c.requires.0 x.if-old-ne0.true c.if-old-ne0.row x.row-is) (λ x. limit-off a.row.now a.old.now a.id a.left a.right c.requires.0 x.if-old-ne0.false c.if-old-ne0.row x.row-is) c.if-old-ne0.branch-raw in
+    let e : c.if-old-ne0.row ≡ limit a.row.now a.old.now a.id a.left a.right c.requires.0 = elim c.if-old-ne0.branch [
+      | goal.then-old-ne0 x ↦ limit-on a.row.now a.old.now a.id a.left a.right c.requires.0 x.if-old-ne0.true c.if-old-ne0.row x.row-is
+      | goal.else-old-ne0 x ↦ limit-off a.row.now a.old.now a.id a.left a.right c.requires.0 x.if-old-ne0.false c.if-old-ne0.row x.row-is
+    ] in
     simp length-set (omega (arith, c.requires.0, limit-long a.row.now a.old.now a.id a.left a.right c.requires.0 c.if-old-ne0.row e))
 
 pub returns : goal.returns
 returns c =
     let a = c.args in
-    let e : c.if-old-ne0.row ≡ limit a.row.now a.old.now a.id a.left a.right c.requires.0 = ⊎_elim (λ x. limit-on a.row.now a.old.now a.id a.left a.right c.requires.0 x.if-old-ne0.true c.if-old-ne0.row x.row-is) (λ x. limit-off a.row.now a.old.now a.id a.left a.right c.requires.0 x.if-old-ne0.false c.if-old-ne0.row x.row-is) c.if-old-ne0.branch-raw in
+    let e : c.if-old-ne0.row ≡ limit a.row.now a.old.now a.id a.left a.right c.requires.0 = elim c.if-old-ne0.branch [
+      | goal.then-old-ne0 x ↦ limit-on a.row.now a.old.now a.id a.left a.right c.requires.0 x.if-old-ne0.true c.if-old-ne0.row x.row-is
+      | goal.else-old-ne0 x ↦ limit-off a.row.now a.old.now a.id a.left a.right c.requires.0 x.if-old-ne0.false c.if-old-ne0.row x.row-is
+    ] in
     head_done a.row.now a.old.now a.id a.left a.right c.requires.0 c.if-old-ne0.row e

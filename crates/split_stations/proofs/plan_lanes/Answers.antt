@@ -64,16 +64,16 @@ overflow_add-count c = omega arith
 
 pub loop-j-preserved : goal.loop-j-preserved
 loop-j-preserved c =
-    ⊎_elim
-    (λ s.
-    let d : c.loop-j.count < length c.args.cut.now = omega arith in
-    let e : c.loop-j.count < length c.args.stations.now = omega arith in
-    let w = turn_one (row_station c.args.piece c.args.coordinates.now c.args.boundaries.now c.args.own c.args.place) c.args.seen.now c.args.lanes.now c.args.cut.now c.args.stations.now c.loop-j.cut c.loop-j.stations c.loop-j.count c.loop-j.j c.loop-j.invariant.1.1.1.1 c.loop-j-test.true c.requires.1.0 s.if-seen-j.true d e _ (at_told (row_station c.args.piece c.args.coordinates.now c.args.boundaries.now c.args.own c.args.place (row_at 52 c.args.lanes.now c.loop-j.j)) _ (sym s.in_ok-station.was ∙ s.lane_station.ensures)) in
-    (omega arith, (omega arith, (ap length s.cut-is ∙ simp length-set c.loop-j.invariant.1.1.0, (ap length s.stations-is ∙ simp length-set c.loop-j.invariant.1.1.1.0, rw (s.cut-is, s.stations-is, s.count-is) w)))))
-    (λ s.
-    let w = turn-none (row_station c.args.piece c.args.coordinates.now c.args.boundaries.now c.args.own c.args.place) c.args.seen.now c.args.lanes.now c.args.cut.now c.args.stations.now c.loop-j.cut c.loop-j.stations c.loop-j.count c.loop-j.j c.loop-j.invariant.1.1.1.1 c.loop-j-test.true c.requires.1.0 s.if-seen-j.false in
-    (omega arith, (omega arith, (ap length s.cut-is ∙ c.loop-j.invariant.1.1.0, (ap length s.stations-is ∙ c.loop-j.invariant.1.1.1.0, rw (s.cut-is, s.stations-is, s.count-is) w)))))
-    c.if-seen-j.branch-raw
+    elim c.if-seen-j.branch [
+      | goal.then-seen-j+in_ok-station s ↦
+          let d : c.loop-j.count < length c.args.cut.now = omega arith in
+          let e : c.loop-j.count < length c.args.stations.now = omega arith in
+          let w = turn_one (row_station c.args.piece c.args.coordinates.now c.args.boundaries.now c.args.own c.args.place) c.args.seen.now c.args.lanes.now c.args.cut.now c.args.stations.now c.loop-j.cut c.loop-j.stations c.loop-j.count c.loop-j.j c.loop-j.invariant.1.1.1.1 c.loop-j-test.true c.requires.1.0 s.if-seen-j.true d e _ (at_told (row_station c.args.piece c.args.coordinates.now c.args.boundaries.now c.args.own c.args.place (row_at 52 c.args.lanes.now c.loop-j.j)) _ (sym s.in_ok-station.was ∙ s.lane_station.ensures)) in
+          (omega arith, (omega arith, (ap length s.cut-is ∙ simp length-set c.loop-j.invariant.1.1.0, (ap length s.stations-is ∙ simp length-set c.loop-j.invariant.1.1.1.0, rw (s.cut-is, s.stations-is, s.count-is) w))))
+      | goal.else-seen-j s ↦
+          let w = turn-none (row_station c.args.piece c.args.coordinates.now c.args.boundaries.now c.args.own c.args.place) c.args.seen.now c.args.lanes.now c.args.cut.now c.args.stations.now c.loop-j.cut c.loop-j.stations c.loop-j.count c.loop-j.j c.loop-j.invariant.1.1.1.1 c.loop-j-test.true c.requires.1.0 s.if-seen-j.false in
+          (omega arith, (omega arith, (ap length s.cut-is ∙ c.loop-j.invariant.1.1.0, (ap length s.stations-is ∙ c.loop-j.invariant.1.1.1.0, rw (s.cut-is, s.stations-is, s.count-is) w))))
+    ]
 
 pub shape_of-cut : goal.shape_of-cut
 shape_of-cut c = c.loop-j.invariant.1.1.0

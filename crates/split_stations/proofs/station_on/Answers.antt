@@ -17,7 +17,10 @@ AtJoinedLaneOwn = lts.Joined1 tie.the-claims reads.Pre reads.Post
 
 -- the own lane's station is the given one
 chosen : (c : AtJoinedLaneOwn) → c.if-lane-own.station ≡ cond (eqb c.args.lane c.args.own) c.args.cut.station c.in-Some.near.station
-chosen c = ⊎_elim (λ s. s.station-is ∙ rw (eq-eqb c.args.lane c.args.own s.if-lane-own.true)) (λ s. s.station-is ∙ rw (ne_eqb c.args.lane c.args.own s.if-lane-own.false)) c.if-lane-own.branch-raw
+chosen c = elim c.if-lane-own.branch [
+  | goal.then-lane-own s ↦ s.station-is ∙ rw (eq-eqb c.args.lane c.args.own s.if-lane-own.true)
+  | goal.else-lane-own s ↦ s.station-is ∙ rw (ne_eqb c.args.lane c.args.own s.if-lane-own.false)
+]
 
 pub returns-in_default : goal.returns-in_default
 returns-in_default c = station_pointless c.args.piece c.args.own c.args.lane c.args.cut (points c.args.line.now) c.nearest_point-found.result c.nearest_point-found.ensures c.in_default.is

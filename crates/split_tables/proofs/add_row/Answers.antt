@@ -1,5 +1,4 @@
 -- `split_tables::add_row` meets its contract: a first piece with an id of its own comes behind the last row, and the second piece behind it. Assumes nothing.
-use borrow.Author.Rules.{rules}
 use native.Mathlib.Omega.{arith}
 use mathlib.Core.Logic.{⊎_elim}
 use mathlib.Core.Path.{◌∙◌}

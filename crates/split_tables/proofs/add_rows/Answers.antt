@@ -1,11 +1,10 @@
 -- `split_tables::add_rows` meets its contract: the invariant says that the new rows of the marked boundaries before row x are there. Assumes nothing.
 use native.Mathlib.Omega.{arith}
-use Prim.Native.Nat.{◌-◌}
 use mathlib.Core.Logic.{⊎_elim}
 use mathlib.Core.Path.{◌∙◌, ap}
 use lib.ListN.{length}
-use Rattle.row_tests.proofs.Tables.{table-room, table-few}
-use Rattle.split_tables.proofs.Adding.{Added, added_none, mark-there, added-skip, added-few, added-asks, added-turn, added-all}
+use Rattle.row_tests.proofs.Tables.{table-room}
+use Rattle.split_tables.proofs.Adding.{added_none, mark-there, added-skip, added-few, added-asks, added-turn, added-all}
 use Rattle.split_tables.proofs.add_rows.Goals as goal
 
 pub bounds-t-0 : goal.bounds-t-0

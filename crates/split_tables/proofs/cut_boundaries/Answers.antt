@@ -1,5 +1,4 @@
 -- `split_tables::cut_boundaries` meets its contract: rows that point to a piece keep their ids and their number. Assumes nothing.
-use borrow.Author.Rules.{rules}
 use Rattle.split_tables.proofs.Adding.{pointed-asks, both-cut}
 use Rattle.split_tables.proofs.cut_boundaries.Goals as goal
 

@@ -1,5 +1,4 @@
 -- `split_tables::point_row` meets its contract: two stores where the boundary's first piece keeps its id. Assumes nothing.
-use borrow.Author.Rules.{rules}
 use native.Mathlib.Omega.{arith}
 use lib.ListN.{length-set}
 use Rattle.split_tables.proofs.Pieces.{piece-within, point-on, point-off, point-none}

@@ -1,4 +1,3 @@
-use borrow.Author.Rules.{rules}
 use mathlib.Core.Path.{sym}
 use Rattle.split_touched.specs.Modified.{rows_of, marks_of, told, blank}
 use Rattle.split_touched.proofs.Counted.{listed-room, listed-told, rows-listed}

@@ -1,28 +1,17 @@
 -- `stations::between_points` meets its contract: what was counted and what is left make the whole. Assumes nothing.
-use Prim.Native.Nat.{◌+◌, ◌≤◌, ◌<◌, ◌-◌}
+use Prim.Native.Nat.{◌+◌, ◌≤◌, ◌<◌}
 use mathlib.Core.Path.{◌≡◌, sym, ap}
-use mathlib.Core.Logic.{⊎_elim}
 use native.Mathlib.Omega.{arith}
-use borrow.Author.Rules.{rules}
-use lib.ListN.{length, drop}
-use Rattle.polyline.specs.Polyline.{points, between, inner, optionally}
+use lib.ListN.{length}
+use Rattle.polyline.specs.Polyline.{points, optionally}
 use Rattle.polyline.proofs.Lines.{between_none, between-begins, inner-goes, inner-ends, counts-on, optionally-few}
 use Rattle.stations.proofs.between_points.Goals as goal
 
 pub returns-then-n-eq0 : goal.returns-then-n-eq0
 returns-then-n-eq0 c = sym (ap length (between_none c.args.from c.args.to (points c.args.line.now) (omega arith)))
 
-pub point-p-requires : goal.point-p-requires
-point-p-requires c = omega arith
-
 pub loop-i-init : goal.loop-i-init
 loop-i-init c = (omega arith, (omega arith, rw (c.point-p.ensures, ← between-begins c.args.from c.args.to (points c.args.line.now) (omega arith)) (omega arith)))
-
-pub point-q-requires : goal.point-q-requires
-point-q-requires c = omega (arith, c.count-n.ensures, c.loop-i-test.true)
-
-pub overflow_add-found : goal.overflow_add-found
-overflow_add-found c = omega (arith, c.count-n.type_inv, c.loop-i-test.true, c.loop-i.invariant.1.0)
 
 pub loop-i-preserved : goal.loop-i-preserved
 loop-i-preserved c =
@@ -30,7 +19,10 @@ loop-i-preserved c =
     let l = c.loop-i in
     let q = c.point-q.result in
     let h : l.i < length ps = omega (arith, c.count-n.ensures, c.loop-i-test.true) in
-    let f : c.if-inside.found ≡ l.found + length (optionally c.inside.result q) = ⊎_elim (λ w. rw w.if-inside.true w.found-is) (λ w. rw w.if-inside.false (omega (arith, w.found-is))) c.if-inside.branch-raw in
+    let f : c.if-inside.found ≡ l.found + length (optionally c.inside.result q) = elim c.if-inside.branch [
+      | goal.then-inside w ↦ rw w.if-inside.true w.found-is
+      | goal.else-inside w ↦ rw w.if-inside.false (omega (arith, w.found-is))
+    ] in
     let g = rw (← c.point-q.ensures, ← c.distance-at.ensures, ← c.inside.ensures) at (inner-goes c.args.from c.args.to ps l.i l.at l.p h) in (
       omega (arith, c.loop-i-test.true),
       (

@@ -1,12 +1,8 @@
 -- `stations::between_points` meets its contract: what was counted and what is left make the whole. Assumes nothing.
-use Prim.Native.Nat.{◌+◌, ◌≤◌, ◌<◌, ◌-◌}
-use mathlib.Core.Path.{◌≡◌, sym, ap}
-use mathlib.Core.Logic.{⊎_elim}
-use native.Mathlib.Omega.{arith}
-use borrow.Author.Rules.{rules}
+use Prim.Native.Nat.{◌+◌, ◌≤◌, ◌<◌}
+use mathlib.Core.Path.{◌≡◌}
 use lib.ListN.{length, drop}
-use Rattle.polyline.specs.Polyline.{points, between, inner, optionally}
-use Rattle.polyline.proofs.Lines.{between_none, between-begins, inner-goes, inner-ends, counts-on, optionally-few}
+use Rattle.polyline.specs.Polyline.{points, between, inner}
 use Rattle.stations.proofs.between_points.Given as goal
 
 abbrev pub invariant-loop-i : goal.invariant-loop-i

@@ -4,7 +4,6 @@ use Prim.Native.Nat.{◌+◌, ◌*◌, ◌-◌, ◌≤◌, ◌<◌}
 use mathlib.Core.Path.{refl, sym, ap, ◌∙◌}
 use mathlib.Core.List.{List, ◌++◌}
 use native.Mathlib.Omega.{arith}
-use borrow.Author.Rules.{rules}
 use lib.ListN.{length}
 use Rattle.polyline.specs.Polyline.{points, optional, point_at, share, line_length, middle, centerline}
 use Rattle.polyline.proofs.Points.{over_none}
@@ -58,18 +57,6 @@ loop-i-init c =
     let e = c.centerline_points-n.ensures ∙ length-centerline ps qs some.0 some.1 in
     (omega arith, rw (← centerline-begins ps qs w some.0 some.1 e) (begins c.args.out.now 0 (centerline ps qs)))
 
-pub overflow_sub-n : goal.overflow_sub-n
-overflow_sub-n c = omega (arith, c.loop-i-test.true)
-
-pub share-requires : goal.share-requires
-share-requires c = omega (arith, c.loop-i-test.true, c.centerline_points-n.ensures, c.requires.0)
-
-pub overflow_sub-n-in-loop-i : goal.overflow_sub-n-in-loop-i
-overflow_sub-n-in-loop-i c = omega (arith, c.loop-i-test.true)
-
-pub share-requires-in-loop-i : goal.share-requires-in-loop-i
-share-requires-in-loop-i c = omega (arith, c.loop-i-test.true, c.centerline_points-n.ensures, c.requires.0)
-
 pub put_optional-requires : goal.put_optional-requires
 put_optional-requires c =
     rw (c.middle.ensures, c.point_at.ensures, c.point_at-in-loop-i.ensures, c.share.ensures, c.share-in-loop-i.ensures, c.length-l.ensures, c.length-r.ensures)
@@ -82,9 +69,6 @@ loop-i-preserved c =
       rw (c.put_optional.ensures.1, c.middle.ensures, c.point_at.ensures, c.point_at-in-loop-i.ensures, c.share.ensures, c.share-in-loop-i.ensures, c.length-l.ensures, c.length-r.ensures)
           (goes_on _ _ _ _ (centerline (left-of c.before.before.before.before.before.before.before.before.before.before) (right_of c.before.before.before.before.before.before.before.before.before.before)) (piece c.before.before.before.before.before.before.before.before.before.before) (rest c.before.before.before.before.before.before.before.before.before.before) (room c.before.before.before.before.before.before.before.before.before.before) (next c.before.before.before.before.before.before.before.before.before.before) (c.loop-i.i + 1) (ap (λ k. c.loop-i.i + k) one)),
     )
-
-pub shape_of-out : goal.shape_of-out
-shape_of-out c = c.loop-i.invariant.1.same
 
 pub returns : goal.returns
 returns c =

@@ -1,5 +1,4 @@
 -- `stations::centerline_points` meets its contract. Assumes nothing.
-use borrow.Author.Rules.{rules}
 use mathlib.Core.Path.{sym, ap}
 use mathlib.Core.Logic.{inl, inr}
 use native.Mathlib.Omega.{arith}
@@ -15,4 +14,4 @@ pub returns-then-b-eq0 : goal.returns-then-b-eq0
 returns-then-b-eq0 c = sym (ap length (centerline-none (points c.args.left.now) (points c.args.right.now) (inr (omega arith))))
 
 pub returns : goal.returns
-returns c = rw (c.at_least_two.ensures, c.larger.ensures, c.count-a.ensures, c.count-b.ensures) (sym (length-centerline (points c.args.left.now) (points c.args.right.now) (omega arith) (omega arith)))
+returns c = rw (c.max-2.ensures, c.max.ensures, c.count-a.ensures, c.count-b.ensures) (sym (length-centerline (points c.args.left.now) (points c.args.right.now) (omega arith) (omega arith)))

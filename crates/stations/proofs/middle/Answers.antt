@@ -1,6 +1,5 @@
 -- `stations::middle` meets its contract. Assumes nothing.
 use mathlib.Core.Path.{◌∙◌}
-use borrow.Author.Rules.{rules}
 use Rattle.polyline.specs.Polyline.{middle}
 use Rattle.stations.proofs.middle.Goals as goal
 

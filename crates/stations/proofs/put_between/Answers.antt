@@ -2,12 +2,11 @@
 use mathlib.Core.Path.{refl, sym}
 use native.Mathlib.Omega.{arith}
 use native.Mathlib.Nat.{add-zero}
-use borrow.Author.Rules.{rules}
 use lib.ListN.{length, drop}
 use Rattle.polyline.specs.Polyline.{points, between, inner, inside, optionally}
 use Rattle.polyline.proofs.Points.{over_none}
 use Rattle.polyline.proofs.Lines.{between_none, between-begins, inner-goes, inner-ends, Left, begins, fits_more, goes_on, ends}
-use Prim.Native.Nat.{◌+◌, ◌≤◌, ◌<◌, ◌-◌}
+use Prim.Native.Nat.{◌+◌, ◌≤◌, ◌<◌}
 use Rattle.geometry.specs.Float.{◌+ᶠ◌}
 use mathlib.Core.List.{List, ◌++◌}
 use lib.Ieee.{Float}
@@ -47,16 +46,10 @@ next c =
 pub returns-then-n-eq0 : goal.returns-then-n-eq0
 returns-then-n-eq0 c = rw (between_none c.args.from c.args.to (points c.args.line.now) (omega arith)) (refl, sym (over_none c.args.out.now c.args.k))
 
-pub point-p-requires : goal.point-p-requires
-point-p-requires c = omega arith
-
 pub loop-i-init : goal.loop-i-init
 loop-i-init c =
     let ps = points c.args.line.now in
     (omega arith, rw (c.point-p.ensures, ← between-begins c.args.from c.args.to ps (omega arith), add-zero) (begins c.args.out.now c.args.k (between c.args.from c.args.to ps)))
-
-pub point-q-requires : goal.point-q-requires
-point-q-requires c = omega (arith, c.count-n.ensures, c.loop-i-test.true)
 
 pub overflow_add-k : goal.overflow_add-k
 overflow_add-k c =
@@ -79,9 +72,6 @@ loop-i-preserved c =
       rw (e.1, c.distance-at.ensures, c.point-q.ensures)
           (goes_on _ _ _ _ (whole c.before.before.before.before.before.before.before.before) (piece c.before.before.before.before.before.before.before.before) (rest c.before.before.before.before.before.before.before.before) c.requires (next c.before.before.before.before.before.before.before.before) (c.args.k + (c.loop-i.found + c.put_if-found.result)) (omega (arith, e.0))),
     )
-
-pub shape_of-out : goal.shape_of-out
-shape_of-out c = c.loop-i.invariant.1.same
 
 pub returns : goal.returns
 returns c =

@@ -1,5 +1,4 @@
 -- `stations::put_optional` meets its contract. Assumes nothing.
-use borrow.Author.Rules.{rules}
 use mathlib.Core.Path.{refl, sym}
 use native.Mathlib.Omega.{arith}
 use Rattle.polyline.proofs.Points.{over_none}

@@ -3,7 +3,6 @@ use Prim.Native.Nat.{ℕ, ◌+◌, ◌*◌, ◌-◌, ◌≤◌, ◌<◌}
 use mathlib.Core.Path.{refl, sym, ap, ◌∙◌}
 use mathlib.Core.List.{List, ◌++◌}
 use native.Mathlib.Omega.{arith}
-use borrow.Author.Rules.{rules}
 use lib.ListN.{length}
 use Rattle.polyline.specs.Polyline.{points, optional, point_at, share, line_length, resample_from, resample_count}
 use Rattle.polyline.proofs.Points.{over_none}
@@ -22,7 +21,7 @@ abbrev line_of : AtInLoopI → List Point3
 line_of c = points c.args.line.now
 
 abbrev parts : AtInLoopI → ℕ
-parts c = c.at_least_two-wanted.result - 1
+parts c = c.max-wanted.result - 1
 
 abbrev whole : AtInLoopI → List Point3
 whole c = resample_count (line_of c) c.args.n
@@ -31,10 +30,10 @@ abbrev piece : AtInLoopI → List Point3
 piece c = optional (point_at (line_of c) (share (line_length (line_of c)) c.loop-i.i (parts c)))
 
 abbrev rest : AtInLoopI → List Point3
-rest c = resample_from (line_of c) (parts c) (c.loop-i.i + 1) (c.at_least_two-wanted.result - (c.loop-i.i + 1))
+rest c = resample_from (line_of c) (parts c) (c.loop-i.i + 1) (c.max-wanted.result - (c.loop-i.i + 1))
 
 next : (c : AtInLoopI) → Left c.args.out.now c.loop-i.out 0 c.loop-i.i (whole c) (piece c ++ rest c)
-next c = rw (resample_goes (line_of c) (parts c) c.loop-i.i c.at_least_two-wanted.result c.loop-i-test.true) at c.loop-i.invariant.1
+next c = rw (resample_goes (line_of c) (parts c) c.loop-i.i c.max-wanted.result c.loop-i-test.true) at c.loop-i.invariant.1
 
 room : (c : AtInLoopI) → (0 + length (whole c)) * 3 ≤ length c.args.out.now
 room c = omega (arith, c.requires.1)
@@ -43,13 +42,7 @@ pub returns-then-count-eq0 : goal.returns-then-count-eq0
 returns-then-count-eq0 c = rw (resample_empty (points c.args.line.now) c.args.n (omega arith)) (refl, sym (over_none c.args.out.now 0))
 
 pub loop-i-init : goal.loop-i-init
-loop-i-init c = (omega arith, rw (← resample_begins (points c.args.line.now) c.args.n c.at_least_two-wanted.result c.at_least_two-wanted.ensures) (begins c.args.out.now 0 (resample_count (points c.args.line.now) c.args.n)))
-
-pub overflow_sub-wanted : goal.overflow_sub-wanted
-overflow_sub-wanted c = omega (arith, c.loop-i-test.true)
-
-pub share-requires : goal.share-requires
-share-requires c = omega (arith, c.loop-i-test.true, c.at_least_two-wanted.ensures, c.requires.0)
+loop-i-init c = (omega arith, rw (← resample_begins (points c.args.line.now) c.args.n c.max-wanted.result c.max-wanted.ensures) (begins c.args.out.now 0 (resample_count (points c.args.line.now) c.args.n)))
 
 pub put_optional-requires : goal.put_optional-requires
 put_optional-requires c = rw (c.point_at.ensures, c.share.ensures, c.length-len.ensures) (fits_more _ _ _ _ (whole c.before.before.before.before) (piece c.before.before.before.before) (rest c.before.before.before.before) (room c.before.before.before.before) (next c.before.before.before.before))
@@ -62,15 +55,12 @@ loop-i-preserved c =
           (goes_on _ _ _ _ (whole c.before.before.before.before.before.before.before) (piece c.before.before.before.before.before.before.before) (rest c.before.before.before.before.before.before.before) (room c.before.before.before.before.before.before.before) (next c.before.before.before.before.before.before.before) (c.loop-i.i + 1) (ap (λ k. c.loop-i.i + k) (point-at-one _ _ some))),
     )
 
-pub shape_of-out : goal.shape_of-out
-shape_of-out c = c.loop-i.invariant.1.same
-
 pub returns : goal.returns
 returns c =
     let ps = points c.args.line.now in
     let l = c.loop-i in
-    let w = c.at_least_two-wanted.result in
+    let w = c.max-wanted.result in
     let some : 0 < length ps = omega (arith, c.count.ensures, c.if-count-eq0.false) in (
-      c.at_least_two-wanted.ensures ∙ sym (length_resample_count ps c.args.n some),
+      c.max-wanted.ensures ∙ sym (length_resample_count ps c.args.n some),
       ends c.args.out.now l.out 0 l.i (resample_count ps c.args.n) (rw (resample_ends ps (w - 1) l.i w c.loop-i-test.false) at l.invariant.1),
     )

@@ -1,5 +1,4 @@
 -- `stations::resample_points` meets its contract. Assumes nothing.
-use borrow.Author.Rules.{rules}
 use mathlib.Core.Path.{sym, ap, ◌∙◌}
 use native.Mathlib.Omega.{arith}
 use lib.ListN.{length}
@@ -11,4 +10,4 @@ pub returns-then-count-eq0 : goal.returns-then-count-eq0
 returns-then-count-eq0 c = sym (ap length (resample_empty (points c.args.line.now) c.args.n (omega arith)))
 
 pub returns : goal.returns
-returns c = c.at_least_two.ensures ∙ sym (length_resample_count (points c.args.line.now) c.args.n (omega arith))
+returns c = c.max.ensures ∙ sym (length_resample_count (points c.args.line.now) c.args.n (omega arith))

@@ -1,5 +1,4 @@
 -- `stations::slice` meets its contract: the length and the two ends are what `put_slice` asks. Assumes nothing.
-use borrow.Author.Rules.{rules}
 use Rattle.stations.proofs.slice.Goals as goal
 
 pub put_slice-requires : goal.put_slice-requires

@@ -1,5 +1,4 @@
 -- `stations::slice_points` meets its contract. Assumes nothing.
-use borrow.Author.Rules.{rules}
 use native.Mathlib.Omega.{arith}
 use lib.ListN.{length-append}
 use Rattle.polyline.specs.Polyline.{points}

@@ -1,5 +1,4 @@
 -- `stations::split_at` meets its contract: the second piece is written in the part behind the first. Assumes nothing.
-use borrow.Author.Rules.{rules}
 use Prim.Native.Nat.{◌*◌}
 use native.Mathlib.Omega.{arith}
 use lib.ListN.{length}

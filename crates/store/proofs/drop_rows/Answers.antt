@@ -1,18 +1,13 @@
 -- `store::drop_rows` meets its contract. Assumes nothing.
 use lib.ListN.{length-set}
 use mathlib.Core.Path.{ap}
-use Prim.Native.Nat.{◌-◌}
 use native.Mathlib.Omega.{arith}
 use Rattle.tables.specs.View.{word}
 use mathlib.Core.Bool.{not}
-use borrow.Author.Rules.{rules}
 use Rattle.lists.specs.Select.{has}
-use Rattle.store.proofs.Turns.{at_least, Moved, moved_none, moved-few, moved_length, next-inside, moved-turn, moved_all}
+use Rattle.store.proofs.Turns.{moved_none, moved-few, moved_length, next-inside, moved-turn, moved_all}
 use Rattle.lists.proofs.Rows.{row_within}
 use Rattle.store.proofs.drop_rows.Goals as goal
-
-pub bounds-t-0 : goal.bounds-t-0
-bounds-t-0 c = omega (arith, c.requires.1)
 
 pub loop-i-init : goal.loop-i-init
 loop-i-init c = moved_none c.args.s (λ i. not (has i c.args.gone.now)) c.args.t.now c.requires.1

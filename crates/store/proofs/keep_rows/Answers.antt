@@ -1,17 +1,13 @@
 -- `store::keep_rows` meets its contract. Assumes nothing.
 use lib.ListN.{length-set}
-use Prim.Native.Nat.{◌+◌, ◌-◌, ◌*◌}
+use Prim.Native.Nat.{◌+◌, ◌*◌}
 use native.Mathlib.Omega.{arith}
 use Rattle.tables.specs.View.{word}
 use lib.Dec.{eqb}
-use borrow.Author.Rules.{rules}
 use Rattle.store.specs.Rows.{stays}
-use Rattle.store.proofs.Turns.{neither, at_least, Moved, moved_none, moved-few, moved_length, next-inside, moved-turn, moved_all}
+use Rattle.store.proofs.Turns.{neither, moved_none, moved-few, moved_length, next-inside, moved-turn, moved_all}
 use Rattle.lists.proofs.Rows.{row_within}
 use Rattle.store.proofs.keep_rows.Goals as goal
-
-pub bounds-t-0 : goal.bounds-t-0
-bounds-t-0 c = omega (arith, c.requires.1)
 
 pub loop-i-init : goal.loop-i-init
 loop-i-init c = moved_none c.args.s (stays c.args.a c.args.b) c.args.t.now c.requires.1

@@ -1,3 +1,5 @@
+use Rattle.std.specs.Prelude.{◌≤◌, length}
+use Rattle.std.proofs.Math.Nat.{min-le_right}
 use Rattle.stream.proofs.Tables.{part-told, part-over, part-counts}
 use Rattle.stream.proofs.read_table.Goals as goal
 
@@ -8,11 +10,12 @@ returns g c =
     let from = c.args.from in
     let t = c.args.table.now in
     let n = c.number-n in
-    let l = c.least-size in
+    let l = c.min-size in
+    let h : l.result ≤ length t = rw l.ensures (min-le_right n.result.value (length t)) in
     let v = c.fill-next in (
-      part-told f s from t v.new.table n.result l.result v.result n.ensures l.ensures.0 l.ensures.1 v.ensures.0 v.ensures.1,
+      part-told f s from t v.new.table n.result l.result v.result n.ensures l.ensures h v.ensures.0 v.ensures.1,
       (
-        part-over f s from t v.new.table n.result l.result v.result n.ensures l.ensures.0 l.ensures.1 v.ensures.0 v.ensures.1,
-        part-counts f s from t v.new.table n.result l.result v.result n.ensures l.ensures.0 l.ensures.1 v.ensures.0 v.ensures.1,
+        part-over f s from t v.new.table n.result l.result v.result n.ensures l.ensures h v.ensures.0 v.ensures.1,
+        part-counts f s from t v.new.table n.result l.result v.result n.ensures l.ensures h v.ensures.0 v.ensures.1,
       ),
     )

@@ -1,7 +1,6 @@
 -- `uses::row_uses` meets its contract: the words of row i. Assumes nothing.
 use mathlib.Core.Path.{◌∙◌}
 use native.Mathlib.Omega.{arith}
-use borrow.Author.Rules.{rules}
 use Rattle.lookup.proofs.Laws.{sorted-row, uses-read}
 use Rattle.uses.proofs.row_uses.Goals as goal
 

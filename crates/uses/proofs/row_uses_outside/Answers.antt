@@ -1,5 +1,4 @@
 -- `uses::row_uses_outside` meets its contract: the words of row i. Assumes nothing.
-use borrow.Author.Rules.{rules}
 use mathlib.Core.Path.{◌∙◌}
 use native.Mathlib.Omega.{arith}
 use Rattle.lookup.proofs.Laws.{sorted-row, outside-read}

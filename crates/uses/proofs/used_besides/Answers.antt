@@ -1,5 +1,4 @@
 -- `uses::used_besides` meets its contract: of two lanes that are one. Assumes nothing.
-use borrow.Author.Rules.{rules}
 use mathlib.Core.Path.{◌∙◌}
 use Rattle.lookup.proofs.Laws.{outside-one}
 use Rattle.uses.proofs.used_besides.Goals as goal

@@ -1,13 +1,10 @@
 -- `uses::users` meets its contract. The invariant: the count is that of the lanes before i. Assumes nothing.
-use mathlib.Core.Path.{◌≡◌, refl, ◌∙◌}
-use mathlib.Core.Logic.{⊎_elim}
-use Prim.Native.Nat.{◌≤◌, ◌-◌}
-use native.Mathlib.Omega.{arith}
+use mathlib.Core.Path.{◌≡◌}
+use Prim.Native.Nat.{◌≤◌}
 use lib.ListN.{length, take}
 use Rattle.lists.specs.Select.{keep}
 use Rattle.tables.specs.View.{rows}
 use Rattle.lookup.specs.Lookup.{row_uses}
-use Rattle.lookup.proofs.Laws.{sorted-room, sorted-few, user_more, user_none, users-all}
 use Rattle.uses.proofs.users.Given as goal
 
 abbrev pub invariant-loop-i : goal.invariant-loop-i

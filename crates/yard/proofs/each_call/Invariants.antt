@@ -1,10 +1,9 @@
-use Rattle.std.proofs.Common.{◌≡◌, ◌-◌, ◌≤◌, length, refl, ◌∙◌, arith, rules}
+-- `yard::each_call` ends: the measure is how many calls are left. Assumes nothing.
+use Rattle.std.proofs.Common.{◌-◌, ◌≤◌}
 use Rattle.yard.proofs.each_call.Given as goal
 
 abbrev pub invariant-loop-i : goal.invariant-loop-i
-invariant-loop-i g l =
-    (l.i ≤ l.n) × ((length l.lanes ≡ length l.initial.lanes) × ((length l.boundaries ≡ length l.initial.boundaries) × ((length l.roads ≡ length l.initial.roads) × ((length l.junctions ≡ length l.initial.junctions) × ((length l.rules ≡ length l.initial.rules) × ((length l.stop_lines ≡ length l.initial.stop_lines) × ((length l.crosswalks ≡ length l.initial.crosswalks) × ((length l.coordinates ≡ length l.initial.coordinates)))))))))
+invariant-loop-i g l = l.i ≤ l.n
 
 abbrev pub decreases-loop-i : goal.decreases-loop-i
-decreases-loop-i g l =
-    l.n - l.i
+decreases-loop-i g l = l.n - l.i

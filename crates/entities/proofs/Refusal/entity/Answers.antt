@@ -1,4 +1,3 @@
-use borrow.Author.Rules.{rules}
 use Rattle.entities.proofs.Refusal.entity.Goals as goal
 
 -- src/lib.rt:284:5

@@ -1,6 +1,5 @@
 -- `geometry::Point2::distance` meets its contract. Assumes nothing.
 use Rattle.geometry.specs.Point.{distance2}
-use borrow.Author.Rules.{rules}
 use Rattle.geometry.proofs.Point2.distance.Goals as goal
 
 pub returns : goal.returns

@@ -2,7 +2,6 @@
 use lib.Ieee.Scale.{finite}
 use Rattle.geometry.proofs.Both.{first, second}
 use Rattle.geometry.specs.Point.{finite2}
-use borrow.Author.Rules.{rules}
 use Rattle.geometry.proofs.Point2.is_finite.Goals as goal
 
 pub returns-then-is_finite : goal.returns-then-is_finite

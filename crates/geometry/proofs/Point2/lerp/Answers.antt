@@ -1,6 +1,5 @@
 -- `geometry::Point2::lerp` meets its contract. Assumes nothing.
 use Rattle.geometry.specs.Point.{lerp2}
-use borrow.Author.Rules.{rules}
 use Rattle.geometry.proofs.Point2.lerp.Goals as goal
 
 pub returns : goal.returns

@@ -1,6 +1,5 @@
 -- `geometry::Point2::norm` meets its contract. Assumes nothing.
 use Rattle.geometry.specs.Point.{norm2}
-use borrow.Author.Rules.{rules}
 use Rattle.geometry.proofs.Point2.norm.Goals as goal
 
 pub returns : goal.returns

@@ -1,7 +1,6 @@
 -- `geometry::Point2::normalized` meets its contract. Assumes nothing.
 use Rattle.geometry.specs.Float.{epsilon}
 use Rattle.geometry.specs.Point.{normalized}
-use borrow.Author.Rules.{rules}
 use Rattle.geometry.proofs.Point2.normalized.Goals as goal
 
 pub returns-then-n : goal.returns-then-n

@@ -1,7 +1,6 @@
 -- `geometry::Point3::begin_distance` meets its contract. Assumes nothing.
 use mathlib.Core.Path.{◌≡◌, subst}
 use lib.Ieee.{Float}
-use borrow.Author.Rules.{rules}
 use Rattle.root.specs.Root.{root}
 use Rattle.root.specs.Begun.{Unfinished}
 use Rattle.geometry.specs.Point.{distance3, norm3, dot3}

@@ -1,6 +1,5 @@
 -- `geometry::Point3::distance` meets its contract. Assumes nothing.
 use Rattle.geometry.specs.Point.{distance3}
-use borrow.Author.Rules.{rules}
 use Rattle.geometry.proofs.Point3.distance.Goals as goal
 
 pub returns : goal.returns

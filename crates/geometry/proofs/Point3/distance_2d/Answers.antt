@@ -1,6 +1,5 @@
 -- `geometry::Point3::distance_2d` meets its contract. Assumes nothing.
 use Rattle.geometry.specs.Point.{distance_2d}
-use borrow.Author.Rules.{rules}
 use Rattle.geometry.proofs.Point3.distance_2d.Goals as goal
 
 pub returns : goal.returns

@@ -3,7 +3,6 @@ use lib.Ieee.Scale.{finite}
 use Rattle.geometry.proofs.Both.{first, second}
 use Rattle.geometry.specs.Point.{finite2, finite3}
 use mathlib.Core.Path.{◌∙◌, ap}
-use borrow.Author.Rules.{rules}
 use Rattle.geometry.proofs.Point3.is_finite.Goals as goal
 
 pub returns-then-is_finite : goal.returns-then-is_finite

@@ -1,6 +1,5 @@
 -- `geometry::Point3::lerp` meets its contract. Assumes nothing.
 use Rattle.geometry.specs.Point.{lerp3}
-use borrow.Author.Rules.{rules}
 use Rattle.geometry.proofs.Point3.lerp.Goals as goal
 
 pub returns : goal.returns

@@ -1,6 +1,5 @@
 -- `geometry::Point3::norm` meets its contract. Assumes nothing.
 use Rattle.geometry.specs.Point.{norm3}
-use borrow.Author.Rules.{rules}
 use Rattle.geometry.proofs.Point3.norm.Goals as goal
 
 pub returns : goal.returns

@@ -1,6 +1,5 @@
 -- `map::sound::coordinate` meets its contract. The two bounds are the constants of the definition, by computation. Assumes nothing.
 use lib.Ieee.{of_bits, neg}
-use borrow.Author.Rules.{rules}
 use Rattle.geometry.specs.Float.{coordinate, reach}
 use Rattle.row_tests.proofs.sound.coordinate.Goals as goal
 

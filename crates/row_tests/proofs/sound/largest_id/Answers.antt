@@ -1,6 +1,5 @@
 -- `map::sound::largest_id` meets its contract. By the two special counters. Assumes nothing.
 use native.Mathlib.Omega.{arith}
-use borrow.Author.Rules.{rules}
 use borrow.Author.Tests.{eq-eqb, ne_eqb}
 use Rattle.rules.specs.Sound.{last_counter}
 use Rattle.row_tests.proofs.sound.largest_id.Goals as goal

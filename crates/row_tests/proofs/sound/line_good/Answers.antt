@@ -4,7 +4,6 @@ use mathlib.Core.Bool.{and-false}
 use Prim.Native.Nat.{◌+◌, ◌-◌, ◌*◌, ◌/◌, min}
 use native.Mathlib.Omega.{arith}
 use lib.ListN.{length}
-use borrow.Author.Rules.{rules}
 use borrow.Author.Tests.{le-leb, lt-leb, ne_eqb}
 use Rattle.lists.specs.Every.{all}
 use Rattle.lists.specs.Rows.{reads}

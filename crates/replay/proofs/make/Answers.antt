@@ -1,9 +1,0 @@
-use Rattle.std.proofs.Common.{◌<◌, ◌^◌, arith}
-use Rattle.step.proofs.Counter.{counter-word}
-use Rattle.replay.proofs.make.Goals as goal
-
--- What a call leaves of the counter is a word.
-pub tell-told-requires : goal.tell-told-requires
-tell-told-requires g c =
-    let h : c.args.counter < 2 ^ 64 = omega arith in
-    counter-word c.preset.result c.command_of-command.result _ _ c.apply-answer.result c.apply-answer.ensures h
