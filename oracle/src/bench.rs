@@ -158,7 +158,23 @@ fn time_job(name: &str, m: &Map, calls: &[Call]) {
     );
 }
 
-/// Jobs of ten edits: one that closes a gate, and ten of a kind.
+/// Sixty lanes of `grid(100, 10, 8)` removed one after the other.
+fn sixty_removals() -> Vec<Call> {
+    (0..60).map(|i| Call::RemoveLane { lane: 301 + 11 * i }).collect()
+}
+
+/// One call of `voldrekka_job` with sixty removals, for a counter of instructions.
+pub fn once_job() -> bool {
+    let m = grid(100, 10, 8);
+    let rows: Vec<u64> = sixty_removals().iter().flat_map(|c| c.row()).collect();
+    let state = State::new(crate::cases::plain(&m, 40, 400), m.peek_next_id());
+    let Some(mut editor) = crate::ffi::jobs() else { return false };
+    let mut area = state.tables.clone();
+    let mut lent = crate::against::lend(&state, &AMPLE);
+    editor.call(&rows, &mut lent, &mut area).number == 0
+}
+
+/// Jobs of ten edits, one that closes a gate, and ten of a kind; and one of sixty.
 pub fn jobs() -> bool {
     let plain = grid(100, 10, 8);
     let mut furnished = plain.clone();
@@ -191,6 +207,7 @@ pub fn jobs() -> bool {
         time_job(&format!("ten splits{with}"), map, &ten(&split));
         time_job(&format!("ten merges{with}"), map, &ten(&|l| Call::MergeLanes { first: l, second: l + 10 }));
     }
+    time_job("sixty removals", &plain, &sixty_removals());
     time_job("no edit", &plain, &[]);
     true
 }

@@ -44,6 +44,7 @@ oracle bench                       times of the Rust, with and without a test of
 oracle bench jobs                  times of jobs of ten edits
 oracle bench sound                 times of the test of soundness alone
 oracle bench once NAME             one call of the editor's test on the map of that name
+oracle bench once job              one job of sixty removals
 oracle replay FILE                 read a stored stream of lines and make its calls again
 oracle rows SEED COUNT DIR         COUNT calls as theorems about the definitions of the crate rules";
 
@@ -178,6 +179,7 @@ fn main() {
         ["bench"] => bench::run(),
         ["bench", "jobs"] => bench::jobs(),
         ["bench", "sound"] => bench::sound(),
+        ["bench", "once", "job"] => bench::once_job(),
         ["bench", "once", name] => bench::once(name),
         ["yard"] => yard::run(),
         ["calls", seed, count, names] => {

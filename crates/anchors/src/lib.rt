@@ -25,7 +25,7 @@ fn mid(line: &[f64]) -> Option<Point2>
     Some(p.xy())
 }
 
-// Half way between two points, if both are there.
+// Half way between two points, if both are there. `stations::middle` says it of points with a height; a type parameter for both would be longer than the two.
 fn half_way(p: Option<Point2>, q: Option<Point2>) -> Option<Point2>
     ensures { result ≡ half_way p q }
 {

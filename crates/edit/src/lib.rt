@@ -3,32 +3,33 @@
 #![tactic(auto)]
 
 ghost use Rattle.std.specs.Prelude.{◌≡◌, true};
-ghost use Rattle.step.specs.Step.{given};
+ghost use Rattle.step.specs.Step.{relink_given};
 ghost use Rattle.rules.specs.Ops as O;
 ghost use Rattle.tables.specs.Formed.{sound_tables};
 ghost use Rattle.step.specs.Step as S;
-ghost use Rattle.lent.specs.Lent.{map_tables, SameSlices, SameLists};
+ghost use Rattle.lent.specs.Lent.{relink_tables, SameRelinkMap, SameRelinkLists};
 
 use entities::{Neighbor, Refusal, Side, Tolerance};
+use lent::{RelinkLists, RelinkMap};
 use report::Answer;
 
 // Map::connect: a link from one lane to another.
 pub fn connect(
     counter: u64,
     tolerance: Tolerance,
-    map: &mut lent::Map,
+    map: &mut RelinkMap,
     from: u64,
     to: u64,
-    lists: &mut lent::Lists,
+    lists: &mut RelinkLists,
 ) -> Answer
-    requires { sound_tables counter (map_tables map.old) ≡ true }
-    ensures made { S.ended (given counter map.new lists.new) result ≡ S.step tolerance (O.ConnectLanes from to) (given counter map.old lists.old) }
-    ensures same { SameSlices map.old map.new }
-    ensures same_lists { SameLists lists.old lists.new }
+    requires { sound_tables counter (relink_tables map.old) ≡ true }
+    ensures made { S.ended (relink_given counter map.new lists.new) result ≡ S.step tolerance (O.ConnectLanes from to) (relink_given counter map.old lists.old) }
+    ensures same { SameRelinkMap map.old map.new }
+    ensures same_lists { SameRelinkLists lists.old lists.new }
 {
     let lanes = &mut *map.lanes;
-    let boundaries = &mut *map.boundaries;
-    let coordinates = &mut *map.coordinates;
+    let boundaries = map.boundaries;
+    let coordinates = map.coordinates;
     let modified = &mut *lists.modified;
     let warnings = &mut *lists.warnings;
     let found = lookup::lane(lanes, from);
@@ -51,15 +52,15 @@ pub fn connect(
 pub fn disconnect(
     counter: u64,
     tolerance: Tolerance,
-    map: &mut lent::Map,
+    map: &mut RelinkMap,
     from: u64,
     to: u64,
-    lists: &mut lent::Lists,
+    lists: &mut RelinkLists,
 ) -> Answer
-    requires { sound_tables counter (map_tables map.old) ≡ true }
-    ensures made { S.ended (given counter map.new lists.new) result ≡ S.step tolerance (O.DisconnectLanes from to) (given counter map.old lists.old) }
-    ensures same { SameSlices map.old map.new }
-    ensures same_lists { SameLists lists.old lists.new }
+    requires { sound_tables counter (relink_tables map.old) ≡ true }
+    ensures made { S.ended (relink_given counter map.new lists.new) result ≡ S.step tolerance (O.DisconnectLanes from to) (relink_given counter map.old lists.old) }
+    ensures same { SameRelinkMap map.old map.new }
+    ensures same_lists { SameRelinkLists lists.old lists.new }
 {
     let lanes = &mut *map.lanes;
     let modified = &mut *lists.modified;
@@ -80,16 +81,16 @@ pub fn disconnect(
 pub fn set_neighbor(
     counter: u64,
     tolerance: Tolerance,
-    map: &mut lent::Map,
+    map: &mut RelinkMap,
     lane: u64,
     side: Side,
     neighbor: Option<Neighbor>,
-    lists: &mut lent::Lists,
+    lists: &mut RelinkLists,
 ) -> Answer
-    requires { sound_tables counter (map_tables map.old) ≡ true }
-    ensures made { S.ended (given counter map.new lists.new) result ≡ S.step tolerance (O.SetNeighbor lane side neighbor) (given counter map.old lists.old) }
-    ensures same { SameSlices map.old map.new }
-    ensures same_lists { SameLists lists.old lists.new }
+    requires { sound_tables counter (relink_tables map.old) ≡ true }
+    ensures made { S.ended (relink_given counter map.new lists.new) result ≡ S.step tolerance (O.SetNeighbor lane side neighbor) (relink_given counter map.old lists.old) }
+    ensures same { SameRelinkMap map.old map.new }
+    ensures same_lists { SameRelinkLists lists.old lists.new }
 {
     let lanes = &mut *map.lanes;
     let modified = &mut *lists.modified;

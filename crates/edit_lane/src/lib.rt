@@ -2,28 +2,28 @@
 #![tactic(auto)]
 
 ghost use Rattle.std.specs.Prelude.{◌≡◌, true, ◌+◌, ◌*◌};
-ghost use Rattle.step.specs.Step.{given};
+ghost use Rattle.step.specs.Step.{removal_given};
 ghost use Rattle.rules.specs.Ops as O;
 ghost use Rattle.tables.specs.View.{word};
 ghost use Rattle.tables.specs.Formed.{sound_tables};
 ghost use Rattle.row_tests.specs.Returned.{lane_at};
 ghost use Rattle.step.specs.Step as S;
-ghost use Rattle.lent.specs.Lent.{map_tables, SameSlices, SameLists};
+ghost use Rattle.lent.specs.Lent.{removal_tables, SameRemovalMap, SameRemovalLists};
 ghost use Rattle.mentions.specs.declared.Rows.TheVariants.{Orphans};
 ghost use Rattle.unused.specs.Parts as P;
 
 use entities::{Refusal, Tolerance};
+use lent::{RemovalLists, RemovalMap};
 use mentions::Rows;
 use report::{Answer, Change, Counts};
 use tables::LANE;
 
 // Removes the lane in row i, where the lists have room.
-fn remove(map: &mut lent::Map, i: usize, lists: &mut lent::Lists) -> Answer
+fn remove(map: &mut RemovalMap, i: usize, lists: &mut RemovalLists) -> Answer
     requires { P.Removable map.old.lanes.now i map.old.boundaries.now map.old.roads.now map.old.junctions.now map.old.rules.now }
     ensures made { P.removed (P.tables map.new.lanes.now map.new.boundaries.now map.new.roads.now map.new.junctions.now map.new.rules.now) lists.new.modified.now lists.new.deleted.now lists.new.warnings.now result ≡ P.without_lane (word 0 (lane_at map.old.lanes.now i)) (P.gone_with map.old.lanes.now i map.old.boundaries.now) (P.tables map.old.lanes.now map.old.boundaries.now map.old.roads.now map.old.junctions.now map.old.rules.now) lists.old.modified.now lists.old.deleted.now lists.old.warnings.now }
-    ensures rest { (map.new.stop_lines.now ≡ map.old.stop_lines.now) × (map.new.crosswalks.now ≡ map.old.crosswalks.now) × (map.new.coordinates.now ≡ map.old.coordinates.now) × (lists.new.created.now ≡ lists.old.created.now) }
-    ensures same { SameSlices map.old map.new }
-    ensures same_lists { SameLists lists.old lists.new }
+    ensures same { SameRemovalMap map.old map.new }
+    ensures same_lists { SameRemovalLists lists.old lists.new }
 {
     let lanes = &mut *map.lanes;
     let boundaries = &mut *map.boundaries;
@@ -60,14 +60,14 @@ fn remove(map: &mut lent::Map, i: usize, lists: &mut lent::Lists) -> Answer
 pub fn remove_lane(
     counter: u64,
     tolerance: Tolerance,
-    map: &mut lent::Map,
+    map: &mut RemovalMap,
     lane: u64,
-    lists: &mut lent::Lists,
+    lists: &mut RemovalLists,
 ) -> Answer
-    requires { sound_tables counter (map_tables map.old) ≡ true }
-    ensures made { S.ended (given counter map.new lists.new) result ≡ S.step tolerance (O.RemoveLane lane) (given counter map.old lists.old) }
-    ensures same { SameSlices map.old map.new }
-    ensures same_lists { SameLists lists.old lists.new }
+    requires { sound_tables counter (removal_tables map.old) ≡ true }
+    ensures made { S.ended (removal_given counter map.new lists.new) result ≡ S.step tolerance (O.RemoveLane lane) (removal_given counter map.old lists.old) }
+    ensures same { SameRemovalMap map.old map.new }
+    ensures same_lists { SameRemovalLists lists.old lists.new }
 {
     let lanes = &mut *map.lanes;
     let found = lookup::lane(lanes, lane);

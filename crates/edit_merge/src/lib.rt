@@ -10,6 +10,7 @@ ghost use Rattle.step.specs.Step as S;
 ghost use Rattle.lent.specs.Lent.{map_tables, SameSlices, SameLists};
 
 use entities::{Refusal, Tolerance};
+use lane_lines::Drawable;
 use report::Answer;
 
 // Map::merge_lanes: the second lane, which follows the first alone and comes from it alone, becomes a part of the first. The map is sound.
@@ -41,6 +42,11 @@ pub fn merge_lanes(
         return Err(Refusal::NotMergeable(first));
     }
     let join = tolerance.join;
-    let plan = merge_decide::decide(join, lanes, i, j, boundaries, coordinates)?;
+    let drawable = Drawable {
+        lanes,
+        boundaries,
+        coordinates,
+    };
+    let plan = merge_decide::decide(join, drawable, i, j)?;
     merge_made::merge_found(counter, join, map, i, j, plan, lists)
 }

@@ -16,6 +16,7 @@ ghost use Rattle.edit_split.specs.Parts as P;
 
 use entities::{Refusal, SplitAt, Tolerance};
 use geometry::Point2;
+use lane_lines::Drawable;
 use lists::both;
 use report::Answer;
 use split_made::Drawn;
@@ -82,11 +83,14 @@ fn split_measured(
     let coordinates = &mut *map.coordinates;
     let mut anchored = [false; MAX_RULES];
     let mut past = [false; RULE_MARKS];
-    split_rules::mark_rules(
-        join,
+    let drawable = Drawable {
         lanes,
         boundaries,
         coordinates,
+    };
+    split_rules::mark_rules(
+        join,
+        drawable,
         cuts.point,
         cuts.cut,
         stations,
@@ -264,7 +268,12 @@ fn split_stationed(
     let lanes = &mut *map.lanes;
     let boundaries = &mut *map.boundaries;
     let coordinates = &mut *map.coordinates;
-    split_cross::cross_all(lanes, boundaries, coordinates, point, seen)?;
+    let drawable = Drawable {
+        lanes,
+        boundaries,
+        coordinates,
+    };
+    split_cross::cross_all(drawable, point, seen)?;
     split_planned(
         counter, tolerance, map, own, point, seen, cut, stations, lists,
     )
@@ -293,12 +302,15 @@ fn split_group(
     let mut ids = [0; MAX_LANES];
     let mut stations = [0.0; MAX_LANES];
     split_stations::choose(lanes, i, neighbors, &mut seen);
-    let k = split_stations::plan_lanes(
-        tolerance.piece,
-        own,
+    let drawable = Drawable {
         lanes,
         boundaries,
         coordinates,
+    };
+    let k = split_stations::plan_lanes(
+        tolerance.piece,
+        own,
+        drawable,
         place,
         &seen,
         &mut ids,
@@ -339,6 +351,11 @@ pub fn split_lane(
     let Some(i) = found else {
         return Err(Refusal::LaneAbsent(lane));
     };
-    let place = split_plan::place_cut(tolerance.piece, lanes, i, boundaries, coordinates, at)?;
+    let drawable = Drawable {
+        lanes,
+        boundaries,
+        coordinates,
+    };
+    let place = split_plan::place_cut(tolerance.piece, drawable, i, at)?;
     split_group(counter, tolerance, map, lane, i, place, neighbors, lists)
 }

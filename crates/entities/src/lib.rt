@@ -2,7 +2,7 @@
 // lent memory; their definitions are in specs/Records.antt.
 #![tactic(auto)]
 
-ghost use Rattle.std.specs.Prelude.{◌≡◌};
+ghost use Rattle.std.specs.Prelude.{◌≡◌, Some};
 ghost use Rattle.entities.specs.Types as T;
 
 // ---- entities.rs
@@ -297,14 +297,14 @@ impl Refusal {
         ensures { result ≡ T.refusal_entity self }
     {
         match self {
-            Refusal::LaneAbsent(l) => lane_entity(l),
+            Refusal::LaneAbsent(l) => named(EntityKind::Lane, l),
             Refusal::FractionOutside => None,
-            Refusal::PositionOutside(l) => lane_entity(l),
-            Refusal::OwnPartner(l) => lane_entity(l),
-            Refusal::NotMergeable(l) => lane_entity(l),
-            Refusal::BoundaryAbsent(b) => boundary_entity(b),
-            Refusal::NoUsableLine(l) => lane_entity(l),
-            Refusal::NotCrossing(b) => boundary_entity(b),
+            Refusal::PositionOutside(l) => named(EntityKind::Lane, l),
+            Refusal::OwnPartner(l) => named(EntityKind::Lane, l),
+            Refusal::NotMergeable(l) => named(EntityKind::Lane, l),
+            Refusal::BoundaryAbsent(b) => named(EntityKind::Boundary, b),
+            Refusal::NoUsableLine(l) => named(EntityKind::Lane, l),
+            Refusal::NotCrossing(b) => named(EntityKind::Boundary, b),
             Refusal::Unsound => None,
             Refusal::NoRoom => None,
             Refusal::NoIds => None,
@@ -312,20 +312,8 @@ impl Refusal {
     }
 }
 
-fn lane_entity(id: u64) -> Option<EntityRef>
-    ensures { result ≡ T.a_lane id }
+fn named(kind: EntityKind, id: u64) -> Option<EntityRef>
+    ensures { result ≡ Some (record { kind = kind; id = id }) }
 {
-    Some(EntityRef {
-        kind: EntityKind::Lane,
-        id,
-    })
-}
-
-fn boundary_entity(id: u64) -> Option<EntityRef>
-    ensures { result ≡ T.a_boundary id }
-{
-    Some(EntityRef {
-        kind: EntityKind::Boundary,
-        id,
-    })
+    Some(EntityRef { kind, id })
 }

@@ -2,11 +2,13 @@
 #![tactic(auto)]
 
 ghost use Rattle.std.specs.Prelude.{◌≡◌, length};
-ghost use Rattle.lent.specs.Lent.{view_rows, SameLists};
+ghost use Rattle.lent.specs.Lent.{view_rows};
+ghost use Rattle.job_net.specs.Net.{SameNet};
 ghost use Rattle.job_decided.specs.Decided as D;
 
+use job_net::NetLists;
 use jobs::{Done, JobAnswer, JobRefusal, RefusedEdit};
-use lent::{Lists, MapView};
+use lent::{ListsView, MapView};
 
 // What a job leaves of the counter, and its answer.
 #[derive(Clone, Copy)]
@@ -21,14 +23,13 @@ pub fn decided(
     map: MapView,
     old: MapView,
     marks: &[u64],
-    own: &mut Lists,
+    net: &mut NetLists,
     ran: Result<Done, RefusedEdit>,
-    lists: &Lists,
+    lists: ListsView,
 ) -> JobEnd
-    requires { D.Sorted ran (view_rows map) (view_rows old) × ((length marks.now ≡ 6784) × ((length own.old.created.now ≡ 13568) × ((length own.old.modified.now ≡ 13568) × (length own.old.deleted.now ≡ 13568)))) }
-    ensures made { D.DecidedAs counter (view_rows map.entry) (view_rows old.entry) marks.now own.old.created.now own.old.modified.now own.old.deleted.now ran lists.now.created.now lists.now.modified.now lists.now.deleted.now lists.now.warnings.now result own.new.created.now own.new.modified.now own.new.deleted.now }
-    ensures rest { own.new.warnings.now ≡ own.old.warnings.now }
-    ensures same_own { SameLists own.old own.new }
+    requires { D.Sorted ran (view_rows map) (view_rows old) × ((length marks.now ≡ 6784) × ((length net.old.created.now ≡ 13568) × ((length net.old.modified.now ≡ 13568) × (length net.old.deleted.now ≡ 13568)))) }
+    ensures made { D.DecidedAs counter (view_rows map.entry) (view_rows old.entry) marks.now net.old.created.now net.old.modified.now net.old.deleted.now ran lists.entry.created.now lists.entry.modified.now lists.entry.deleted.now lists.entry.warnings.now result net.new.created.now net.new.modified.now net.new.deleted.now }
+    ensures same { SameNet net.old net.new }
 {
     match ran {
         Err(stopped) => JobEnd {
@@ -39,7 +40,7 @@ pub fn decided(
             }),
         },
         Ok(done) => {
-            let n = job_net::net_lists(map, old, marks, own, done.warnings);
+            let n = job_net::net_lists(map, old, marks, net, done.warnings);
             if !room::lists_fit(
                 n,
                 lists.created,

@@ -1,7 +1,7 @@
 // A job that has passed its first tests: its edits made in place, the net lists, and the way back where it is refused.
 #![tactic(auto)]
 
-ghost use Rattle.std.specs.Prelude.{◌≡◌, true, ◌≤◌, length, take};
+ghost use Rattle.std.specs.Prelude.{◌≡◌, true, ◌*◌, ◌≤◌, length, take};
 ghost use Rattle.lists.specs.Rows.{over};
 ghost use Rattle.lent.specs.Lent.{map_tables, view_tables, SameSlices, SameLists};
 ghost use Rattle.tables.specs.Formed.{sound_tables};
@@ -13,14 +13,30 @@ ghost use Rattle.job_made.specs.Made.{unmarked, kept_from, kept_words};
 use entities::Tolerance;
 use job_decided::JobEnd;
 use job_marks::MARKS;
+use job_net::NetLists;
 use job_told::KEPT;
 use job_turn::{ENTITY_LIST, MOST_WARNINGS};
 use jobs::Job;
 use lent::{Lists, Map, MapView};
-use report::WARNING;
+use report::{Counts, WARNING};
 
 // Rows of the job's own warnings: behind the last that is kept there is room for those of any edit.
 const WARNING_LIST: usize = (KEPT + MOST_WARNINGS) * WARNING;
+
+// The net lists, copied into those that are lent.
+fn tell_net(net: &NetLists, n: Counts, lists: &mut Lists)
+    requires { ((n.created * 2 ≤ length net.now.created.now) × ((n.modified * 2 ≤ length net.now.modified.now) × (n.deleted * 2 ≤ length net.now.deleted.now))) × ((n.created * 2 ≤ length lists.old.created.now) × ((n.modified * 2 ≤ length lists.old.modified.now) × (n.deleted * 2 ≤ length lists.old.deleted.now))) }
+    ensures made { (lists.new.created.now ≡ over lists.old.created.now 0 (take (n.created * 2) net.now.created.now)) × ((lists.new.modified.now ≡ over lists.old.modified.now 0 (take (n.modified * 2) net.now.modified.now)) × (lists.new.deleted.now ≡ over lists.old.deleted.now 0 (take (n.deleted * 2) net.now.deleted.now))) }
+    ensures rest { lists.new.warnings.now ≡ lists.old.warnings.now }
+    ensures same_lists { SameLists lists.old lists.new }
+{
+    let mut told = NetLists {
+        created: &mut *lists.created,
+        modified: &mut *lists.modified,
+        deleted: &mut *lists.deleted,
+    };
+    job_told::tell_lists(net.view(), n, &mut told);
+}
 
 // The edits, what they come to, and then the lists or the way back.
 fn make_with(
@@ -37,16 +53,21 @@ fn make_with(
     ensures made { job_ended (S.given result.counter map.new lists.new) (view_tables old.entry) result.answer ≡ ending (S.given counter map.old lists.old) (view_tables old.entry) (table_edits tolerance 1 (commands job) (record { counter = counter; tables = (map_tables map.old) })) }
     ensures same { SameSlices map.old map.new }
     ensures same_lists { SameLists lists.old lists.new }
-    ensures same_own { SameLists own.old own.new }
 {
     let ran = job_run::make_edits(counter, tolerance, map, job, own, KEPT, old, marks);
-    let end = job_decided::decided(counter, map.view(), old, marks, own, ran, lists);
+    let mut net = NetLists {
+        created: &mut *own.created,
+        modified: &mut *own.modified,
+        deleted: &mut *own.deleted,
+    };
+    let kept = &mut *own.warnings;
+    let end = job_decided::decided(counter, map.view(), old, marks, &mut net, ran, lists.view());
     let answer = end.answer;
     if let Ok(n) = answer {
-        job_told::tell_lists(own, n, lists);
+        tell_net(&net, n, lists);
         let warnings = &mut *lists.warnings;
         job_told::tell_warnings(
-            counter, tolerance, map, job, old, marks, own, n.warnings, warnings,
+            counter, tolerance, map, job, old, marks, &mut net, kept, n.warnings, warnings,
         );
         return end;
     }
@@ -58,10 +79,7 @@ fn make_with(
 fn kept_words(n: usize) -> usize
     ensures { result ≡ kept_words n }
 {
-    if n < KEPT * WARNING {
-        return n;
-    }
-    KEPT * WARNING
+    n.min(KEPT * WARNING)
 }
 
 // The job's own warnings begin as the lent ones.

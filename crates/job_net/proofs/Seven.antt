@@ -1,12 +1,11 @@
 -- Lists of entities written one behind the other, kind by kind. Assumes nothing.
-use mathlib.Core.Path.{◌≡◌, refl, sym, ap, subst, ◌∙◌}
+use mathlib.Core.Path.{◌≡◌, refl, sym, ap, ◌∙◌}
 use mathlib.Core.Bool.{Bool, true, false, not, ◌&&◌}
 use mathlib.Core.List.{List, [], ◌∷◌, ◌++◌, append_assoc}
-use Prim.Native.Nat.{ℕ, ◌+◌, ◌-◌, ◌*◌, ◌≤◌, ◌<◌}
+use Prim.Native.Nat.{ℕ, ◌+◌, ◌*◌, ◌≤◌, ◌<◌}
 use native.Mathlib.Omega.{arith}
 use lib.Dec.{eqb}
-use lib.ListN.{length, get_or, take, drop, length-append, length-drop, length-map}
-use lib.Seq.{take_all}
+use lib.ListN.{length, get_or, drop, length-append, length-map}
 use Rattle.lists.specs.Rows.{over}
 use Rattle.lists.specs.Select.{has, each}
 use Rattle.lists.proofs.Rows.{over-over, length_over, length-keys}
@@ -88,41 +87,26 @@ module _ (w : List ℕ) (room : 13568 ≤ length w) {es : List EntityRef} {most 
   pub written_is : (whole : List EntityRef) → es ≡ whole → (n ≡ length whole) × (out ≡ listed w whole)
   written_is whole e = (m.many ∙ ap length e, m.words ∙ ap (listed w) e)
 
--- ---- the marks of a table, as they are lent
-
-module _ (ms : List ℕ) (first : ℕ) where
-  lent : take (length ms - first) (drop first ms) ≡ drop first ms
-  lent = take_all (length ms - first) (drop first ms) (rw length-drop (omega arith))
-
-  pub marks-may : (limit s : ℕ) (t : List ℕ) → length ms ≡ 6784 → first + limit ≤ 6784 → sorted_table limit s t ≡ true → word 0 t ≤ length (take (length ms - first) (drop first ms))
-  marks-may limit s t n l h = rw lent (rw length-drop (omega (arith, sorted-few limit s t h)))
-
-  pub marks-lent : (kept : Bool) (others ids : List ℕ) (n kind r : ℕ) (out v : List ℕ)
-      → (r ≡ n + length (picked_in kept others (take (length ms - first) (drop first ms)) ids)) × (v ≡ over out (n * 2) (pairs_of kind (picked_in kept others (take (length ms - first) (drop first ms)) ids)))
-      → (r ≡ n + length (picked_in kept others (drop first ms) ids)) × (v ≡ over out (n * 2) (pairs_of kind (picked_in kept others (drop first ms) ids)))
-  marks-lent kept others ids n kind r out v e = subst (λ (z : List ℕ). (r ≡ n + length (picked_in kept others z ids)) × (v ≡ over out (n * 2) (pairs_of kind (picked_in kept others z ids)))) lent e
-
 -- ---- one kind behind the others
 
 module _ (kept : Bool) (ms w : List ℕ) (marks : length ms ≡ 6784) (room : 13568 ≤ length w) where
   -- what a call that lists a kind says
   abbrev pub Told : ℕ → ℕ → List ℕ → List ℕ → EntityKind → ℕ → List ℕ → ℕ → List ℕ → Type 0
   Told first s t o q n out r v =
-      let ids = picked_in kept (table_ids s o) (take (length ms - first) (drop first ms)) (table_ids s t) in
+      let ids = picked_in kept (table_ids s o) (drop first ms) (table_ids s t) in
       (r ≡ n + length ids) × (v ≡ over out (n * 2) (pairs_of (kind_number q) ids))
 
   module _ {es : List EntityRef} {most : ℕ} {out : List ℕ} {n : ℕ} (m : Written w es most out n) (limit s first : ℕ) (t o : List ℕ) (h : sorted_table limit s t ≡ true) where
     pub kind-may : 0 < s → limit ≤ 4096 → most + limit ≤ 6784 → first + limit ≤ 6784 → sorted_table limit s o ≡ true
-        → (0 < s) × ((sorted_table 4096 s t ≡ true) × ((sorted_table 4096 s o ≡ true) × ((word 0 t ≤ length (take (length ms - first) (drop first ms))) × ((n + word 0 t) * 2 ≤ length out))))
+        → (0 < s) × ((sorted_table 4096 s t ≡ true) × ((sorted_table 4096 s o ≡ true) × ((first + word 0 t ≤ length ms) × ((n + word 0 t) * 2 ≤ length out))))
     kind-may p l k f g =
         let may = may-list w room m limit s t o p l k h g in
-        (may.0, (may.1.0, (may.1.1.0, (marks-may ms first limit s t marks f h, may.1.1.1))))
+        (may.0, (may.1.0, (may.1.1.0, (omega (arith, marks, f, sorted-few limit s t h), may.1.1.1))))
 
     pub kind-written : most + limit ≤ 6784 → (q : EntityKind) (r : ℕ) (v : List ℕ) → Told first s t o q n out r v
         → Written w (es ++ refs q (picked_in kept (table_ids s o) (drop first ms) (table_ids s t))) (most + limit) v r
     kind-written k q r v e =
-        written-more w room m q (picked_in kept (table_ids s o) (drop first ms) (table_ids s t)) limit (picked-few kept limit s t o (drop first ms) h) k r v
-        (marks-lent ms first kept (table_ids s o) (table_ids s t) n (kind_number q) r out v e)
+        written-more w room m q (picked_in kept (table_ids s o) (drop first ms) (table_ids s t)) limit (picked-few kept limit s t o (drop first ms) h) k r v e
 
 -- ---- kind by kind, as they are written
 

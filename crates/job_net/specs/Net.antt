@@ -7,6 +7,8 @@ use Rattle.rules.specs.Edit.{refs, when}
 use Rattle.tables.specs.View.{Tables, word, lane_words, boundary_words, road_words, junction_words, rule_words, stop_line_words, crosswalk_words}
 use Rattle.report.specs.Report.{listed}
 use Rattle.report.specs.declared.Counts.{Counts}
+use Rattle.job_net.specs.declared.NetLists.{NetLists}
+use Rattle.job_net.specs.declared.NetView.{NetView}
 use Rattle.job_marks.specs.Marks.{lane_marks, boundary_marks, road_marks, junction_marks, stop_line_marks, crosswalk_marks, rule_marks}
 
 -- the ids of a table
@@ -70,3 +72,20 @@ abbrev pub NetListed : Tables → Tables → List ℕ → ℕ → List ℕ → L
 NetListed t old ms told created modified deleted n c m d =
     (n ≡ net_counts t old ms told)
     × ((c ≡ listed created (only_in t old)) × ((m ≡ listed modified (marked_both old t ms)) × (d ≡ listed deleted (only_in old t))))
+
+-- ---- where they are written
+
+-- a view of the lists has what they hold
+pub record SeenAs (l : NetLists) (v : NetView) : Type 0 where
+  pub created : v.created.now ≡ l.created.now
+  pub modified : v.modified.now ≡ l.modified.now
+  pub deleted : v.deleted.now ≡ l.deleted.now
+
+-- n's fields are the slices of m, each as long as it was
+pub record SameNet (m n : NetLists) : Type 0 where
+  pub created : n.created.ghost_name ≡ m.created.ghost_name
+  pub modified : n.modified.ghost_name ≡ m.modified.ghost_name
+  pub deleted : n.deleted.ghost_name ≡ m.deleted.ghost_name
+  pub created_length : length n.created.now ≡ length m.created.now
+  pub modified_length : length n.modified.now ≡ length m.modified.now
+  pub deleted_length : length n.deleted.now ≡ length m.deleted.now

@@ -6,7 +6,7 @@ ghost use Rattle.lists.specs.Rows.{keys, over};
 ghost use Rattle.lists.specs.Select.{each};
 ghost use Rattle.report.specs.Report.{listed};
 ghost use Rattle.tables.specs.View.{word};
-ghost use Rattle.lent.specs.Lent.{view_rows, SameLists};
+ghost use Rattle.lent.specs.Lent.{view_rows};
 ghost use Rattle.lookup.specs.Lookup.{sorted_table};
 ghost use Rattle.job_marks.specs.Marks.{sorted_tables};
 ghost use Rattle.job_net.specs.Net as N;
@@ -16,9 +16,37 @@ use job_marks::{
     LANE_KIND, LANE_MARKS, ROAD_KIND, ROAD_MARKS, RULE_KIND, RULE_MARKS, STOP_LINE_KIND,
     STOP_LINE_MARKS,
 };
-use lent::{Lists, MapView};
+use lent::MapView;
 use report::Counts;
 use tables::{BOUNDARY, CROSSWALK, JUNCTION, LANE, ROAD, RULE, STOP_LINE};
+
+// Three lists that net lists are written to.
+#[derive(Drop)]
+pub struct NetLists<'a> {
+    pub created: &'a mut [u64],
+    pub modified: &'a mut [u64],
+    pub deleted: &'a mut [u64],
+}
+
+// The same, for reading.
+#[derive(Clone, Copy)]
+pub struct NetView<'a> {
+    pub created: &'a [u64],
+    pub modified: &'a [u64],
+    pub deleted: &'a [u64],
+}
+
+impl<'a> NetLists<'a> {
+    pub fn view(&self) -> NetView<'_>
+        ensures { N.SeenAs self.now result }
+    {
+        NetView {
+            created: self.created,
+            modified: self.modified,
+            deleted: self.deleted,
+        }
+    }
+}
 
 // The first of n rows, from row `from` on, whose id is not below this one.
 fn skip(rows: &[u64], s: usize, n: usize, from: usize, id: u64) -> usize
@@ -81,82 +109,118 @@ fn list_ids(
     k
 }
 
+// A table as a job lists it: the words of its rows, where its marks begin, and the kind of its entities.
+#[derive(Clone, Copy)]
+struct Listed {
+    words: usize,
+    marks: usize,
+    kind: u64,
+}
+
+const LANES: Listed = Listed {
+    words: LANE,
+    marks: LANE_MARKS,
+    kind: LANE_KIND,
+};
+
+const BOUNDARIES: Listed = Listed {
+    words: BOUNDARY,
+    marks: BOUNDARY_MARKS,
+    kind: BOUNDARY_KIND,
+};
+
+const ROADS: Listed = Listed {
+    words: ROAD,
+    marks: ROAD_MARKS,
+    kind: ROAD_KIND,
+};
+
+const JUNCTIONS: Listed = Listed {
+    words: JUNCTION,
+    marks: JUNCTION_MARKS,
+    kind: JUNCTION_KIND,
+};
+
+const STOP_LINES: Listed = Listed {
+    words: STOP_LINE,
+    marks: STOP_LINE_MARKS,
+    kind: STOP_LINE_KIND,
+};
+
+const CROSSWALKS: Listed = Listed {
+    words: CROSSWALK,
+    marks: CROSSWALK_MARKS,
+    kind: CROSSWALK_KIND,
+};
+
+const RULES: Listed = Listed {
+    words: RULE,
+    marks: RULE_MARKS,
+    kind: RULE_KIND,
+};
+
+// What `list_ids` lists of a table, by the marks of all tables.
+fn list_table(
+    table: &[u64],
+    other: &[u64],
+    of: Listed,
+    marks: &[u64],
+    kept: bool,
+    out: &mut [u64],
+    at: usize,
+) -> usize
+    requires { (0 < of.words) × ((sorted_table 4096 of.words table.now ≡ true) × ((sorted_table 4096 of.words other.now ≡ true) × ((of.marks + word 0 table.now ≤ length marks.now) × ((at + word 0 table.now) * 2 ≤ length out.old)))) }
+    ensures { (result ≡ at + length (N.picked_in kept (N.table_ids of.words other.now) (drop of.marks marks.now) (N.table_ids of.words table.now))) × (out.new ≡ over out.old (at * 2) (each (λ i. of.kind ∷ i ∷ []) (N.picked_in kept (N.table_ids of.words other.now) (drop of.marks marks.now) (N.table_ids of.words table.now)))) }
+{
+    let own = &marks[of.marks..];
+    list_ids(table, other, of.words, own, kept, of.kind, out, at)
+}
+
 // What stands in the tables and has a mark and stands in the others too, where `kept`, or else what the others lack: as a list of entities from its front on;
 // how many there are.
 fn list_all(map: MapView, other: MapView, marks: &[u64], kept: bool, out: &mut [u64]) -> usize
     requires { (sorted_tables (view_rows map) ≡ true) × ((sorted_tables (view_rows other) ≡ true) × ((length marks.now ≡ 6784) × (13568 ≤ length out.old))) }
     ensures { (result ≡ length (N.all_picked kept (view_rows map.entry) (view_rows other.entry) marks.now)) × (out.new ≡ listed out.old (N.all_picked kept (view_rows map.entry) (view_rows other.entry) marks.now)) }
 {
-    let lanes_end = list_ids(
-        map.lanes,
-        other.lanes,
-        LANE,
-        &marks[LANE_MARKS..],
-        kept,
-        LANE_KIND,
-        out,
-        0,
-    );
-    let boundaries_end = list_ids(
+    let a = list_table(map.lanes, other.lanes, LANES, marks, kept, out, 0);
+    let b = list_table(
         map.boundaries,
         other.boundaries,
-        BOUNDARY,
-        &marks[BOUNDARY_MARKS..],
+        BOUNDARIES,
+        marks,
         kept,
-        BOUNDARY_KIND,
         out,
-        lanes_end,
+        a,
     );
-    let roads_end = list_ids(
-        map.roads,
-        other.roads,
-        ROAD,
-        &marks[ROAD_MARKS..],
-        kept,
-        ROAD_KIND,
-        out,
-        boundaries_end,
-    );
-    let junctions_end = list_ids(
+    let c = list_table(map.roads, other.roads, ROADS, marks, kept, out, b);
+    let d = list_table(
         map.junctions,
         other.junctions,
-        JUNCTION,
-        &marks[JUNCTION_MARKS..],
+        JUNCTIONS,
+        marks,
         kept,
-        JUNCTION_KIND,
         out,
-        roads_end,
+        c,
     );
-    let stop_lines_end = list_ids(
+    let e = list_table(
         map.stop_lines,
         other.stop_lines,
-        STOP_LINE,
-        &marks[STOP_LINE_MARKS..],
+        STOP_LINES,
+        marks,
         kept,
-        STOP_LINE_KIND,
         out,
-        junctions_end,
+        d,
     );
-    let crosswalks_end = list_ids(
+    let f = list_table(
         map.crosswalks,
         other.crosswalks,
-        CROSSWALK,
-        &marks[CROSSWALK_MARKS..],
+        CROSSWALKS,
+        marks,
         kept,
-        CROSSWALK_KIND,
         out,
-        stop_lines_end,
+        e,
     );
-    list_ids(
-        map.rules,
-        other.rules,
-        RULE,
-        &marks[RULE_MARKS..],
-        kept,
-        RULE_KIND,
-        out,
-        crosswalks_end,
-    )
+    list_table(map.rules, other.rules, RULES, marks, kept, out, f)
 }
 
 // The three net lists, each from its front on, and how many there are of each.
@@ -164,17 +228,16 @@ pub fn net_lists(
     map: MapView,
     old: MapView,
     marks: &[u64],
-    lists: &mut Lists,
+    net: &mut NetLists,
     told: usize,
 ) -> Counts
-    requires { (sorted_tables (view_rows map) ≡ true) × ((sorted_tables (view_rows old) ≡ true) × ((length marks.now ≡ 6784) × ((length lists.old.created.now ≡ 13568) × ((length lists.old.modified.now ≡ 13568) × ((length lists.old.deleted.now ≡ 13568)))))) }
-    ensures made { N.NetListed (view_rows map.entry) (view_rows old.entry) marks.now told lists.old.created.now lists.old.modified.now lists.old.deleted.now result lists.new.created.now lists.new.modified.now lists.new.deleted.now }
-    ensures rest { lists.new.warnings.now ≡ lists.old.warnings.now }
-    ensures same_lists { SameLists lists.old lists.new }
+    requires { (sorted_tables (view_rows map) ≡ true) × ((sorted_tables (view_rows old) ≡ true) × ((length marks.now ≡ 6784) × ((length net.old.created.now ≡ 13568) × ((length net.old.modified.now ≡ 13568) × ((length net.old.deleted.now ≡ 13568)))))) }
+    ensures made { N.NetListed (view_rows map.entry) (view_rows old.entry) marks.now told net.old.created.now net.old.modified.now net.old.deleted.now result net.new.created.now net.new.modified.now net.new.deleted.now }
+    ensures same { N.SameNet net.old net.new }
 {
-    let created = &mut *lists.created;
-    let modified = &mut *lists.modified;
-    let deleted = &mut *lists.deleted;
+    let created = &mut *net.created;
+    let modified = &mut *net.modified;
+    let deleted = &mut *net.deleted;
     Counts {
         created: list_all(map, old, marks, false, created),
         modified: list_all(old, map, marks, true, modified),

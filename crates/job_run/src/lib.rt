@@ -17,10 +17,7 @@ use lent::{Lists, Map, MapView};
 fn row_for(told: usize, rows: usize) -> usize
     ensures { result ≡ R.row_for told rows }
 {
-    if told < rows {
-        return told;
-    }
-    rows
+    told.min(rows)
 }
 
 // A run through the edits. What they list as modified is marked by the rows of the old tables, and their warnings are kept, one after the other, as long as they

@@ -3,13 +3,15 @@
 
 ghost use Rattle.std.specs.Prelude.{◌≡◌, true, ◌*◌, ◌≤◌, length, take};
 ghost use Rattle.lists.specs.Rows.{over};
-ghost use Rattle.lent.specs.Lent.{map_tables, view_tables, SameSlices, SameLists};
+ghost use Rattle.lent.specs.Lent.{map_tables, view_tables, SameSlices};
 ghost use Rattle.tables.specs.Formed.{sound_tables};
 ghost use Rattle.jobs.specs.Job.{commands};
 ghost use Rattle.job_step.specs.Job.{table_edits};
+ghost use Rattle.job_net.specs.Net.{SameNet};
 ghost use Rattle.job_told.specs.Told as D;
 
 use entities::Tolerance;
+use job_net::{NetLists, NetView};
 use jobs::Job;
 use lent::{Lists, Map, MapView};
 use report::{Counts, ENTITY, WARNING};
@@ -17,15 +19,7 @@ use report::{Counts, ENTITY, WARNING};
 // As many warnings of a job are kept while its edits are made. A job that has more makes its edits again to tell them.
 pub const KEPT: usize = 512;
 
-// The first n warnings, of those that were kept.
-fn tell_kept(own: &Lists, n: usize, warnings: &mut [u64])
-    requires { (n ≤ 512) × ((length own.now.warnings.now ≡ 25600) × (n * 10 ≤ length warnings.old)) }
-    ensures { warnings.new ≡ over warnings.old 0 (take (n * 10) own.now.warnings.now) }
-{
-    slots::copy(&own.warnings[..n * WARNING], warnings, 0);
-}
-
-// Any number of them, by the edits made again on the map that is put back. The job's own lists are lent one by one:
+// Any number of them, by the edits made again on the map that is put back. The net lists are lent one by one:
 // fields that are lent again do not go into another struct in the same body.
 fn tell_again(
     counter: u64,
@@ -63,34 +57,33 @@ pub fn tell_warnings(
     job: Job,
     old: MapView,
     marks: &mut [u64],
-    own: &mut Lists,
+    net: &mut NetLists,
+    kept: &[u64],
     n: usize,
     warnings: &mut [u64],
 )
-    requires { (sound_tables counter (view_tables old) ≡ true) × ((job.count ≤ 64) × (D.MadeAll (table_edits tolerance 1 (commands job) (record { counter = counter; tables = (view_tables old) })) (map_tables map.old) n × (D.Kept (table_edits tolerance 1 (commands job) (record { counter = counter; tables = (view_tables old) })) own.old.warnings.now warnings.old × ((n * 10 ≤ length warnings.old) × ((length own.old.warnings.now ≡ 25600) × ((length marks.old ≡ 6784) × ((length own.old.created.now ≡ 13568) × ((length own.old.modified.now ≡ 13568) × (length own.old.deleted.now ≡ 13568))))))))) }
+    requires { (sound_tables counter (view_tables old) ≡ true) × ((job.count ≤ 64) × (D.MadeAll (table_edits tolerance 1 (commands job) (record { counter = counter; tables = (view_tables old) })) (map_tables map.old) n × (D.Kept (table_edits tolerance 1 (commands job) (record { counter = counter; tables = (view_tables old) })) kept.now warnings.old × ((n * 10 ≤ length warnings.old) × ((length kept.now ≡ 25600) × ((length marks.old ≡ 6784) × ((length net.old.created.now ≡ 13568) × ((length net.old.modified.now ≡ 13568) × (length net.old.deleted.now ≡ 13568))))))))) }
     ensures made { D.ToldAs warnings.old (table_edits tolerance 1 (commands job) (record { counter = counter; tables = (view_tables old.entry) })) (map_tables map.new) warnings.new }
     ensures same { SameSlices map.old map.new }
-    ensures same_own { SameLists own.old own.new }
-    ensures rest { own.new.warnings.now ≡ own.old.warnings.now }
+    ensures same_net { SameNet net.old net.new }
 {
     if n <= KEPT {
-        tell_kept(own, n, warnings);
+        slots::copy(&kept[..n * WARNING], warnings, 0);
         return;
     }
-    let created = &mut *own.created;
-    let modified = &mut *own.modified;
-    let deleted = &mut *own.deleted;
+    let created = &mut *net.created;
+    let modified = &mut *net.modified;
+    let deleted = &mut *net.deleted;
     tell_again(
         counter, tolerance, map, job, old, marks, created, modified, deleted, n, warnings,
     );
 }
 
 // The net lists of a job that is made, from where they stand ready.
-pub fn tell_lists(own: &Lists, n: Counts, lists: &mut Lists)
-    requires { ((n.created * 2 ≤ length own.now.created.now) × ((n.modified * 2 ≤ length own.now.modified.now) × (n.deleted * 2 ≤ length own.now.deleted.now))) × ((n.created * 2 ≤ length lists.old.created.now) × ((n.modified * 2 ≤ length lists.old.modified.now) × (n.deleted * 2 ≤ length lists.old.deleted.now))) }
-    ensures made { (lists.new.created.now ≡ over lists.old.created.now 0 (take (n.created * 2) own.now.created.now)) × ((lists.new.modified.now ≡ over lists.old.modified.now 0 (take (n.modified * 2) own.now.modified.now)) × (lists.new.deleted.now ≡ over lists.old.deleted.now 0 (take (n.deleted * 2) own.now.deleted.now))) }
-    ensures rest { lists.new.warnings.now ≡ lists.old.warnings.now }
-    ensures same_lists { SameLists lists.old lists.new }
+pub fn tell_lists(own: NetView, n: Counts, lists: &mut NetLists)
+    requires { ((n.created * 2 ≤ length own.created.now) × ((n.modified * 2 ≤ length own.modified.now) × (n.deleted * 2 ≤ length own.deleted.now))) × ((n.created * 2 ≤ length lists.old.created.now) × ((n.modified * 2 ≤ length lists.old.modified.now) × (n.deleted * 2 ≤ length lists.old.deleted.now))) }
+    ensures made { (lists.new.created.now ≡ over lists.old.created.now 0 (take (n.created * 2) own.entry.created.now)) × ((lists.new.modified.now ≡ over lists.old.modified.now 0 (take (n.modified * 2) own.entry.modified.now)) × (lists.new.deleted.now ≡ over lists.old.deleted.now 0 (take (n.deleted * 2) own.entry.deleted.now))) }
+    ensures same { SameNet lists.old lists.new }
 {
     let created = &mut *lists.created;
     let modified = &mut *lists.modified;

@@ -16,6 +16,15 @@ use tables::{LANE, LANE_CENTERLINE, POINT};
 // Floats in the longest line, of 256 points.
 const LINE_FLOATS: usize = 768;
 
+// Lanes, boundaries and coordinates of which every centreline can be drawn.
+#[derive(Clone, Copy)]
+pub struct Drawable<'a> {
+    pub lanes: &'a [u64],
+    pub boundaries: &'a [u64],
+    pub coordinates: &'a [f64],
+    pub ghost drawable: { K.Drawable lanes.now boundaries.now coordinates.now },
+}
+
 // An end of a boundary's line along the lane in row i, the first or the last point: a line that the lane runs against is stored the other way round.
 fn oriented_end(
     lanes: &[u64],
@@ -108,19 +117,31 @@ pub fn oriented_boundary(
 
 // The line between both boundaries along the lane, which are written to `left` and `right`.
 fn between_sides(
-    lanes: &[u64],
+    map: Drawable<'_>,
     i: usize,
-    boundaries: &[u64],
-    coordinates: &[f64],
     left: &mut [f64],
     right: &mut [f64],
     out: &mut [f64],
 ) -> Option<usize>
-    requires { (K.Drawable lanes.now boundaries.now coordinates.now) × ((i < word 0 lanes.now) × ((768 ≤ length left.old) × ((768 ≤ length right.old) × (768 ≤ length out.old)))) }
-    ensures { (result ≡ K.count_of (derived (K.side_line coordinates.now lanes.now boundaries.now i Left) (K.side_line coordinates.now lanes.now boundaries.now i Right))) × ((out.new ≡ over out.old 0 (flat (K.points_or (derived (K.side_line coordinates.now lanes.now boundaries.now i Left) (K.side_line coordinates.now lanes.now boundaries.now i Right))))) × ((left.new ≡ over left.old 0 (flat (K.points_or (K.side_line coordinates.now lanes.now boundaries.now i Left)))) × (right.new ≡ over right.old 0 (flat (K.points_or (K.side_line coordinates.now lanes.now boundaries.now i Right)))))) }
+    requires { (i < word 0 map.lanes.now) × ((768 ≤ length left.old) × ((768 ≤ length right.old) × (768 ≤ length out.old))) }
+    ensures { (result ≡ K.count_of (derived (K.side_line map.entry.coordinates.now map.entry.lanes.now map.entry.boundaries.now i Left) (K.side_line map.entry.coordinates.now map.entry.lanes.now map.entry.boundaries.now i Right))) × ((out.new ≡ over out.old 0 (flat (K.points_or (derived (K.side_line map.entry.coordinates.now map.entry.lanes.now map.entry.boundaries.now i Left) (K.side_line map.entry.coordinates.now map.entry.lanes.now map.entry.boundaries.now i Right))))) × ((left.new ≡ over left.old 0 (flat (K.points_or (K.side_line map.entry.coordinates.now map.entry.lanes.now map.entry.boundaries.now i Left)))) × (right.new ≡ over right.old 0 (flat (K.points_or (K.side_line map.entry.coordinates.now map.entry.lanes.now map.entry.boundaries.now i Right)))))) }
 {
-    let l = oriented_boundary(lanes, i, Side::Left, boundaries, coordinates, left);
-    let r = oriented_boundary(lanes, i, Side::Right, boundaries, coordinates, right);
+    let l = oriented_boundary(
+        map.lanes,
+        i,
+        Side::Left,
+        map.boundaries,
+        map.coordinates,
+        left,
+    );
+    let r = oriented_boundary(
+        map.lanes,
+        i,
+        Side::Right,
+        map.boundaries,
+        map.coordinates,
+        right,
+    );
     let a = l?;
     let b = r?;
     let left_end = a * POINT;
@@ -133,67 +154,41 @@ fn between_sides(
 }
 
 // That line; both sides are kept in local arrays.
-fn derived(
-    lanes: &[u64],
-    i: usize,
-    boundaries: &[u64],
-    coordinates: &[f64],
-    out: &mut [f64],
-) -> Option<usize>
-    requires { (K.Drawable lanes.now boundaries.now coordinates.now) × ((i < word 0 lanes.now) × (768 ≤ length out.old)) }
-    ensures { (result ≡ K.count_of (derived (K.side_line coordinates.now lanes.now boundaries.now i Left) (K.side_line coordinates.now lanes.now boundaries.now i Right))) × (out.new ≡ over out.old 0 (flat (K.points_or (derived (K.side_line coordinates.now lanes.now boundaries.now i Left) (K.side_line coordinates.now lanes.now boundaries.now i Right))))) }
+fn derived(map: Drawable<'_>, i: usize, out: &mut [f64]) -> Option<usize>
+    requires { (i < word 0 map.lanes.now) × (768 ≤ length out.old) }
+    ensures { (result ≡ K.count_of (derived (K.side_line map.entry.coordinates.now map.entry.lanes.now map.entry.boundaries.now i Left) (K.side_line map.entry.coordinates.now map.entry.lanes.now map.entry.boundaries.now i Right))) × (out.new ≡ over out.old 0 (flat (K.points_or (derived (K.side_line map.entry.coordinates.now map.entry.lanes.now map.entry.boundaries.now i Left) (K.side_line map.entry.coordinates.now map.entry.lanes.now map.entry.boundaries.now i Right))))) }
 {
     let mut left = [0.0; LINE_FLOATS];
     let mut right = [0.0; LINE_FLOATS];
-    between_sides(
-        lanes,
-        i,
-        boundaries,
-        coordinates,
-        &mut left,
-        &mut right,
-        out,
-    )
+    between_sides(map, i, &mut left, &mut right, out)
 }
 
 // The explicit centreline of the lane in row i, or the one derived from both boundaries.
-pub fn centerline(
-    lanes: &[u64],
-    i: usize,
-    boundaries: &[u64],
-    coordinates: &[f64],
-    out: &mut [f64],
-) -> Option<usize>
-    requires { (K.Drawable lanes.now boundaries.now coordinates.now) × ((i < word 0 lanes.now) × (768 ≤ length out.old)) }
-    ensures { (result ≡ K.count_of (K.center_line coordinates.now lanes.now boundaries.now i)) × (out.new ≡ over out.old 0 (flat (K.points_or (K.center_line coordinates.now lanes.now boundaries.now i)))) }
+pub fn centerline(map: Drawable<'_>, i: usize, out: &mut [f64]) -> Option<usize>
+    requires { (i < word 0 map.lanes.now) × (768 ≤ length out.old) }
+    ensures { (result ≡ K.count_of (K.center_line map.entry.coordinates.now map.entry.lanes.now map.entry.boundaries.now i)) × (out.new ≡ over out.old 0 (flat (K.points_or (K.center_line map.entry.coordinates.now map.entry.lanes.now map.entry.boundaries.now i)))) }
 {
     let at = 1 + i * LANE + LANE_CENTERLINE;
-    if lanes[at] == 0 {
-        return derived(lanes, i, boundaries, coordinates, out);
+    if map.lanes[at] == 0 {
+        return derived(map, i, out);
     }
-    Some(copied(lookup::line_of(lanes, at + 1, coordinates), out))
+    Some(copied(lookup::line_of(map.lanes, at + 1, map.coordinates), out))
 }
 
 // The length of the centreline, which is written to `line`.
-fn length_in(
-    lanes: &[u64],
-    i: usize,
-    boundaries: &[u64],
-    coordinates: &[f64],
-    line: &mut [f64],
-) -> Option<f64>
-    requires { (K.Drawable lanes.now boundaries.now coordinates.now) × ((i < word 0 lanes.now) × (768 ≤ length line.old)) }
-    ensures { (result ≡ K.length_of (K.center_line coordinates.now lanes.now boundaries.now i)) × (line.new ≡ over line.old 0 (flat (K.points_or (K.center_line coordinates.now lanes.now boundaries.now i)))) }
+fn length_in(map: Drawable<'_>, i: usize, line: &mut [f64]) -> Option<f64>
+    requires { (i < word 0 map.lanes.now) × (768 ≤ length line.old) }
+    ensures { (result ≡ K.length_of (K.center_line map.entry.coordinates.now map.entry.lanes.now map.entry.boundaries.now i)) × (line.new ≡ over line.old 0 (flat (K.points_or (K.center_line map.entry.coordinates.now map.entry.lanes.now map.entry.boundaries.now i)))) }
 {
-    let n = centerline(lanes, i, boundaries, coordinates, line)?;
+    let n = centerline(map, i, line)?;
     let end = n * POINT;
     Some(polyline::length(&line[..end]))
 }
 
-pub fn lane_length(lanes: &[u64], i: usize, boundaries: &[u64], coordinates: &[f64]) -> Option<f64>
-    requires { (K.Drawable lanes.now boundaries.now coordinates.now) × (i < word 0 lanes.now) }
-    ensures { result ≡ K.length_of (K.center_line coordinates.now lanes.now boundaries.now i) }
+pub fn lane_length(map: Drawable<'_>, i: usize) -> Option<f64>
+    requires { i < word 0 map.lanes.now }
+    ensures { result ≡ K.length_of (K.center_line map.entry.coordinates.now map.entry.lanes.now map.entry.boundaries.now i) }
 {
     let mut line = [0.0; LINE_FLOATS];
-    length_in(lanes, i, boundaries, coordinates, &mut line)
+    length_in(map, i, &mut line)
 }

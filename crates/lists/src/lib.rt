@@ -17,7 +17,12 @@ pub fn both(a: bool, b: bool) -> bool
 pub fn contains(ids: &[u64], id: u64) -> bool
     ensures { result ≡ has id ids.now }
 {
-    ids.contains(&id)
+    for x in ids {
+        if id == *x {
+            return true;
+        }
+    }
+    false
 }
 
 // Whether each id is larger than the one before.

@@ -10,6 +10,7 @@ ghost use Rattle.lookup.specs.Lookup as K;
 ghost use Rattle.merge_plan.specs.Deciding as P;
 
 use entities::{IssueCode, Refusal, Side};
+use lane_lines::Drawable;
 use lists::both;
 use merge_plan::{Joined, Plan};
 use report::Notice;
@@ -21,53 +22,49 @@ use tables::{
 // How many points the lines of two boundaries have when they are joined along their lanes; x and y are the boundaries' rows.
 fn joined_points(
     join: f64,
-    lanes: &[u64],
+    map: Drawable<'_>,
     i: usize,
     j: usize,
     side: Side,
-    boundaries: &[u64],
     x: usize,
     y: usize,
-    coordinates: &[f64],
 ) -> usize
-    requires { P.SideRows lanes.now i j side boundaries.now x y coordinates.now }
-    ensures { result ≡ P.joined_length join (K.side_line coordinates.now lanes.now boundaries.now i side) (K.side_line coordinates.now lanes.now boundaries.now j side) }
+    requires { P.SideRows map.lanes.now i j side map.boundaries.now x y map.coordinates.now }
+    ensures { result ≡ P.joined_length join (K.side_line map.entry.coordinates.now map.entry.lanes.now map.entry.boundaries.now i side) (K.side_line map.entry.coordinates.now map.entry.lanes.now map.entry.boundaries.now j side) }
 {
-    let end = lane_lines::oriented_last(lanes, i, side, boundaries, coordinates);
-    let start = lane_lines::oriented_first(lanes, j, side, boundaries, coordinates);
-    let one = boundaries[1 + x * BOUNDARY + BOUNDARY_SIZE] as usize;
-    let two = boundaries[1 + y * BOUNDARY + BOUNDARY_SIZE] as usize;
+    let end = lane_lines::oriented_last(map.lanes, i, side, map.boundaries, map.coordinates);
+    let start = lane_lines::oriented_first(map.lanes, j, side, map.boundaries, map.coordinates);
+    let one = map.boundaries[1 + x * BOUNDARY + BOUNDARY_SIZE] as usize;
+    let two = map.boundaries[1 + y * BOUNDARY + BOUNDARY_SIZE] as usize;
     one + two - joins::meeting(join, end, start)
 }
 
 // The plan of a side, or the boundary that is absent. A boundary that both lanes name is not looked up.
 pub fn side_plan(
     join: f64,
-    lanes: &[u64],
+    map: Drawable<'_>,
     i: usize,
     j: usize,
     side: Side,
-    boundaries: &[u64],
-    coordinates: &[f64],
 ) -> Result<Joined, Refusal>
-    requires { (K.Drawable lanes.now boundaries.now coordinates.now) × ((i < word 0 lanes.now) × (j < word 0 lanes.now)) }
-    ensures { result ≡ P.side_told (P.side_plan_in join coordinates.now lanes.now boundaries.now i j side) }
+    requires { (i < word 0 map.lanes.now) × (j < word 0 map.lanes.now) }
+    ensures { result ≡ P.side_told (P.side_plan_in join map.entry.coordinates.now map.entry.lanes.now map.entry.boundaries.now i j side) }
 {
-    let one = lookup::boundary_ref(lanes, i, side).boundary;
-    let two = lookup::boundary_ref(lanes, j, side).boundary;
+    let one = lookup::boundary_ref(map.lanes, i, side).boundary;
+    let two = lookup::boundary_ref(map.lanes, j, side).boundary;
     if one == two {
         return Ok(Joined::Kept);
     }
-    let found = lookup::boundary(boundaries, one);
+    let found = lookup::boundary(map.boundaries, one);
     let Some(x) = found else {
         return Err(Refusal::BoundaryAbsent(one));
     };
-    let other = lookup::boundary(boundaries, two);
+    let other = lookup::boundary(map.boundaries, two);
     let Some(y) = other else {
         return Err(Refusal::BoundaryAbsent(two));
     };
-    let points = joined_points(join, lanes, i, j, side, boundaries, x, y, coordinates);
-    if merge_plan::alone(lanes, i, one, j, two) {
+    let points = joined_points(join, map, i, j, side, x, y);
+    if merge_plan::alone(map.lanes, i, one, j, two) {
         return Ok(Joined::InPlace(points));
     }
     Ok(Joined::Fresh(points))
@@ -99,20 +96,13 @@ pub fn center_plan(
     Some(one + two - joins::meeting(join, end, start))
 }
 
-pub fn decide(
-    join: f64,
-    lanes: &[u64],
-    i: usize,
-    j: usize,
-    boundaries: &[u64],
-    coordinates: &[f64],
-) -> Result<Plan, Refusal>
-    requires { (K.Drawable lanes.now boundaries.now coordinates.now) × ((i < word 0 lanes.now) × (j < word 0 lanes.now)) }
-    ensures { result ≡ P.planned join coordinates.now lanes.now boundaries.now i j }
+pub fn decide(join: f64, map: Drawable<'_>, i: usize, j: usize) -> Result<Plan, Refusal>
+    requires { (i < word 0 map.lanes.now) × (j < word 0 map.lanes.now) }
+    ensures { result ≡ P.planned join map.entry.coordinates.now map.entry.lanes.now map.entry.boundaries.now i j }
 {
-    let left = side_plan(join, lanes, i, j, Side::Left, boundaries, coordinates)?;
-    let right = side_plan(join, lanes, i, j, Side::Right, boundaries, coordinates)?;
-    let center = center_plan(join, lanes, i, j, coordinates);
+    let left = side_plan(join, map, i, j, Side::Left)?;
+    let right = side_plan(join, map, i, j, Side::Right)?;
+    let center = center_plan(join, map.lanes, i, j, map.coordinates);
     Ok(Plan {
         left,
         right,

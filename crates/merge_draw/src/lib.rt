@@ -8,6 +8,7 @@ ghost use Rattle.polyline.specs.Polyline.{flat};
 ghost use Rattle.merge_draw.specs.Redrawing as D;
 
 use entities::Side;
+use lane_lines::Drawable;
 use tables::{LANE, LANE_CENTERLINE, POINT};
 
 // Floats in the longest line, of 256 points, and in two of them joined.
@@ -35,27 +36,35 @@ pub struct Taken {
 // The lines of two lanes' boundaries on a side, joined, and backwards where asked; `one`, `two` and `line` are arrays of work.
 fn join_in(
     join: f64,
-    lanes: &[u64],
+    map: Drawable<'_>,
     i: usize,
     j: usize,
     side: Side,
-    boundaries: &[u64],
-    coordinates: &[f64],
     back: bool,
     one: &mut [f64],
     two: &mut [f64],
     line: &mut [f64],
     out: &mut [f64],
 ) -> usize
-    requires { (D.Joinable lanes.now boundaries.now i j coordinates.now out.old) × ((768 ≤ length one.old) × ((768 ≤ length two.old) × (1536 ≤ length line.old))) }
-    ensures { (result ≡ length (D.joined_side join coordinates.now lanes.now boundaries.now i j side)) × (out.new ≡ over out.old 0 (flat (D.stored_line back (D.joined_side join coordinates.now lanes.now boundaries.now i j side)))) }
+    requires { (D.Joinable map.lanes.now map.boundaries.now i j map.coordinates.now out.old) × ((768 ≤ length one.old) × ((768 ≤ length two.old) × (1536 ≤ length line.old))) }
+    ensures { (result ≡ length (D.joined_side join map.entry.coordinates.now map.entry.lanes.now map.entry.boundaries.now i j side)) × (out.new ≡ over out.old 0 (flat (D.stored_line back (D.joined_side join map.entry.coordinates.now map.entry.lanes.now map.entry.boundaries.now i j side)))) }
 {
-    let n = lane_lines::oriented_boundary(lanes, i, side, boundaries, coordinates, one).unwrap_or(
-        0,
-    );
-    let m = lane_lines::oriented_boundary(lanes, j, side, boundaries, coordinates, two).unwrap_or(
-        0,
-    );
+    let n = lane_lines::oriented_boundary(
+        map.lanes,
+        i,
+        side,
+        map.boundaries,
+        map.coordinates,
+        one,
+    ).unwrap_or(0);
+    let m = lane_lines::oriented_boundary(
+        map.lanes,
+        j,
+        side,
+        map.boundaries,
+        map.coordinates,
+        two,
+    ).unwrap_or(0);
     let one_end = n * POINT;
     let two_end = m * POINT;
     let size = joins::concat(join, &one[..one_end], &two[..two_end], line);
@@ -66,34 +75,21 @@ fn join_in(
 // The same with arrays of its own.
 pub fn join_side(
     join: f64,
-    lanes: &[u64],
+    map: Drawable<'_>,
     i: usize,
     j: usize,
     side: Side,
-    boundaries: &[u64],
-    coordinates: &[f64],
     back: bool,
     out: &mut [f64],
 ) -> usize
-    requires { D.Joinable lanes.now boundaries.now i j coordinates.now out.old }
-    ensures { (result ≡ length (D.joined_side join coordinates.now lanes.now boundaries.now i j side)) × (out.new ≡ over out.old 0 (flat (D.stored_line back (D.joined_side join coordinates.now lanes.now boundaries.now i j side)))) }
+    requires { D.Joinable map.lanes.now map.boundaries.now i j map.coordinates.now out.old }
+    ensures { (result ≡ length (D.joined_side join map.entry.coordinates.now map.entry.lanes.now map.entry.boundaries.now i j side)) × (out.new ≡ over out.old 0 (flat (D.stored_line back (D.joined_side join map.entry.coordinates.now map.entry.lanes.now map.entry.boundaries.now i j side)))) }
 {
     let mut one = [0.0; LINE_FLOATS];
     let mut two = [0.0; LINE_FLOATS];
     let mut line = [0.0; JOINED_FLOATS];
     join_in(
-        join,
-        lanes,
-        i,
-        j,
-        side,
-        boundaries,
-        coordinates,
-        back,
-        &mut one,
-        &mut two,
-        &mut line,
-        out,
+        join, map, i, j, side, back, &mut one, &mut two, &mut line, out,
     )
 }
 

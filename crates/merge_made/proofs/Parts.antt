@@ -21,6 +21,9 @@ use Rattle.report.specs.Report.{listed, warned, counter_behind, changed}
 use Rattle.report.specs.declared.Counts.{Counts}
 use Rattle.report.proofs.Warnings.{room}
 use Rattle.room.specs.Room.{lists_fit, ids_left}
+use Rattle.lent.specs.Lent.{SeenAs}
+use Rattle.lent.specs.declared.Lists.{Lists}
+use Rattle.lent.specs.declared.ListsView.{ListsView}
 use Rattle.merge_plan.specs.declared.Joined.{Joined}
 use Rattle.merge_plan.specs.declared.Joined.TheVariants.{Kept, InPlace, Fresh}
 use Rattle.merge_plan.specs.declared.Plan.{Plan}
@@ -162,6 +165,10 @@ module _ (join : Float) (i j : ℕ) (p : Plan) (gone joined : List ℕ) (l : Len
                 → lists (listed l.created (refs BoundaryKind (up_from x v))) (listed l.modified (touched s joined t.lanes t.roads t.junctions t.rules)) (listed l.deleted (leaving s gone)) (warned l.warnings ns)
                 ≡ lists (listed l.created (refs BoundaryKind (up_from y k))) (listed l.modified (touched r joined t.lanes t.roads t.junctions t.rules)) (listed l.deleted (leaving r gone)) (warned l.warnings ms)
             same a b c d = rw (a, b, c, d)
+
+-- the lists as a view has them
+pub seen-fit : (n : Counts) (l : Lists) (v : ListsView) → SeenAs l v → lists_fit n v.created.now v.modified.now v.deleted.now v.warnings.now ≡ lists_fit n l.created.now l.modified.now l.deleted.now l.warnings.now
+seen-fit n l v h = rw (h.created, h.modified, h.deleted, h.warnings)
 
 -- ---- what goes and what is joined, as it was found
 

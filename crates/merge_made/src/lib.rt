@@ -130,42 +130,23 @@ fn merge_with(
     ensures same { SameSlices map.old map.new }
     ensures same_lists { SameLists lists.old lists.new }
 {
-    let lanes = &mut *map.lanes;
-    let boundaries = &mut *map.boundaries;
-    let stop_lines = &mut *map.stop_lines;
-    let crosswalks = &mut *map.crosswalks;
-    let coordinates = &mut *map.coordinates;
-    let created = &mut *lists.created;
-    let modified = &mut *lists.modified;
-    let deleted = &mut *lists.deleted;
-    let warnings = &mut *lists.warnings;
+    let view = map.view();
     let next = room::next_id(counter);
-    let left = plan.left;
-    let right = plan.right;
-    let second = lanes[1 + j * LANE];
-    let notices = merge_notices::notices_of(lanes, i, j, left, right, next);
-    if !merge_room::fits(
-        lanes,
-        i,
-        j,
-        boundaries,
-        stop_lines,
-        crosswalks,
-        coordinates,
-        plan,
-        gone,
-    ) {
+    let second = view.lanes[1 + j * LANE];
+    let notices = merge_notices::notices_of(view.lanes, i, j, plan.left, plan.right, next);
+    if !merge_room::fits(view, i, j, plan, gone) {
         return Err(Refusal::NoRoom);
     }
-    let counts = count(
-        second,
-        plan,
-        gone.len(),
-        joined,
-        merge_notices::count_notices(notices),
-        map.view(),
-    );
-    if !room::lists_fit(counts, created, modified, deleted, warnings) {
+    let warnings = merge_notices::count_notices(notices);
+    let counts = count(second, plan, gone.len(), joined, warnings, view);
+    let seen = lists.view();
+    if !room::lists_fit(
+        counts,
+        seen.created,
+        seen.modified,
+        seen.deleted,
+        seen.warnings,
+    ) {
         return Err(Refusal::NoRoom);
     }
     write_lists(
@@ -175,7 +156,7 @@ fn merge_with(
         gone,
         joined,
         notices,
-        map.view(),
+        view,
         lists,
     );
     write(join, map, i, j, plan, next, gone);

@@ -5,10 +5,10 @@
 ghost use Rattle.std.specs.Prelude.{◌≡◌, true, ◌+◌, ◌*◌, ◌≤◌, ◌<◌, length};
 ghost use Rattle.lists.specs.Rows.{over};
 ghost use Rattle.tables.specs.View.{word};
-ghost use Rattle.lookup.specs.Lookup as K;
 ghost use Rattle.merge_redraw.specs.Relaying as W;
 
 use entities::Side;
+use lane_lines::Drawable;
 use merge_plan::{Joined, Plan, side_points};
 use tables::POINT;
 
@@ -51,35 +51,23 @@ fn turned(plan: Joined, reversed: bool) -> bool
 // A side's joined line, written to the work from point `at` on: backwards into the part that starts at its first point where the lane runs against it.
 fn draw_side(
     join: f64,
-    lanes: &[u64],
+    map: Drawable<'_>,
     i: usize,
     j: usize,
     side: Side,
-    boundaries: &[u64],
-    coordinates: &[f64],
     plan: Joined,
     work: &mut [f64],
     at: usize,
 )
-    requires { (K.Drawable lanes.now boundaries.now coordinates.now) × ((i < word 0 lanes.now) × ((j < word 0 lanes.now) × ((at + 512) * 3 ≤ length work.old))) }
-    ensures { work.new ≡ over work.old (at * 3) (W.side_drawn join coordinates.now lanes.now boundaries.now i j side plan) }
+    requires { (i < word 0 map.lanes.now) × ((j < word 0 map.lanes.now) × ((at + 512) * 3 ≤ length work.old)) }
+    ensures { work.new ≡ over work.old (at * 3) (W.side_drawn join map.entry.coordinates.now map.entry.lanes.now map.entry.boundaries.now i j side plan) }
 {
     if is_kept(plan) {
         return;
     }
-    let back = turned(plan, lookup::boundary_ref(lanes, i, side).reversed);
+    let back = turned(plan, lookup::boundary_ref(map.lanes, i, side).reversed);
     let from = at * POINT;
-    merge_draw::join_side(
-        join,
-        lanes,
-        i,
-        j,
-        side,
-        boundaries,
-        coordinates,
-        back,
-        &mut work[from..],
-    );
+    merge_draw::join_side(join, map, i, j, side, back, &mut work[from..]);
 }
 
 // The joined centreline, where there is one.
@@ -103,47 +91,25 @@ fn draw_center(
 }
 
 // The joined lines: the left side's, the right side's, the centreline.
-pub fn draw(
-    join: f64,
-    lanes: &[u64],
-    i: usize,
-    j: usize,
-    boundaries: &[u64],
-    coordinates: &[f64],
-    plan: Plan,
-    work: &mut [f64],
-)
-    requires { W.Drawing coordinates.now lanes.now boundaries.now i j plan work.old }
-    ensures { work.new ≡ W.drawn_lines join coordinates.now lanes.now boundaries.now i j plan work.old }
+pub fn draw(join: f64, map: Drawable<'_>, i: usize, j: usize, plan: Plan, work: &mut [f64])
+    requires { W.Drawing map.coordinates.now map.lanes.now map.boundaries.now i j plan work.old }
+    ensures { work.new ≡ W.drawn_lines join map.entry.coordinates.now map.entry.lanes.now map.entry.boundaries.now i j plan work.old }
 {
     let left = plan.left;
     let right = plan.right;
     let center = plan.center;
     let right_at = side_points(left);
     let center_at = right_at + side_points(right);
-    draw_side(
+    draw_side(join, map, i, j, Side::Left, left, work, 0);
+    draw_side(join, map, i, j, Side::Right, right, work, right_at);
+    draw_center(
         join,
-        lanes,
+        map.lanes,
         i,
         j,
-        Side::Left,
-        boundaries,
-        coordinates,
-        left,
+        map.coordinates,
+        center,
         work,
-        0,
+        center_at,
     );
-    draw_side(
-        join,
-        lanes,
-        i,
-        j,
-        Side::Right,
-        boundaries,
-        coordinates,
-        right,
-        work,
-        right_at,
-    );
-    draw_center(join, lanes, i, j, coordinates, center, work, center_at);
 }

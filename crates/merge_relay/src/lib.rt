@@ -6,6 +6,7 @@ ghost use Rattle.lent.specs.Lent.{lines_tables, SameLines};
 ghost use Rattle.merge_redraw.specs.Relaying as W;
 
 use entities::Side;
+use lane_lines::Drawable;
 use merge_plan::{Plan, side_ids, side_points};
 
 // Floats of the array of work: three lines of two times 256 points.
@@ -35,7 +36,12 @@ fn relay_in(
     let taken = merge_rows::taken_of(plan, next, reach);
     let other = next + side_ids(left) as u64;
     let right_at = reach + side_points(left);
-    merge_redraw::draw(join, lanes, i, j, boundaries, coordinates, plan, work);
+    let drawable = Drawable {
+        lanes,
+        boundaries,
+        coordinates,
+    };
+    merge_redraw::draw(join, drawable, i, j, plan, work);
     let one = merge_rows::redrawn_of(lanes, i, Side::Left, boundaries, left, next, reach);
     let two = merge_rows::redrawn_of(lanes, i, Side::Right, boundaries, right, other, right_at);
     merge_rows::redraw_boundaries(boundaries, gone, one, two);

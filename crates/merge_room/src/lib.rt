@@ -8,6 +8,7 @@ ghost use Rattle.lookup.specs.Lookup as K;
 ghost use Rattle.merge_gone.specs.Leaving as R;
 
 use entities::Side;
+use lent::MapView;
 use lists::both;
 use merge_gone::Sides;
 use merge_plan::{Plan, side_ids, side_points};
@@ -52,33 +53,30 @@ fn sides_of(lanes: &[u64], i: usize, plan: Plan) -> Sides
 }
 
 // Whether the finished map keeps the limits and the lent lengths.
-pub fn fits(
-    lanes: &[u64],
-    i: usize,
-    j: usize,
-    boundaries: &[u64],
-    stop_lines: &[u64],
-    crosswalks: &[u64],
-    coordinates: &[f64],
-    plan: Plan,
-    gone: &[u64],
-) -> bool
-    requires { R.Countable lanes.now i j boundaries.now stop_lines.now crosswalks.now plan gone.now }
-    ensures { result ≡ R.fits_after lanes.now i j boundaries.now stop_lines.now crosswalks.now coordinates.now plan gone.now }
+pub fn fits(map: MapView, i: usize, j: usize, plan: Plan, gone: &[u64]) -> bool
+    requires { R.Countable map.lanes.now i j map.boundaries.now map.stop_lines.now map.crosswalks.now plan gone.now }
+    ensures { result ≡ R.fits_after map.entry.lanes.now i j map.entry.boundaries.now map.entry.stop_lines.now map.entry.crosswalks.now map.entry.coordinates.now plan gone.now }
 {
-    let left = plan.left;
-    let right = plan.right;
     let center = plan.center;
-    let sides = sides_of(lanes, i, plan);
-    let rows = boundaries[0] as usize - gone.len() + (side_ids(left) + side_ids(right));
+    let sides = sides_of(map.lanes, i, plan);
+    let rows = map.boundaries[0] as usize - gone.len()
+        + (side_ids(plan.left) + side_ids(plan.right));
     let points = merge_points::points_after(
-        lanes, i, j, boundaries, stop_lines, crosswalks, sides, center, gone,
+        map.lanes,
+        i,
+        j,
+        map.boundaries,
+        map.stop_lines,
+        map.crosswalks,
+        sides,
+        center,
+        gone,
     );
     both(
         both(
-            room::rows_fit(MAX_BOUNDARIES, BOUNDARY, rows, boundaries),
+            room::rows_fit(MAX_BOUNDARIES, BOUNDARY, rows, map.boundaries),
             lines_fit(sides, center),
         ),
-        room::points_fit(points, coordinates),
+        room::points_fit(points, map.coordinates),
     )
 }

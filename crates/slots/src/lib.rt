@@ -49,7 +49,7 @@ pub fn replace(ids: &mut [u64], from: u64, to: u64)
     }
 }
 
-// n words moved from a place down to another, from the front so that nothing is overwritten unread.
+// n words moved from a place down to another.
 pub fn move_down(words: &mut [u64], to: usize, from: usize, n: usize)
     requires { (to ≤ from) × (from + n ≤ length words.old) }
     ensures { words.new ≡ over words.old to (take n (drop from words.old)) }

@@ -8,6 +8,7 @@ ghost use Rattle.split_plan.specs.Placing as P;
 
 use entities::{Refusal, Side, Tolerance};
 use geometry::Point2;
+use lane_lines::Drawable;
 
 // Whether a boundary crosses the cut.
 fn crosses(boundaries: &[u64], id: u64, coordinates: &[f64], point: Point2) -> Result<(), Refusal>
@@ -30,37 +31,25 @@ fn crosses(boundaries: &[u64], id: u64, coordinates: &[f64], point: Point2) -> R
 }
 
 // Whether both boundaries of the lane in row j do, the left one first.
-fn row_crosses(
-    lanes: &[u64],
-    j: usize,
-    boundaries: &[u64],
-    coordinates: &[f64],
-    point: Point2,
-) -> Result<(), Refusal>
-    requires { (K.Drawable lanes.now boundaries.now coordinates.now) × (j < word 0 lanes.now) }
-    ensures { result ≡ P.row_crosses coordinates.now boundaries.now point (K.row_at 52 lanes.now j) }
+fn row_crosses(map: Drawable<'_>, j: usize, point: Point2) -> Result<(), Refusal>
+    requires { j < word 0 map.lanes.now }
+    ensures { result ≡ P.row_crosses map.entry.coordinates.now map.entry.boundaries.now point (K.row_at 52 map.entry.lanes.now j) }
 {
-    let left = lookup::boundary_ref(lanes, j, Side::Left).boundary;
-    let right = lookup::boundary_ref(lanes, j, Side::Right).boundary;
-    crosses(boundaries, left, coordinates, point)?;
-    crosses(boundaries, right, coordinates, point)
+    let left = lookup::boundary_ref(map.lanes, j, Side::Left).boundary;
+    let right = lookup::boundary_ref(map.lanes, j, Side::Right).boundary;
+    crosses(map.boundaries, left, map.coordinates, point)?;
+    crosses(map.boundaries, right, map.coordinates, point)
 }
 
 // Whether all boundaries of the marked lanes do.
-pub fn cross_all(
-    lanes: &[u64],
-    boundaries: &[u64],
-    coordinates: &[f64],
-    point: Point2,
-    seen: &[bool],
-) -> Result<(), Refusal>
-    requires { (K.Drawable lanes.now boundaries.now coordinates.now) × (word 0 lanes.now ≤ length seen.now) }
-    ensures { result ≡ P.all_pass (P.row_crosses coordinates.now boundaries.now point) (P.marked_rows seen.now lanes.now) }
+pub fn cross_all(map: Drawable<'_>, point: Point2, seen: &[bool]) -> Result<(), Refusal>
+    requires { word 0 map.lanes.now ≤ length seen.now }
+    ensures { result ≡ P.all_pass (P.row_crosses map.entry.coordinates.now map.entry.boundaries.now point) (P.marked_rows seen.now map.entry.lanes.now) }
 {
-    let n = lanes[0] as usize;
+    let n = map.lanes[0] as usize;
     for j in 0..n {
         if seen[j] {
-            row_crosses(lanes, j, boundaries, coordinates, point)?;
+            row_crosses(map, j, point)?;
         }
     }
     Ok(())

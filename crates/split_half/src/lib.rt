@@ -9,6 +9,7 @@ ghost use Rattle.split_half.specs.Half as D;
 
 use entities::Side;
 use geometry::Point2;
+use lane_lines::Drawable;
 use tables::POINT;
 
 // A line before the cut or behind it, at the front of `out`; how many points it has.
@@ -28,22 +29,20 @@ pub fn half_line(line: &[f64], point: Point2, second: bool, out: &mut [f64]) -> 
 
 // A half's boundary along it, of the lane in row i; `piece` is an array of work.
 pub fn half_side(
-    lanes: &[u64],
+    map: Drawable<'_>,
     i: usize,
     side: Side,
-    boundaries: &[u64],
-    coordinates: &[f64],
     point: Point2,
     second: bool,
     piece: &mut [f64],
     out: &mut [f64],
 ) -> Option<usize>
-    requires { (D.Halving lanes.now boundaries.now coordinates.now i) × ((774 ≤ length piece.old) × (774 ≤ length out.old)) }
-    ensures { (result ≡ K.count_of (D.row_half_side coordinates.now lanes.now boundaries.now point second i side)) × (out.new ≡ D.line_over out.old (D.row_half_side coordinates.now lanes.now boundaries.now point second i side)) }
+    requires { (D.Halving map.lanes.now map.boundaries.now map.coordinates.now i) × ((774 ≤ length piece.old) × (774 ≤ length out.old)) }
+    ensures { (result ≡ K.count_of (D.row_half_side map.entry.coordinates.now map.entry.lanes.now map.entry.boundaries.now point second i side)) × (out.new ≡ D.line_over out.old (D.row_half_side map.entry.coordinates.now map.entry.lanes.now map.entry.boundaries.now point second i side)) }
 {
-    let r = lookup::boundary_ref(lanes, i, side);
-    let x = lookup::boundary(boundaries, r.boundary)?;
-    let line = lookup::boundary_line(boundaries, x, coordinates);
+    let r = lookup::boundary_ref(map.lanes, i, side);
+    let x = lookup::boundary(map.boundaries, r.boundary)?;
+    let line = lookup::boundary_line(map.boundaries, x, map.coordinates);
     let n = half_line(line, point, second != r.reversed, piece);
     let end = n * POINT;
     Some(lane_lines::put_line(&piece[..end], r.reversed, out))

@@ -13,6 +13,7 @@ ghost use Rattle.split_plan.specs.Placing.{marked_rows};
 ghost use Rattle.split_lists.specs.Changes as D;
 
 use entities::{EntityKind, IssueCode};
+use lent::MapView;
 use report::Notice;
 use tables::{BOUNDARY, JUNCTION, LANE, LEFT_SLOT, NONE, RIGHT_SLOT, ROAD, RULE};
 
@@ -62,45 +63,43 @@ fn list_marked(
     place
 }
 
-pub fn list_modified(
-    lane_marks: &[bool],
-    lanes: &[u64],
-    boundary_marks: &[bool],
-    boundaries: &[u64],
-    road_marks: &[bool],
-    roads: &[u64],
-    junction_marks: &[bool],
-    junctions: &[u64],
-    rule_marks: &[bool],
-    rules: &[u64],
-    modified: &mut [u64],
-)
-    requires { (D.AllListed lane_marks.now boundary_marks.now road_marks.now junction_marks.now rule_marks.now lanes.now boundaries.now roads.now junctions.now rules.now) × (length (D.modified_by lane_marks.now lanes.now boundary_marks.now boundaries.now road_marks.now roads.now junction_marks.now junctions.now rule_marks.now rules.now) * 2 ≤ length modified.old) }
-    ensures { modified.new ≡ R.listed modified.old (D.modified_by lane_marks.now lanes.now boundary_marks.now boundaries.now road_marks.now roads.now junction_marks.now junctions.now rule_marks.now rules.now) }
+// Marks of the rows of five tables.
+#[derive(Clone, Copy)]
+pub struct Marks<'a> {
+    pub lanes: &'a [bool],
+    pub boundaries: &'a [bool],
+    pub roads: &'a [bool],
+    pub junctions: &'a [bool],
+    pub rules: &'a [bool],
+}
+
+pub fn list_modified(map: MapView, marks: Marks, modified: &mut [u64])
+    requires { (D.AllListed marks.lanes.now marks.boundaries.now marks.roads.now marks.junctions.now marks.rules.now map.lanes.now map.boundaries.now map.roads.now map.junctions.now map.rules.now) × (length (D.modified_by marks.lanes.now map.lanes.now marks.boundaries.now map.boundaries.now marks.roads.now map.roads.now marks.junctions.now map.junctions.now marks.rules.now map.rules.now) * 2 ≤ length modified.old) }
+    ensures { modified.new ≡ R.listed modified.old (D.modified_by marks.entry.lanes.now map.entry.lanes.now marks.entry.boundaries.now map.entry.boundaries.now marks.entry.roads.now map.entry.roads.now marks.entry.junctions.now map.entry.junctions.now marks.entry.rules.now map.entry.rules.now) }
 {
-    let a = list_marked(EntityKind::Lane, lanes, LANE, lane_marks, modified, 0);
+    let a = list_marked(EntityKind::Lane, map.lanes, LANE, marks.lanes, modified, 0);
     let b = list_marked(
         EntityKind::Boundary,
-        boundaries,
+        map.boundaries,
         BOUNDARY,
-        boundary_marks,
+        marks.boundaries,
         modified,
         a,
     );
-    let c = list_marked(EntityKind::Road, roads, ROAD, road_marks, modified, b);
+    let c = list_marked(EntityKind::Road, map.roads, ROAD, marks.roads, modified, b);
     let d = list_marked(
         EntityKind::Junction,
-        junctions,
+        map.junctions,
         JUNCTION,
-        junction_marks,
+        marks.junctions,
         modified,
         c,
     );
     list_marked(
         EntityKind::RegulatoryElement,
-        rules,
+        map.rules,
         RULE,
-        rule_marks,
+        marks.rules,
         modified,
         d,
     );

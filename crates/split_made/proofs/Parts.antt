@@ -5,7 +5,7 @@ use mathlib.Core.Path.{◌≡◌, refl, sym, ap, ◌∙◌}
 use Prim.Native.Nat.{ℕ, ◌+◌, ◌*◌, ◌/◌, ◌^◌, ◌≤◌, ◌<◌}
 use native.Mathlib.Omega.{arith}
 use mathlib.Core.Bool.{Bool, true, false, not, ◌&&◌}
-use mathlib.Core.List.{List, []}
+use mathlib.Core.List.{List}
 use lib.Dec.{leb}
 use lib.Ieee.{Float}
 use lib.ListN.{length}
@@ -110,18 +110,11 @@ pub on : (b : Bool) → not b ≡ false → b ≡ true
 on true e = refl
 on false e = sym e
 
--- counting and listing look at no lines
-abbrev unlined : Tables → Tables
-unlined t = tables_of t.lanes t.boundaries t.roads t.junctions t.rules [] [] []
-
 -- an accepted call's end, part by part
 left-same : {u v : Tables} {a b : Noted} (deleted : List ℕ) {q r : Answer} → u ≡ v → a ≡ b → q ≡ r → left u a.created a.modified deleted a.warnings q ≡ left v b.created b.modified deleted b.warnings r
 left-same deleted e f g = rw (e, f, g)
 
 module _ (d : Drawn) (k : Cutting) (anchored past : List Bool) (t : Tables) where
-  pub notable-unlined : Notable d.first d.ids k anchored past t → Notable d.first d.ids k anchored past (unlined t)
-  notable-unlined h = record { modifiable = h.modifiable; pieces = h.pieces; few = h.few; beside = h.beside; ids_are_left = h.ids_are_left; ids_few = h.ids_few; cut_few = h.cut_few }
-
   module _ (created modified deleted warnings : List ℕ) (m : Counts) (me : m ≡ counts_of d.ids k anchored past t) (q : Bool) (qe : q ≡ lists_fit m created modified deleted warnings) where
     abbrev n : Counts
     n = counts_of d.ids k anchored past t
@@ -149,10 +142,10 @@ module _ (d : Drawn) (k : Cutting) (anchored past : List Bool) (t : Tables) wher
       all_placed : (a1 && a2 && a3 && a4) ≡ true
       all_placed = sym placed ∙ h
 
-      pub lists-ask : Notable d.first d.ids k anchored past t → Listable d.first d.ids k anchored past (unlined t) (noted created modified warnings)
+      pub lists-ask : Notable d.first d.ids k anchored past t → Listable d.first d.ids k anchored past t (noted created modified warnings)
       lists-ask f =
           record {
-            notable = notable-unlined f;
+            notable = f;
             created = room n.created (length created) 2 (and-fst a1 a2 (and-fst (a1 && a2) a3 (and-fst (a1 && a2 && a3) a4 all_placed)));
             modified = room n.modified (length modified) 2 (and-snd a1 a2 (and-fst (a1 && a2) a3 (and-fst (a1 && a2 && a3) a4 all_placed)));
             warnings = room n.warnings (length warnings) 10 (and-snd (a1 && a2 && a3) a4 all_placed);

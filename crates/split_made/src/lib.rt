@@ -1,18 +1,18 @@
 // edit/split.rs: a split that is decided: its room by the measures of its lines, then its lists and its tables.
 #![tactic(auto)]
 
-ghost use Rattle.std.specs.Prelude.{◌≡◌, true, false, ◌+◌, ◌^◌, ◌<◌, length, []};
+ghost use Rattle.std.specs.Prelude.{◌≡◌, true, false, ◌+◌, ◌^◌, ◌<◌, length};
 ghost use Rattle.lent.specs.Lent.{map_tables, view_tables, SameSlices, SameLists};
 ghost use Rattle.lists.specs.Rows.{over, row_with};
 ghost use Rattle.lists.specs.Select.{ascending};
 ghost use Rattle.order.specs.Order.{column_of};
-ghost use Rattle.tables.specs.View as S;
 ghost use Rattle.split_lines.specs.Cut as C;
 ghost use Rattle.split_relay.specs.Given.{cutting_by};
 ghost use Rattle.split_made.specs.Made as D;
 
 use entities::Refusal;
 use geometry::Point2;
+use lent::MapView;
 use lists::both;
 use report::{Answer, Change, Counts};
 use split_relay::Cuts;
@@ -77,20 +77,17 @@ pub fn measure(
 // ---- room
 
 // Whether the finished map keeps the limits and the lent lengths, its rows aside.
-pub fn fits(map: lent::MapView, cuts: Cuts, anchored: &[bool]) -> bool
+pub fn fits(map: MapView, cuts: Cuts, anchored: &[bool]) -> bool
     requires { D.Fittable (cutting_by cuts) anchored.now (view_tables map) }
     ensures { result ≡ D.fits_after (cutting_by cuts.entry) anchored.now (view_tables map.entry) }
 {
     let points = split_room::points_after(
-        map.lanes,
+        map,
         cuts.seen,
         cuts.centers,
-        map.boundaries,
         cuts.marks,
         cuts.pieces,
         cuts.lines,
-        map.stop_lines,
-        map.crosswalks,
     );
     let pieces_fit = both(
         split_room::pieces_fit(&cuts.lines[..cuts.many * PIECE]),
@@ -106,40 +103,30 @@ pub fn fits(map: lent::MapView, cuts: Cuts, anchored: &[bool]) -> bool
 // ---- lists
 
 // How many entities and warnings the lists get.
-fn count(
-    drawn: Drawn,
-    lanes: &[u64],
-    boundaries: &[u64],
-    roads: &[u64],
-    junctions: &[u64],
-    rules: &[u64],
-    cuts: Cuts,
-    anchored: &[bool],
-    past: &[bool],
-) -> Counts
-    requires { D.Notable drawn.first drawn.ids (cutting_by cuts) anchored.now past.now (S.tables_of lanes.now boundaries.now roads.now junctions.now rules.now [] [] []) }
-    ensures { result ≡ D.counts_of drawn.ids (cutting_by cuts.entry) anchored.now past.now (S.tables_of lanes.now boundaries.now roads.now junctions.now rules.now [] [] []) }
+fn count(drawn: Drawn, map: MapView, cuts: Cuts, anchored: &[bool], past: &[bool]) -> Counts
+    requires { D.Notable drawn.first drawn.ids (cutting_by cuts) anchored.now past.now (view_tables map) }
+    ensures { result ≡ D.counts_of drawn.ids (cutting_by cuts.entry) anchored.now past.now (view_tables map.entry) }
 {
-    let pieces = cuts.pieces;
     let cut = cuts.cut;
     Counts {
         created: drawn.ids + cut.len(),
-        modified: split_touched::count_modified(
-            lanes, boundaries, roads, junctions, rules, cut, cuts.marks, pieces, anchored, past,
-        ),
+        modified: split_touched::count_modified(map, cuts, anchored, past),
         deleted: 0,
-        warnings: split_lists::count_warnings(pieces, cuts.many, lanes, cuts.seen, cut, cuts.next),
+        warnings: split_lists::count_warnings(
+            cuts.pieces,
+            cuts.many,
+            map.lanes,
+            cuts.seen,
+            cut,
+            cuts.next,
+        ),
     }
 }
 
 // The lists; nothing is deleted.
 fn write_lists(
     drawn: Drawn,
-    lanes: &[u64],
-    boundaries: &[u64],
-    roads: &[u64],
-    junctions: &[u64],
-    rules: &[u64],
+    map: MapView,
     cuts: Cuts,
     anchored: &[bool],
     past: &[bool],
@@ -147,18 +134,20 @@ fn write_lists(
     modified: &mut [u64],
     warnings: &mut [u64],
 )
-    requires { D.Listable drawn.first drawn.ids (cutting_by cuts) anchored.now past.now (S.tables_of lanes.now boundaries.now roads.now junctions.now rules.now [] [] []) (D.noted created.old modified.old warnings.old) }
-    ensures { (D.noted created.new modified.new warnings.new) ≡ D.lists_written drawn.first drawn.ids (cutting_by cuts.entry) anchored.now past.now (S.tables_of lanes.now boundaries.now roads.now junctions.now rules.now [] [] []) (D.noted created.old modified.old warnings.old) }
+    requires { D.Listable drawn.first drawn.ids (cutting_by cuts) anchored.now past.now (view_tables map) (D.noted created.old modified.old warnings.old) }
+    ensures { (D.noted created.new modified.new warnings.new) ≡ D.lists_written drawn.first drawn.ids (cutting_by cuts.entry) anchored.now past.now (view_tables map.entry) (D.noted created.old modified.old warnings.old) }
 {
-    let marks = cuts.marks;
-    let pieces = cuts.pieces;
     let cut = cuts.cut;
     split_lists::list_created(drawn.first, drawn.ids, cut.len(), created);
-    split_touched::list_modified(
-        lanes, boundaries, roads, junctions, rules, cut, marks, pieces, anchored, past, modified,
-    );
+    split_touched::list_modified(map, cuts, anchored, past, modified);
     split_lists::warn(
-        pieces, cuts.many, lanes, cuts.seen, cut, cuts.next, warnings,
+        cuts.pieces,
+        cuts.many,
+        map.lanes,
+        cuts.seen,
+        cut,
+        cuts.next,
+        warnings,
     );
 }
 
@@ -220,24 +209,17 @@ pub fn make(
     ensures same { SameSlices map.old map.new }
     ensures same_lists { SameLists lists.old lists.new }
 {
-    let lanes = &mut *map.lanes;
-    let boundaries = &mut *map.boundaries;
-    let roads = &mut *map.roads;
-    let junctions = &mut *map.junctions;
-    let rules = &mut *map.rules;
     let created = &mut *lists.created;
     let modified = &mut *lists.modified;
     let deleted = &mut *lists.deleted;
     let warnings = &mut *lists.warnings;
-    let counts = count(
-        drawn, lanes, boundaries, roads, junctions, rules, cuts, anchored, past,
-    );
+    let view = map.view();
+    let counts = count(drawn, view, cuts, anchored, past);
     if !room::lists_fit(counts, created, modified, deleted, warnings) {
         return Err(Refusal::NoRoom);
     }
     write_lists(
-        drawn, lanes, boundaries, roads, junctions, rules, cuts, anchored, past, created, modified,
-        warnings,
+        drawn, view, cuts, anchored, past, created, modified, warnings,
     );
     write(map, drawn.points, cuts, anchored, past);
     answer(cuts.cut, drawn.own, cuts.next, counts)

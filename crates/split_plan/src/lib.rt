@@ -10,6 +10,7 @@ ghost use Rattle.split_plan.specs.Placing as P;
 
 use entities::{Refusal, SplitAt};
 use geometry::Point2;
+use lane_lines::Drawable;
 use lists::both;
 use tables::{LANE, POINT};
 
@@ -66,18 +67,16 @@ fn place_on(piece: f64, lane: u64, line: &[f64], at: SplitAt) -> Result<Cut, Ref
 // The same of the lane in row i; `line` is an array of work.
 fn place_in(
     piece: f64,
-    lanes: &[u64],
+    map: Drawable<'_>,
     i: usize,
-    boundaries: &[u64],
-    coordinates: &[f64],
     at: SplitAt,
     line: &mut [f64],
 ) -> Result<Cut, Refusal>
-    requires { (K.Drawable lanes.now boundaries.now coordinates.now) × ((i < word 0 lanes.now) × (768 ≤ length line.old)) }
-    ensures { (result ≡ P.placed piece coordinates.now lanes.now boundaries.now i at) × (line.new ≡ P.line_over line.old (K.center_line coordinates.now lanes.now boundaries.now i)) }
+    requires { (i < word 0 map.lanes.now) × (768 ≤ length line.old) }
+    ensures { (result ≡ P.placed piece map.entry.coordinates.now map.entry.lanes.now map.entry.boundaries.now i at) × (line.new ≡ P.line_over line.old (K.center_line map.entry.coordinates.now map.entry.lanes.now map.entry.boundaries.now i)) }
 {
-    let lane = lanes[1 + i * LANE];
-    let found = lane_lines::centerline(lanes, i, boundaries, coordinates, line);
+    let lane = map.lanes[1 + i * LANE];
+    let found = lane_lines::centerline(map, i, line);
     let Some(n) = found else {
         return Err(Refusal::NoUsableLine(lane));
     };
@@ -85,17 +84,10 @@ fn place_in(
     place_on(piece, lane, &line[..end], at)
 }
 
-pub fn place_cut(
-    piece: f64,
-    lanes: &[u64],
-    i: usize,
-    boundaries: &[u64],
-    coordinates: &[f64],
-    at: SplitAt,
-) -> Result<Cut, Refusal>
-    requires { (K.Drawable lanes.now boundaries.now coordinates.now) × (i < word 0 lanes.now) }
-    ensures { result ≡ P.placed piece coordinates.now lanes.now boundaries.now i at }
+pub fn place_cut(piece: f64, map: Drawable<'_>, i: usize, at: SplitAt) -> Result<Cut, Refusal>
+    requires { i < word 0 map.lanes.now }
+    ensures { result ≡ P.placed piece map.entry.coordinates.now map.entry.lanes.now map.entry.boundaries.now i at }
 {
     let mut line = [0.0; LINE_FLOATS];
-    place_in(piece, lanes, i, boundaries, coordinates, at, &mut line)
+    place_in(piece, map, i, at, &mut line)
 }

@@ -9,6 +9,7 @@ ghost use Rattle.row_tests.specs.Good.{all_rows};
 ghost use Rattle.lookup.specs.Lookup.{row_at};
 ghost use Rattle.split_room.specs.Fitting as D;
 
+use lent::MapView;
 use lists::both;
 use tables::{
     BOUNDARY, BOUNDARY_SIZE, CROSSWALK, CROSSWALK_LEFT_START, CROSSWALK_RIGHT_START, LANE,
@@ -95,24 +96,21 @@ fn lane_points(lanes: &[u64], seen: &[bool], centers: &[u64]) -> usize
 
 // Points of the map after the split.
 pub fn points_after(
-    lanes: &[u64],
+    map: MapView,
     seen: &[bool],
     centers: &[u64],
-    boundaries: &[u64],
     marks: &[bool],
     pieces: &[u64],
     lines: &[u64],
-    stop_lines: &[u64],
-    crosswalks: &[u64],
 ) -> usize
-    requires { D.Counting pieces.now lines.now centers.now marks.now seen.now lanes.now boundaries.now stop_lines.now crosswalks.now }
-    ensures { result ≡ D.points_after pieces.now lines.now centers.now marks.now seen.now lanes.now boundaries.now stop_lines.now crosswalks.now }
+    requires { D.Counting pieces.now lines.now centers.now marks.now seen.now map.lanes.now map.boundaries.now map.stop_lines.now map.crosswalks.now }
+    ensures { result ≡ D.points_after pieces.now lines.now centers.now marks.now seen.now map.entry.lanes.now map.entry.boundaries.now map.entry.stop_lines.now map.entry.crosswalks.now }
 {
-    let old = boundary_points(boundaries, marks, pieces, lines);
-    let between = lane_points(lanes, seen, centers);
-    let stops = room::column_points(stop_lines, STOP_LINE, STOP_LINE_START);
-    let lefts = room::column_points(crosswalks, CROSSWALK, CROSSWALK_LEFT_START);
-    let rights = room::column_points(crosswalks, CROSSWALK, CROSSWALK_RIGHT_START);
+    let old = boundary_points(map.boundaries, marks, pieces, lines);
+    let between = lane_points(map.lanes, seen, centers);
+    let stops = room::column_points(map.stop_lines, STOP_LINE, STOP_LINE_START);
+    let lefts = room::column_points(map.crosswalks, CROSSWALK, CROSSWALK_LEFT_START);
+    let rights = room::column_points(map.crosswalks, CROSSWALK, CROSSWALK_RIGHT_START);
     old + between + stops + (lefts + rights)
 }
 

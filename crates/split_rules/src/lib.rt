@@ -2,7 +2,8 @@
 // lent is written.
 #![tactic(auto)]
 
-ghost use Rattle.std.specs.Prelude.{◌≡◌, true, map, ◌+◌, ◌*◌, ◌≤◌, ◌<◌, length};
+ghost use Rattle.std.specs.Prelude.{◌≡◌, true, ◌+◌, ◌*◌, ◌≤◌, ◌<◌, length};
+ghost use Rattle.std.specs.Prelude.{map as each};
 ghost use Rattle.lists.specs.Rows.{over};
 ghost use Rattle.lists.specs.Select.{ascending};
 ghost use Rattle.tables.specs.View.{word, ids_at};
@@ -11,6 +12,7 @@ ghost use Rattle.lookup.specs.Lookup as K;
 ghost use Rattle.split_rules.specs.Past as D;
 
 use geometry::Point2;
+use lane_lines::Drawable;
 use tables::{RULE, RULE_LANES};
 
 // Marks of a rule, one for each place of its own lanes.
@@ -19,44 +21,31 @@ const MARKS: usize = 64;
 // Whether a lane is cut, and the anchor lies past its cut.
 fn lane_past(
     join: f64,
-    lanes: &[u64],
-    boundaries: &[u64],
-    coordinates: &[f64],
+    map: Drawable<'_>,
     point: Point2,
     cut: &[u64],
     stations: &[f64],
     anchor: Point2,
     id: u64,
 ) -> bool
-    requires { (K.Drawable lanes.now boundaries.now coordinates.now) × ((ascending cut.now ≡ true) × (length cut.now ≤ length stations.now)) }
-    ensures { result ≡ D.lane_past join coordinates.now lanes.now boundaries.now point cut.now stations.now anchor id }
+    requires { (ascending cut.now ≡ true) × (length cut.now ≤ length stations.now) }
+    ensures { result ≡ D.lane_past join map.entry.coordinates.now map.entry.lanes.now map.entry.boundaries.now point cut.now stations.now anchor id }
 {
     let ranked = rank::rank(cut, id);
     let Some(r) = ranked else {
         return false;
     };
-    let found = lookup::lane(lanes, id);
+    let found = lookup::lane(map.lanes, id);
     let Some(i) = found else {
         return false;
     };
-    split_past::past_cut(
-        join,
-        lanes,
-        i,
-        boundaries,
-        coordinates,
-        point,
-        stations[r],
-        anchor,
-    )
+    split_past::past_cut(join, map, i, point, stations[r], anchor)
 }
 
 // The marks of a rule's own lanes, at the front of `past`.
 fn mark_lanes(
     join: f64,
-    lanes: &[u64],
-    boundaries: &[u64],
-    coordinates: &[f64],
+    map: Drawable<'_>,
     point: Point2,
     cut: &[u64],
     stations: &[f64],
@@ -64,21 +53,11 @@ fn mark_lanes(
     ids: &[u64],
     past: &mut [bool],
 )
-    requires { (K.Drawable lanes.now boundaries.now coordinates.now) × ((ascending cut.now ≡ true) × ((length cut.now ≤ length stations.now) × (length ids.now ≤ length past.old))) }
-    ensures { past.new ≡ over past.old 0 (map (D.lane_past join coordinates.now lanes.now boundaries.now point cut.now stations.now anchor) ids.now) }
+    requires { (ascending cut.now ≡ true) × ((length cut.now ≤ length stations.now) × (length ids.now ≤ length past.old)) }
+    ensures { past.new ≡ over past.old 0 (each (D.lane_past join map.entry.coordinates.now map.entry.lanes.now map.entry.boundaries.now point cut.now stations.now anchor) ids.now) }
 {
     for p in 0..ids.len() {
-        past[p] = lane_past(
-            join,
-            lanes,
-            boundaries,
-            coordinates,
-            point,
-            cut,
-            stations,
-            anchor,
-            ids[p],
-        );
+        past[p] = lane_past(join, map, point, cut, stations, anchor, ids[p]);
     }
 }
 
@@ -106,9 +85,7 @@ fn anchor_of(
 // The mark of the rule in row i, and those of its own lanes.
 fn mark_rule(
     join: f64,
-    lanes: &[u64],
-    boundaries: &[u64],
-    coordinates: &[f64],
+    map: Drawable<'_>,
     point: Point2,
     cut: &[u64],
     stations: &[f64],
@@ -118,10 +95,10 @@ fn mark_rule(
     crosswalks: &[u64],
     past: &mut [bool],
 ) -> bool
-    requires { D.MarkingRow coordinates.now lanes.now boundaries.now cut.now stations.now rules.now i stop_lines.now crosswalks.now past.old }
-    ensures { (result ≡ D.is_there (D.anchor_of coordinates.now stop_lines.now crosswalks.now cut.now (K.row_at 330 rules.now i))) × (past.new ≡ over past.old 0 (D.marks_by join coordinates.now lanes.now boundaries.now point cut.now stations.now (D.anchor_of coordinates.now stop_lines.now crosswalks.now cut.now (K.row_at 330 rules.now i)) (ids_at 5 (K.row_at 330 rules.now i)))) }
+    requires { D.MarkingRow map.coordinates.now map.lanes.now map.boundaries.now cut.now stations.now rules.now i stop_lines.now crosswalks.now past.old }
+    ensures { (result ≡ D.is_there (D.anchor_of map.entry.coordinates.now stop_lines.now crosswalks.now cut.now (K.row_at 330 rules.now i))) × (past.new ≡ over past.old 0 (D.marks_by join map.entry.coordinates.now map.entry.lanes.now map.entry.boundaries.now point cut.now stations.now (D.anchor_of map.entry.coordinates.now stop_lines.now crosswalks.now cut.now (K.row_at 330 rules.now i)) (ids_at 5 (K.row_at 330 rules.now i)))) }
 {
-    let found = anchor_of(rules, i, cut, stop_lines, crosswalks, coordinates);
+    let found = anchor_of(rules, i, cut, stop_lines, crosswalks, map.coordinates);
     let Some(anchor) = found else {
         return false;
     };
@@ -129,9 +106,7 @@ fn mark_rule(
     let to = from + rules[from - 1] as usize;
     mark_lanes(
         join,
-        lanes,
-        boundaries,
-        coordinates,
+        map,
         point,
         cut,
         stations,
@@ -145,9 +120,7 @@ fn mark_rule(
 // Those of all rules.
 pub fn mark_rules(
     join: f64,
-    lanes: &[u64],
-    boundaries: &[u64],
-    coordinates: &[f64],
+    map: Drawable<'_>,
     point: Point2,
     cut: &[u64],
     stations: &[f64],
@@ -157,8 +130,8 @@ pub fn mark_rules(
     anchored: &mut [bool],
     past: &mut [bool],
 )
-    requires { D.Marking coordinates.now lanes.now boundaries.now cut.now stations.now rules.now stop_lines.now crosswalks.now anchored.old past.old }
-    ensures { (anchored.new ≡ over anchored.old 0 (D.anchored_by coordinates.now stop_lines.now crosswalks.now cut.now rules.now)) × (past.new ≡ D.past_by join coordinates.now lanes.now boundaries.now point cut.now stations.now stop_lines.now crosswalks.now rules.now past.old) }
+    requires { D.Marking map.coordinates.now map.lanes.now map.boundaries.now cut.now stations.now rules.now stop_lines.now crosswalks.now anchored.old past.old }
+    ensures { (anchored.new ≡ over anchored.old 0 (D.anchored_by map.entry.coordinates.now stop_lines.now crosswalks.now cut.now rules.now)) × (past.new ≡ D.past_by join map.entry.coordinates.now map.entry.lanes.now map.entry.boundaries.now point cut.now stations.now stop_lines.now crosswalks.now rules.now past.old) }
 {
     let n = rules[0] as usize;
     for i in 0..n {
@@ -166,9 +139,7 @@ pub fn mark_rules(
         let last = first + MARKS;
         anchored[i] = mark_rule(
             join,
-            lanes,
-            boundaries,
-            coordinates,
+            map,
             point,
             cut,
             stations,

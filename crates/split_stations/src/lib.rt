@@ -11,6 +11,7 @@ ghost use Rattle.lookup.specs.Lookup as K;
 ghost use Rattle.split_plan.specs.Placing as P;
 
 use entities::Refusal;
+use lane_lines::Drawable;
 use split_plan::Cut;
 use tables::{LANE, POINT};
 
@@ -38,18 +39,16 @@ fn station_on(piece: f64, own: u64, lane: u64, line: &[f64], cut: Cut) -> Result
 fn station_in(
     piece: f64,
     own: u64,
-    lanes: &[u64],
+    map: Drawable<'_>,
     j: usize,
-    boundaries: &[u64],
-    coordinates: &[f64],
     cut: Cut,
     line: &mut [f64],
 ) -> Result<f64, Refusal>
-    requires { (K.Drawable lanes.now boundaries.now coordinates.now) × ((j < word 0 lanes.now) × (768 ≤ length line.old)) }
-    ensures { (result ≡ P.row_station piece coordinates.now boundaries.now own cut (K.row_at 52 lanes.now j)) × (line.new ≡ P.line_over line.old (K.center_line coordinates.now lanes.now boundaries.now j)) }
+    requires { (j < word 0 map.lanes.now) × (768 ≤ length line.old) }
+    ensures { (result ≡ P.row_station piece map.entry.coordinates.now map.entry.boundaries.now own cut (K.row_at 52 map.entry.lanes.now j)) × (line.new ≡ P.line_over line.old (K.center_line map.entry.coordinates.now map.entry.lanes.now map.entry.boundaries.now j)) }
 {
-    let lane = lanes[1 + j * LANE];
-    let found = lane_lines::centerline(lanes, j, boundaries, coordinates, line);
+    let lane = map.lanes[1 + j * LANE];
+    let found = lane_lines::centerline(map, j, line);
     let Some(n) = found else {
         return Err(Refusal::NoUsableLine(lane));
     };
@@ -57,29 +56,12 @@ fn station_in(
     station_on(piece, own, lane, &line[..end], cut)
 }
 
-fn lane_station(
-    piece: f64,
-    own: u64,
-    lanes: &[u64],
-    j: usize,
-    boundaries: &[u64],
-    coordinates: &[f64],
-    cut: Cut,
-) -> Result<f64, Refusal>
-    requires { (K.Drawable lanes.now boundaries.now coordinates.now) × (j < word 0 lanes.now) }
-    ensures { result ≡ P.row_station piece coordinates.now boundaries.now own cut (K.row_at 52 lanes.now j) }
+fn lane_station(piece: f64, own: u64, map: Drawable<'_>, j: usize, cut: Cut) -> Result<f64, Refusal>
+    requires { j < word 0 map.lanes.now }
+    ensures { result ≡ P.row_station piece map.entry.coordinates.now map.entry.boundaries.now own cut (K.row_at 52 map.entry.lanes.now j) }
 {
     let mut line = [0.0; LINE_FLOATS];
-    station_in(
-        piece,
-        own,
-        lanes,
-        j,
-        boundaries,
-        coordinates,
-        cut,
-        &mut line,
-    )
+    station_in(piece, own, map, j, cut, &mut line)
 }
 
 // The marks of the lane in row i, or of its lateral group.
@@ -98,23 +80,21 @@ pub fn choose(lanes: &[u64], i: usize, neighbors: bool, seen: &mut [bool])
 pub fn plan_lanes(
     piece: f64,
     own: u64,
-    lanes: &[u64],
-    boundaries: &[u64],
-    coordinates: &[f64],
+    map: Drawable<'_>,
     place: Cut,
     seen: &[bool],
     cut: &mut [u64],
     stations: &mut [f64],
 ) -> Result<usize, Refusal>
-    requires { (K.Drawable lanes.now boundaries.now coordinates.now) × ((word 0 lanes.now ≤ length seen.now) × ((word 0 lanes.now ≤ length cut.old) × (word 0 lanes.now ≤ length stations.old))) }
-    ensures { (result ≡ P.stations_told (P.all_of (P.row_station piece coordinates.now boundaries.now own place) (P.marked_rows seen.now lanes.now))) × ((cut.new ≡ over cut.old 0 (P.group_cut piece coordinates.now lanes.now boundaries.now own place seen.now)) × (stations.new ≡ over stations.old 0 (P.group_stations piece coordinates.now lanes.now boundaries.now own place seen.now))) }
+    requires { (word 0 map.lanes.now ≤ length seen.now) × ((word 0 map.lanes.now ≤ length cut.old) × (word 0 map.lanes.now ≤ length stations.old)) }
+    ensures { (result ≡ P.stations_told (P.all_of (P.row_station piece map.entry.coordinates.now map.entry.boundaries.now own place) (P.marked_rows seen.now map.entry.lanes.now))) × ((cut.new ≡ over cut.old 0 (P.group_cut piece map.entry.coordinates.now map.entry.lanes.now map.entry.boundaries.now own place seen.now)) × (stations.new ≡ over stations.old 0 (P.group_stations piece map.entry.coordinates.now map.entry.lanes.now map.entry.boundaries.now own place seen.now))) }
 {
-    let n = lanes[0] as usize;
+    let n = map.lanes[0] as usize;
     let mut count = 0;
     for j in 0..n {
         if seen[j] {
-            let station = lane_station(piece, own, lanes, j, boundaries, coordinates, place)?;
-            cut[count] = lanes[1 + j * LANE];
+            let station = lane_station(piece, own, map, j, place)?;
+            cut[count] = map.lanes[1 + j * LANE];
             stations[count] = station;
             count += 1;
         }

@@ -13,7 +13,7 @@ use Rattle.report.specs.Report.{listed}
 use Rattle.split_plan.specs.Placing.{picked}
 use Rattle.split_marks.specs.Touched.{marked}
 use Rattle.split_lists.specs.Changes.{marked_ids, modified_by}
-use Rattle.split_touched.specs.Modified.{Rows, Marks, blank, Told, touched_by, listed_by, modified_of, AllRows}
+use Rattle.split_touched.specs.Modified.{Rows, Marks, AsLong, blank, Told, touched_by, listed_by, modified_of, AllRows}
 
 -- ---- as many as marks
 
@@ -72,15 +72,14 @@ module _ (k : Told) (t : Rows) (w : Marks) (found : w ≡ touched_by k t blank) 
   listed-told m v e = e ∙ ap (λ x. listed m (listed_by t x)) found
 
 -- marks of the same lengths serve as well
-pub rows-listed : (t : Rows) (v w : Marks) → length v.lanes ≡ length w.lanes → length v.boundaries ≡ length w.boundaries → length v.roads ≡ length w.roads → length v.junctions ≡ length w.junctions
-    → length v.rules ≡ length w.rules → AllRows t v → AllRows t w
-rows-listed t v w p q r s u h =
+pub rows-listed : (t : Rows) (v w : Marks) → AsLong v w → AllRows t v → AllRows t w
+rows-listed t v w s h =
     record {
-      lanes_listed = record { some_words = h.lanes_listed.some_words; narrow = h.lanes_listed.narrow; few = h.lanes_listed.few; counts = h.lanes_listed.counts; marks_there = omega (arith, h.lanes_listed.marks_there) };
+      lanes_listed = record { some_words = h.lanes_listed.some_words; narrow = h.lanes_listed.narrow; few = h.lanes_listed.few; counts = h.lanes_listed.counts; marks_there = omega (arith, h.lanes_listed.marks_there, s.lanes) };
       boundaries_listed =
-          record { some_words = h.boundaries_listed.some_words; narrow = h.boundaries_listed.narrow; few = h.boundaries_listed.few; counts = h.boundaries_listed.counts; marks_there = omega (arith, h.boundaries_listed.marks_there) };
-      roads_listed = record { some_words = h.roads_listed.some_words; narrow = h.roads_listed.narrow; few = h.roads_listed.few; counts = h.roads_listed.counts; marks_there = omega (arith, h.roads_listed.marks_there) };
+          record { some_words = h.boundaries_listed.some_words; narrow = h.boundaries_listed.narrow; few = h.boundaries_listed.few; counts = h.boundaries_listed.counts; marks_there = omega (arith, h.boundaries_listed.marks_there, s.boundaries) };
+      roads_listed = record { some_words = h.roads_listed.some_words; narrow = h.roads_listed.narrow; few = h.roads_listed.few; counts = h.roads_listed.counts; marks_there = omega (arith, h.roads_listed.marks_there, s.roads) };
       junctions_listed =
-          record { some_words = h.junctions_listed.some_words; narrow = h.junctions_listed.narrow; few = h.junctions_listed.few; counts = h.junctions_listed.counts; marks_there = omega (arith, h.junctions_listed.marks_there) };
-      rules_listed = record { some_words = h.rules_listed.some_words; narrow = h.rules_listed.narrow; few = h.rules_listed.few; counts = h.rules_listed.counts; marks_there = omega (arith, h.rules_listed.marks_there) };
+          record { some_words = h.junctions_listed.some_words; narrow = h.junctions_listed.narrow; few = h.junctions_listed.few; counts = h.junctions_listed.counts; marks_there = omega (arith, h.junctions_listed.marks_there, s.junctions) };
+      rules_listed = record { some_words = h.rules_listed.some_words; narrow = h.rules_listed.narrow; few = h.rules_listed.few; counts = h.rules_listed.counts; marks_there = omega (arith, h.rules_listed.marks_there, s.rules) };
     }

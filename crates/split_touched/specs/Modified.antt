@@ -33,6 +33,14 @@ pub record Marks : Type 0 where
 abbrev pub marks_of : List Bool → List Bool → List Bool → List Bool → List Bool → Marks
 marks_of lanes boundaries roads junctions rules = record { lanes = lanes; boundaries = boundaries; roads = roads; junctions = junctions; rules = rules }
 
+-- w has as many marks as v
+pub record AsLong (v w : Marks) : Type 0 where
+  pub lanes : length w.lanes ≡ length v.lanes
+  pub boundaries : length w.boundaries ≡ length v.boundaries
+  pub roads : length w.roads ≡ length v.roads
+  pub junctions : length w.junctions ≡ length v.junctions
+  pub rules : length w.rules ≡ length v.rules
+
 -- where nothing is marked yet
 abbrev pub blank : Marks
 blank = marks_of (replicate max_lanes false) (replicate max_boundaries false) (replicate max_roads false) (replicate max_junctions false) (replicate max_rules false)

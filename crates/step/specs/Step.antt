@@ -3,6 +3,10 @@ use Rattle.std.specs.Prelude.{ℕ, ◌/◌, cond, List, length, Float, Option, E
 use Rattle.entities.specs.Records.{Map, ChangeSet}
 use Rattle.lent.specs.declared.Map as M
 use Rattle.lent.specs.declared.Lists as L
+use Rattle.lent.specs.declared.RelinkMap.{RelinkMap}
+use Rattle.lent.specs.declared.RelinkLists.{RelinkLists}
+use Rattle.lent.specs.declared.RemovalMap.{RemovalMap}
+use Rattle.lent.specs.declared.RemovalLists.{RemovalLists}
 use Rattle.rules.specs.Names.{Tolerance, Refusal, Unsound}
 use Rattle.rules.specs.Sound.{Lists}
 use Rattle.rules.specs.Ops as O
@@ -98,6 +102,13 @@ lent_of counter lanes boundaries roads junctions rules stops crosswalks coordina
 -- the same of a map and lists that are one value each
 abbrev pub given : ℕ → M.Map → L.Lists → Lent
 given counter m l = lent_of counter m.lanes.now m.boundaries.now m.roads.now m.junctions.now m.rules.now m.stop_lines.now m.crosswalks.now m.coordinates.now l.created.now l.modified.now l.deleted.now l.warnings.now
+
+-- and where an edit borrows those of them that it leaves to read
+abbrev pub relink_given : ℕ → RelinkMap → RelinkLists → Lent
+relink_given counter m l = lent_of counter m.lanes.now m.boundaries.now m.roads.now m.junctions.now m.rules.now m.stop_lines.now m.crosswalks.now m.coordinates.now l.created.now l.modified.now l.deleted.now l.warnings.now
+
+abbrev pub removal_given : ℕ → RemovalMap → RemovalLists → Lent
+removal_given counter m l = lent_of counter m.lanes.now m.boundaries.now m.roads.now m.junctions.now m.rules.now m.stop_lines.now m.crosswalks.now m.coordinates.now l.created.now l.modified.now l.deleted.now l.warnings.now
 
 abbrev pub ended : Lent → Answer → Ended
 ended l a = record { lent = l; answer = a }

@@ -47,13 +47,11 @@ pub struct Told {
 
 // ---- a command
 
-fn word(row: &[u64], k: usize) -> u64
+// A word of a row, or 0 past its end.
+pub fn word(row: &[u64], k: usize) -> u64
     ensures { result ≡ View.word k row.now }
 {
-    if k < row.len() {
-        return row[k];
-    }
-    0
+    row.get(k).copied().unwrap_or(0)
 }
 
 fn split_at_of(kind: u64, bits: u64) -> SplitAt

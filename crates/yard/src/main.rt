@@ -18,7 +18,7 @@ use tables::{
     LEFT_SLOT, POINT, PREDECESSORS, RIGHT_SLOT, RULE_KIND, RULE_LANES, RULE_STOP_LINES,
     STOP_LINE_RULE, STOP_LINE_SIZE, STOP_LINE_START, SUCCESSORS,
 };
-use words::{COMMAND, CONNECT, DISCONNECT, MERGE, REMOVE, SET_NEIGHBOR, SPLIT};
+use words::{COMMAND, CONNECT, DISCONNECT, MERGE, REMOVE, SET_NEIGHBOR, SPLIT, word};
 
 // ---- calls
 
@@ -637,13 +637,6 @@ fn next(rt: &impl Print, n: u64) -> io::Result<()> {
     number(rt, n)
 }
 
-fn word(list: &[u64], i: usize) -> u64 {
-    if i < list.len() {
-        return list[i];
-    }
-    0
-}
-
 // The words of a list from one place to another.
 fn each_word(rt: &impl Print, list: &[u64], from: usize, to: usize) -> io::Result<()> {
     for i in from..to {
@@ -777,6 +770,7 @@ fn warning(rt: &impl Print, list: &[u64], at: usize) -> io::Result<()>
     next(rt, word(list, at + FIX))
 }
 
+// An answer's lists lie at the front of those that are lent, as C lends them, so their numbers go beside them.
 fn each_warning(rt: &impl Print, list: &[u64], n: usize) -> io::Result<()> {
     let rows = n.min(list.len() / WARNING);
     for i in 0..rows {
@@ -1106,50 +1100,30 @@ fn apply_job(
     area: &mut Map,
     lists: &mut Lists,
 ) -> JobEnd {
-    let lanes = &mut *map.lanes;
-    let boundaries = &mut *map.boundaries;
-    let roads = &mut *map.roads;
-    let junctions = &mut *map.junctions;
-    let rules = &mut *map.rules;
-    let stop_lines = &mut *map.stop_lines;
-    let crosswalks = &mut *map.crosswalks;
-    let coordinates = &mut *map.coordinates;
-    let old_lanes = &mut *area.lanes;
-    let old_boundaries = &mut *area.boundaries;
-    let old_roads = &mut *area.roads;
-    let old_junctions = &mut *area.junctions;
-    let old_rules = &mut *area.rules;
-    let old_stop_lines = &mut *area.stop_lines;
-    let old_crosswalks = &mut *area.crosswalks;
-    let old_coordinates = &mut *area.coordinates;
-    let created = &mut *lists.created;
-    let modified = &mut *lists.modified;
-    let deleted = &mut *lists.deleted;
-    let warnings = &mut *lists.warnings;
     job::apply(
         counter,
         Tolerance::preset(),
-        lanes,
-        boundaries,
-        roads,
-        junctions,
-        rules,
-        stop_lines,
-        crosswalks,
-        coordinates,
+        &mut *map.lanes,
+        &mut *map.boundaries,
+        &mut *map.roads,
+        &mut *map.junctions,
+        &mut *map.rules,
+        &mut *map.stop_lines,
+        &mut *map.crosswalks,
+        &mut *map.coordinates,
         job_words::job_of(rows),
-        old_lanes,
-        old_boundaries,
-        old_roads,
-        old_junctions,
-        old_rules,
-        old_stop_lines,
-        old_crosswalks,
-        old_coordinates,
-        created,
-        modified,
-        deleted,
-        warnings,
+        &mut *area.lanes,
+        &mut *area.boundaries,
+        &mut *area.roads,
+        &mut *area.junctions,
+        &mut *area.rules,
+        &mut *area.stop_lines,
+        &mut *area.crosswalks,
+        &mut *area.coordinates,
+        &mut *lists.created,
+        &mut *lists.modified,
+        &mut *lists.deleted,
+        &mut *lists.warnings,
     )
 }
 

@@ -11,13 +11,13 @@ pub returns-in-MergeLanes-clause-made : goal.returns-in-MergeLanes-clause-made
 returns-in-MergeLanes-clause-made c = made_as c.args.tolerance (given c.args.counter c.args.map.now c.args.lists.now) c.args.command _ _ c.in-MergeLanes.is c.merge_lanes.ensures.made
 
 pub returns-in-ConnectLanes-clause-made : goal.returns-in-ConnectLanes-clause-made
-returns-in-ConnectLanes-clause-made c = made c.args.tolerance (given c.args.counter c.args.map.now c.args.lists.now) c.args.command _ _ c.connect.result c.in-ConnectLanes.is c.connect.ensures.made
+returns-in-ConnectLanes-clause-made c = made c.args.tolerance (given c.args.counter c.args.map.now c.args.lists.now) c.args.command _ _ c.edit_links.result c.in-ConnectLanes.is c.edit_links.ensures.made
 
 pub returns-in-DisconnectLanes-clause-made : goal.returns-in-DisconnectLanes-clause-made
-returns-in-DisconnectLanes-clause-made c = made c.args.tolerance (given c.args.counter c.args.map.now c.args.lists.now) c.args.command _ _ c.disconnect.result c.in-DisconnectLanes.is c.disconnect.ensures.made
+returns-in-DisconnectLanes-clause-made c = made c.args.tolerance (given c.args.counter c.args.map.now c.args.lists.now) c.args.command _ _ c.edit_links-in-DisconnectLanes.result c.in-DisconnectLanes.is c.edit_links-in-DisconnectLanes.ensures.made
 
 pub returns-in-SetNeighbor-clause-made : goal.returns-in-SetNeighbor-clause-made
-returns-in-SetNeighbor-clause-made c = made c.args.tolerance (given c.args.counter c.args.map.now c.args.lists.now) c.args.command _ _ c.set_neighbor.result c.in-SetNeighbor.is c.set_neighbor.ensures.made
+returns-in-SetNeighbor-clause-made c = made c.args.tolerance (given c.args.counter c.args.map.now c.args.lists.now) c.args.command _ _ c.edit_links-in-SetNeighbor.result c.in-SetNeighbor.is c.edit_links-in-SetNeighbor.ensures.made
 
 pub returns-in-RemoveLane-clause-made : goal.returns-in-RemoveLane-clause-made
-returns-in-RemoveLane-clause-made c = made c.args.tolerance (given c.args.counter c.args.map.now c.args.lists.now) c.args.command _ _ c.remove_lane.result c.in-RemoveLane.is c.remove_lane.ensures.made
+returns-in-RemoveLane-clause-made c = made c.args.tolerance (given c.args.counter c.args.map.now c.args.lists.now) c.args.command _ _ c.remove.result c.in-RemoveLane.is c.remove.ensures.made

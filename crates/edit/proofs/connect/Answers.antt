@@ -1,8 +1,8 @@
 -- `edit::connect` meets its contract. Assumes nothing.
 use native.Mathlib.Omega.{arith}
 use Rattle.tables.specs.View.{Tables}
-use Rattle.step.specs.Step.{Lent, given}
-use Rattle.lent.specs.Lent.{map_tables}
+use Rattle.step.specs.Step.{Lent, relink_given}
+use Rattle.lent.specs.Lent.{relink_tables}
 use Rattle.edit.proofs.Connects.{connect-first-absent, connect-second-absent, connect-itself}
 use Rattle.sound_facts.proofs.Found.{found, missing, lanes_are_sorted, leads-may}
 use Rattle.edit.proofs.Ends.{gap-may, link-may, connected}
@@ -11,10 +11,10 @@ use Rattle.edit.proofs.connect.Goals.{Start}
 
 -- what is lent
 abbrev held : Start → Tables
-held s = map_tables s.args.map.now
+held s = relink_tables s.args.map.now
 
 abbrev lent : Start → Lent
-lent s = given s.args.counter s.args.map.now s.args.lists.now
+lent s = relink_given s.args.counter s.args.map.now s.args.lists.now
 
 pub lane-found-requires : goal.lane-found-requires
 lane-found-requires c = lanes_are_sorted c.args.counter (held (goal.at.lane-found-requires c).Start) c.requires

@@ -36,9 +36,12 @@ mergeable-requires c = let s = c in (lanes_are_sorted s.args.counter (map_tables
 pub returns-then-not-mergeable-clause-made : goal.returns-then-not-mergeable-clause-made
 returns-then-not-mergeable-clause-made c = let s = c in unfit s.args.tolerance (given s.args.counter s.args.map.now s.args.lists.now) s.requires s.args.first s.args.second c.in-Some.i (found s.args.map.now.lanes.now s.args.first c.in-Some.i c.lane-found.result c.lane-found.ensures c.in-Some.is) c.in-Some-other.j (found s.args.map.now.lanes.now s.args.second c.in-Some-other.j c.lane-other.result c.lane-other.ensures c.in-Some-other.is) (sym c.mergeable.ensures ∙ off c.mergeable.result (ap not c.if-not-mergeable.true))
 
+pub invariant_of-drawable : goal.invariant_of-drawable
+invariant_of-drawable c = let s = c in record { drawable = (facts s.args.counter (map_tables s.args.map.now) s.requires).drawable }
+
 -- src/lib.rt:320:9
 pub decide-requires : goal.decide-requires
-decide-requires c = let s = c in ((facts s.args.counter (map_tables s.args.map.now) s.requires).drawable, ((place-within 52 s.args.map.now.lanes.now s.args.first c.in-Some.i (found s.args.map.now.lanes.now s.args.first c.in-Some.i c.lane-found.result c.lane-found.ensures c.in-Some.is)), (place-within 52 s.args.map.now.lanes.now s.args.second c.in-Some-other.j (found s.args.map.now.lanes.now s.args.second c.in-Some-other.j c.lane-other.result c.lane-other.ensures c.in-Some-other.is))))
+decide-requires c = let s = c in ((place-within 52 s.args.map.now.lanes.now s.args.first c.in-Some.i (found s.args.map.now.lanes.now s.args.first c.in-Some.i c.lane-found.result c.lane-found.ensures c.in-Some.is)), (place-within 52 s.args.map.now.lanes.now s.args.second c.in-Some-other.j (found s.args.map.now.lanes.now s.args.second c.in-Some-other.j c.lane-other.result c.lane-other.ensures c.in-Some-other.is)))
 
 -- src/lib.rt:323:34
 pub merge_found-requires : goal.merge_found-requires

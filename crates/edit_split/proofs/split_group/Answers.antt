@@ -14,9 +14,12 @@ use Rattle.edit_split.proofs.split_group.Goals as goal
 pub choose-requires : goal.choose-requires
 choose-requires c = let s = c in (s.requires.search, (s.requires.row, (length-replicate 1024 false, unset 1024)))
 
+pub invariant_of-drawable : goal.invariant_of-drawable
+invariant_of-drawable c = record { drawable = c.requires.drawable }
+
 -- src/lib.rt:490:9
 pub plan_lanes-requires : goal.plan_lanes-requires
-plan_lanes-requires c = let s = c in (s.requires.drawable, (marks_there s.args.i s.args.neighbors (tables_of s.args.map.now.lanes.now s.args.map.now.boundaries.now s.args.map.now.roads.now s.args.map.now.junctions.now s.args.map.now.rules.now s.args.map.now.stop_lines.now s.args.map.now.crosswalks.now s.args.map.now.coordinates.now) c.choose.new.seen c.choose.ensures s.requires.rows, (omega (arith, s.requires.rows, length-replicate {A = ℕ} 1024 0), omega (arith, s.requires.rows, length-replicate {A = Float} 1024 (of_bits binary64 0)))))
+plan_lanes-requires c = let s = c in (marks_there s.args.i s.args.neighbors (tables_of s.args.map.now.lanes.now s.args.map.now.boundaries.now s.args.map.now.roads.now s.args.map.now.junctions.now s.args.map.now.rules.now s.args.map.now.stop_lines.now s.args.map.now.crosswalks.now s.args.map.now.coordinates.now) c.choose.new.seen c.choose.ensures s.requires.rows, (omega (arith, s.requires.rows, length-replicate {A = ℕ} 1024 0), omega (arith, s.requires.rows, length-replicate {A = Float} 1024 (of_bits binary64 0))))
 
 -- src/lib.rt:517:13
 pub slice_bounds-ids-end : goal.slice_bounds-ids-end

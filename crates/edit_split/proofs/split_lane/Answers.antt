@@ -16,9 +16,12 @@ lane-found-requires c = let s = c in lanes_are_sorted s.args.counter (tables_of 
 pub returns-in_default-clause-made : goal.returns-in_default-clause-made
 returns-in_default-clause-made c = let s = c in absent s.args.tolerance (lent_of s.args.counter s.args.map.now.lanes.now s.args.map.now.boundaries.now s.args.map.now.roads.now s.args.map.now.junctions.now s.args.map.now.rules.now s.args.map.now.stop_lines.now s.args.map.now.crosswalks.now s.args.map.now.coordinates.now s.args.lists.now.created.now s.args.lists.now.modified.now s.args.lists.now.deleted.now s.args.lists.now.warnings.now) s.requires s.args.lane s.args.at s.args.neighbors (missing s.args.map.now.lanes.now s.args.lane c.lane-found.result c.lane-found.ensures c.in_default.is)
 
+pub invariant_of-drawable : goal.invariant_of-drawable
+invariant_of-drawable c = let s = c in record { drawable = (facts s.args.counter (tables_of s.args.map.now.lanes.now s.args.map.now.boundaries.now s.args.map.now.roads.now s.args.map.now.junctions.now s.args.map.now.rules.now s.args.map.now.stop_lines.now s.args.map.now.crosswalks.now s.args.map.now.coordinates.now) s.requires).drawable }
+
 -- src/lib.rt:554:9
 pub place_cut-requires : goal.place_cut-requires
-place_cut-requires c = let s = c in ((facts s.args.counter (tables_of s.args.map.now.lanes.now s.args.map.now.boundaries.now s.args.map.now.roads.now s.args.map.now.junctions.now s.args.map.now.rules.now s.args.map.now.stop_lines.now s.args.map.now.crosswalks.now s.args.map.now.coordinates.now) s.requires).drawable, place-within 52 s.args.map.now.lanes.now s.args.lane c.in-Some.i (found s.args.map.now.lanes.now s.args.lane c.in-Some.i c.lane-found.result c.lane-found.ensures c.in-Some.is))
+place_cut-requires c = let s = c in place-within 52 s.args.map.now.lanes.now s.args.lane c.in-Some.i (found s.args.map.now.lanes.now s.args.lane c.in-Some.i c.lane-found.result c.lane-found.ensures c.in-Some.is)
 
 -- src/lib.rt:557:30
 pub split_group-requires : goal.split_group-requires

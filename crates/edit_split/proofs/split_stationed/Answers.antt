@@ -4,9 +4,12 @@ use Rattle.report.specs.Report.{counter_behind}
 use Rattle.edit_split.proofs.Ends.{uncrossed, crossed-asks, crossed}
 use Rattle.edit_split.proofs.split_stationed.Goals as goal
 
+pub invariant_of-drawable : goal.invariant_of-drawable
+invariant_of-drawable c = record { drawable = c.requires.drawable }
+
 -- src/lib.rt:435:9
 pub cross_all-requires : goal.cross_all-requires
-cross_all-requires c = let s = c in (s.requires.drawable, s.requires.marks)
+cross_all-requires c = c.requires.marks
 
 -- src/lib.rt:438:25
 pub split_planned-requires : goal.split_planned-requires

@@ -61,110 +61,47 @@ module _ (s : Start) where
       kind-written s.args.kept s.args.marks.now s.args.out.now s.requires.1.1.0 s.requires.1.1.1 m max_rules rule_words rule_marks (held s).rules (other s).rules (rules-sorted (held s) s.requires.0) (omega arith) RuleKind _ _ e
 
 -- ---- the needs
-pub list_ids-lanes_end-requires : goal.list_ids-lanes_end-requires
-list_ids-lanes_end-requires c =
-    let s = (goal.at.list_ids-lanes_end-requires c).Start in
+pub list_table-a-requires : goal.list_table-a-requires
+list_table-a-requires c =
+    let s = (goal.at.list_table-a-requires c).Start in
     kind-may s.args.kept s.args.marks.now s.args.out.now s.requires.1.1.0 s.requires.1.1.1 (written_none s.args.out.now) max_lanes lane_words lane_marks (held s).lanes (other s).lanes (lanes_are_sorted (held s) s.requires.0) (omega arith) (omega arith) (omega arith) (omega arith) (lanes_are_sorted (other s) s.requires.1.0)
 
-pub list_ids-boundaries_end-requires : goal.list_ids-boundaries_end-requires
-list_ids-boundaries_end-requires c =
-    let s = (goal.at.list_ids-boundaries_end-requires c).Start in
-    kind-may s.args.kept s.args.marks.now s.args.out.now s.requires.1.1.0 s.requires.1.1.1 (lanes s c.list_ids-lanes_end.ensures) max_boundaries boundary_words boundary_marks (held s).boundaries (other s).boundaries (boundaries_are_sorted (held s) s.requires.0) (omega arith) (omega arith) (omega arith) (omega arith) (boundaries_are_sorted (other s) s.requires.1.0)
+pub list_table-b-requires : goal.list_table-b-requires
+list_table-b-requires c =
+    let s = (goal.at.list_table-b-requires c).Start in
+    kind-may s.args.kept s.args.marks.now s.args.out.now s.requires.1.1.0 s.requires.1.1.1 (lanes s c.list_table-a.ensures) max_boundaries boundary_words boundary_marks (held s).boundaries (other s).boundaries (boundaries_are_sorted (held s) s.requires.0) (omega arith) (omega arith) (omega arith) (omega arith) (boundaries_are_sorted (other s) s.requires.1.0)
 
-pub list_ids-roads_end-requires : goal.list_ids-roads_end-requires
-list_ids-roads_end-requires c =
-    let s = (goal.at.list_ids-roads_end-requires c).Start in
-    kind-may s.args.kept s.args.marks.now s.args.out.now s.requires.1.1.0 s.requires.1.1.1 (boundaries s (lanes s c.list_ids-lanes_end.ensures) c.list_ids-boundaries_end.ensures) max_roads road_words road_marks (held s).roads (other s).roads (roads-sorted (held s) s.requires.0) (omega arith) (omega arith) (omega arith) (omega arith) (roads-sorted (other s) s.requires.1.0)
+pub list_table-c-requires : goal.list_table-c-requires
+list_table-c-requires c =
+    let s = (goal.at.list_table-c-requires c).Start in
+    kind-may s.args.kept s.args.marks.now s.args.out.now s.requires.1.1.0 s.requires.1.1.1 (boundaries s (lanes s c.list_table-a.ensures) c.list_table-b.ensures) max_roads road_words road_marks (held s).roads (other s).roads (roads-sorted (held s) s.requires.0) (omega arith) (omega arith) (omega arith) (omega arith) (roads-sorted (other s) s.requires.1.0)
 
-pub list_ids-junctions_end-requires : goal.list_ids-junctions_end-requires
-list_ids-junctions_end-requires c =
-    let s = (goal.at.list_ids-junctions_end-requires c).Start in
-    kind-may s.args.kept s.args.marks.now s.args.out.now s.requires.1.1.0 s.requires.1.1.1 (roads s (boundaries s (lanes s c.list_ids-lanes_end.ensures) c.list_ids-boundaries_end.ensures) c.list_ids-roads_end.ensures) max_junctions junction_words junction_marks (held s).junctions (other s).junctions (junctions-sorted (held s) s.requires.0) (omega arith) (omega arith) (omega arith) (omega arith) (junctions-sorted (other s) s.requires.1.0)
+pub list_table-d-requires : goal.list_table-d-requires
+list_table-d-requires c =
+    let s = (goal.at.list_table-d-requires c).Start in
+    kind-may s.args.kept s.args.marks.now s.args.out.now s.requires.1.1.0 s.requires.1.1.1 (roads s (boundaries s (lanes s c.list_table-a.ensures) c.list_table-b.ensures) c.list_table-c.ensures) max_junctions junction_words junction_marks (held s).junctions (other s).junctions (junctions-sorted (held s) s.requires.0) (omega arith) (omega arith) (omega arith) (omega arith) (junctions-sorted (other s) s.requires.1.0)
 
-pub list_ids-stop_lines_end-requires : goal.list_ids-stop_lines_end-requires
-list_ids-stop_lines_end-requires c =
-    let s = (goal.at.list_ids-stop_lines_end-requires c).Start in
-    kind-may s.args.kept s.args.marks.now s.args.out.now s.requires.1.1.0 s.requires.1.1.1 (junctions s (roads s (boundaries s (lanes s c.list_ids-lanes_end.ensures) c.list_ids-boundaries_end.ensures) c.list_ids-roads_end.ensures) c.list_ids-junctions_end.ensures) max_stop_lines stop_line_words stop_line_marks (held s).stop_lines (other s).stop_lines (stop-lines-sorted (held s) s.requires.0) (omega arith) (omega arith) (omega arith) (omega arith) (stop-lines-sorted (other s) s.requires.1.0)
+pub list_table-e-requires : goal.list_table-e-requires
+list_table-e-requires c =
+    let s = (goal.at.list_table-e-requires c).Start in
+    kind-may s.args.kept s.args.marks.now s.args.out.now s.requires.1.1.0 s.requires.1.1.1 (junctions s (roads s (boundaries s (lanes s c.list_table-a.ensures) c.list_table-b.ensures) c.list_table-c.ensures) c.list_table-d.ensures) max_stop_lines stop_line_words stop_line_marks (held s).stop_lines (other s).stop_lines (stop-lines-sorted (held s) s.requires.0) (omega arith) (omega arith) (omega arith) (omega arith) (stop-lines-sorted (other s) s.requires.1.0)
 
-pub list_ids-crosswalks_end-requires : goal.list_ids-crosswalks_end-requires
-list_ids-crosswalks_end-requires c =
-    let s = (goal.at.list_ids-crosswalks_end-requires c).Start in
-    kind-may s.args.kept s.args.marks.now s.args.out.now s.requires.1.1.0 s.requires.1.1.1 (stop_lines s (junctions s (roads s (boundaries s (lanes s c.list_ids-lanes_end.ensures) c.list_ids-boundaries_end.ensures) c.list_ids-roads_end.ensures) c.list_ids-junctions_end.ensures) c.list_ids-stop_lines_end.ensures) max_crosswalks crosswalk_words crosswalk_marks (held s).crosswalks (other s).crosswalks (crosswalks_are_sorted (held s) s.requires.0) (omega arith) (omega arith) (omega arith) (omega arith) (crosswalks_are_sorted (other s) s.requires.1.0)
+pub list_table-f-requires : goal.list_table-f-requires
+list_table-f-requires c =
+    let s = (goal.at.list_table-f-requires c).Start in
+    kind-may s.args.kept s.args.marks.now s.args.out.now s.requires.1.1.0 s.requires.1.1.1 (stop_lines s (junctions s (roads s (boundaries s (lanes s c.list_table-a.ensures) c.list_table-b.ensures) c.list_table-c.ensures) c.list_table-d.ensures) c.list_table-e.ensures) max_crosswalks crosswalk_words crosswalk_marks (held s).crosswalks (other s).crosswalks (crosswalks_are_sorted (held s) s.requires.0) (omega arith) (omega arith) (omega arith) (omega arith) (crosswalks_are_sorted (other s) s.requires.1.0)
 
-pub list_ids-requires : goal.list_ids-requires
-list_ids-requires c =
-    let s = (goal.at.list_ids-requires c).Start in
-    kind-may s.args.kept s.args.marks.now s.args.out.now s.requires.1.1.0 s.requires.1.1.1 (crosswalks s (stop_lines s (junctions s (roads s (boundaries s (lanes s c.list_ids-lanes_end.ensures) c.list_ids-boundaries_end.ensures) c.list_ids-roads_end.ensures) c.list_ids-junctions_end.ensures) c.list_ids-stop_lines_end.ensures) c.list_ids-crosswalks_end.ensures) max_rules rule_words rule_marks (held s).rules (other s).rules (rules-sorted (held s) s.requires.0) (omega arith) (omega arith) (omega arith) (omega arith) (rules-sorted (other s) s.requires.1.0)
+pub list_table-requires : goal.list_table-requires
+list_table-requires c =
+    let s = (goal.at.list_table-requires c).Start in
+    kind-may s.args.kept s.args.marks.now s.args.out.now s.requires.1.1.0 s.requires.1.1.1 (crosswalks s (stop_lines s (junctions s (roads s (boundaries s (lanes s c.list_table-a.ensures) c.list_table-b.ensures) c.list_table-c.ensures) c.list_table-d.ensures) c.list_table-e.ensures) c.list_table-f.ensures) max_rules rule_words rule_marks (held s).rules (other s).rules (rules-sorted (held s) s.requires.0) (omega arith) (omega arith) (omega arith) (omega arith) (rules-sorted (other s) s.requires.1.0)
 
 pub shape_of-out : goal.shape_of-out
 shape_of-out c =
     let s = (goal.at.shape_of-out c).Start in
-    written-length s.args.out.now s.requires.1.1.1 (rules s (crosswalks s (stop_lines s (junctions s (roads s (boundaries s (lanes s c.list_ids-lanes_end.ensures) c.list_ids-boundaries_end.ensures) c.list_ids-roads_end.ensures) c.list_ids-junctions_end.ensures) c.list_ids-stop_lines_end.ensures) c.list_ids-crosswalks_end.ensures) c.list_ids.ensures) (omega arith)
+    written-length s.args.out.now s.requires.1.1.1 (rules s (crosswalks s (stop_lines s (junctions s (roads s (boundaries s (lanes s c.list_table-a.ensures) c.list_table-b.ensures) c.list_table-c.ensures) c.list_table-d.ensures) c.list_table-e.ensures) c.list_table-f.ensures) c.list_table.ensures) (omega arith)
 
 pub returns : goal.returns
 returns c =
     let s = (goal.at.returns c).Start in
-    written_is s.args.out.now s.requires.1.1.1 (rules s (crosswalks s (stop_lines s (junctions s (roads s (boundaries s (lanes s c.list_ids-lanes_end.ensures) c.list_ids-boundaries_end.ensures) c.list_ids-roads_end.ensures) c.list_ids-junctions_end.ensures) c.list_ids-stop_lines_end.ensures) c.list_ids-crosswalks_end.ensures) c.list_ids.ensures) (all_picked s.args.kept (held s) (other s) s.args.marks.now) (all-seven (held s) (other s) s.args.marks.now s.args.kept)
-
-pub slice_bounds-list_ids-count : goal.slice_bounds-list_ids-count
-slice_bounds-list_ids-count c = omega (arith, c.requires.1.1.0)
-
-pub slice_bounds-list_ids-start : goal.slice_bounds-list_ids-start
-slice_bounds-list_ids-start c = omega (arith, c.requires.1.1.0)
-
-pub slice_bounds-list_ids-end : goal.slice_bounds-list_ids-end
-slice_bounds-list_ids-end c = omega (arith, c.requires.1.1.0)
-
-pub slice_bounds-list_ids-count-2 : goal.slice_bounds-list_ids-count-2
-slice_bounds-list_ids-count-2 c = omega (arith, c.requires.1.1.0)
-
-pub slice_bounds-list_ids-start-2 : goal.slice_bounds-list_ids-start-2
-slice_bounds-list_ids-start-2 c = omega (arith, c.requires.1.1.0)
-
-pub slice_bounds-list_ids-end-2 : goal.slice_bounds-list_ids-end-2
-slice_bounds-list_ids-end-2 c = omega (arith, c.requires.1.1.0)
-
-pub slice_bounds-list_ids-count-3 : goal.slice_bounds-list_ids-count-3
-slice_bounds-list_ids-count-3 c = omega (arith, c.requires.1.1.0)
-
-pub slice_bounds-list_ids-start-3 : goal.slice_bounds-list_ids-start-3
-slice_bounds-list_ids-start-3 c = omega (arith, c.requires.1.1.0)
-
-pub slice_bounds-list_ids-end-3 : goal.slice_bounds-list_ids-end-3
-slice_bounds-list_ids-end-3 c = omega (arith, c.requires.1.1.0)
-
-pub slice_bounds-list_ids-count-4 : goal.slice_bounds-list_ids-count-4
-slice_bounds-list_ids-count-4 c = omega (arith, c.requires.1.1.0)
-
-pub slice_bounds-list_ids-start-4 : goal.slice_bounds-list_ids-start-4
-slice_bounds-list_ids-start-4 c = omega (arith, c.requires.1.1.0)
-
-pub slice_bounds-list_ids-end-4 : goal.slice_bounds-list_ids-end-4
-slice_bounds-list_ids-end-4 c = omega (arith, c.requires.1.1.0)
-
-pub slice_bounds-list_ids-count-5 : goal.slice_bounds-list_ids-count-5
-slice_bounds-list_ids-count-5 c = omega (arith, c.requires.1.1.0)
-
-pub slice_bounds-list_ids-start-5 : goal.slice_bounds-list_ids-start-5
-slice_bounds-list_ids-start-5 c = omega (arith, c.requires.1.1.0)
-
-pub slice_bounds-list_ids-end-5 : goal.slice_bounds-list_ids-end-5
-slice_bounds-list_ids-end-5 c = omega (arith, c.requires.1.1.0)
-
-pub slice_bounds-list_ids-count-6 : goal.slice_bounds-list_ids-count-6
-slice_bounds-list_ids-count-6 c = omega (arith, c.requires.1.1.0)
-
-pub slice_bounds-list_ids-start-6 : goal.slice_bounds-list_ids-start-6
-slice_bounds-list_ids-start-6 c = omega (arith, c.requires.1.1.0)
-
-pub slice_bounds-list_ids-end-6 : goal.slice_bounds-list_ids-end-6
-slice_bounds-list_ids-end-6 c = omega (arith, c.requires.1.1.0)
-
-pub slice_bounds-list_ids-count-7 : goal.slice_bounds-list_ids-count-7
-slice_bounds-list_ids-count-7 c = omega (arith, c.requires.1.1.0)
-
-pub slice_bounds-list_ids-start-7 : goal.slice_bounds-list_ids-start-7
-slice_bounds-list_ids-start-7 c = omega (arith, c.requires.1.1.0)
-
-pub slice_bounds-list_ids-end-7 : goal.slice_bounds-list_ids-end-7
-slice_bounds-list_ids-end-7 c = omega (arith, c.requires.1.1.0)
+    written_is s.args.out.now s.requires.1.1.1 (rules s (crosswalks s (stop_lines s (junctions s (roads s (boundaries s (lanes s c.list_table-a.ensures) c.list_table-b.ensures) c.list_table-c.ensures) c.list_table-d.ensures) c.list_table-e.ensures) c.list_table-f.ensures) c.list_table.ensures) (all_picked s.args.kept (held s) (other s) s.args.marks.now) (all-seven (held s) (other s) s.args.marks.now s.args.kept)

@@ -1,10 +1,8 @@
-use native.Mathlib.Omega.{arith}
 use mathlib.Core.Path.{◌≡◌, sym, ap, ◌∙◌, subst}
 use mathlib.Core.Logic.{inr}
 use mathlib.Core.List.{List}
-use Prim.Native.Nat.{ℕ, ◌*◌}
+use Prim.Native.Nat.{ℕ}
 use lib.ListN.{length}
-use lib.Seq.{length-take-le}
 use Rattle.tables.specs.View.{Tables}
 use Rattle.lent.specs.Lent.{map_tables, view_tables, view_rows}
 use Rattle.tables.specs.Formed.{sound_tables}
@@ -14,7 +12,7 @@ use Rattle.job_step.specs.Job.{table_edits}
 use Rattle.job_run.specs.Runs.{WarningRoom}
 use Rattle.job_told.specs.Told.{ToldAs}
 use Rattle.job_told.proofs.Sorted.{sound-sorted}
-use Rattle.job_told.proofs.Ends.{kept-told, made-lengths, made-within, put-back-same, ran-told, same-fits}
+use Rattle.job_told.proofs.Ends.{made-lengths, made-within, put-back-same, ran-told, same-fits}
 use Rattle.job_told.proofs.tell_again.Goals as goal
 use Rattle.job_told.proofs.tell_again.Goals.{Start}
 

@@ -18,23 +18,23 @@ use Rattle.lane_lines.proofs.length_in.Goals.{After-centerline}
 
 -- the centreline, and what was written of it
 abbrev center : After-centerline → Option Line
-center c = centerline (drawn c.args.coordinates.now c.args.boundaries.now) (lane_of c.args.coordinates.now (row_at 52 c.args.lanes.now c.args.i))
+center c = centerline (drawn c.args.map.coordinates.now c.args.map.boundaries.now) (lane_of c.args.map.coordinates.now (row_at 52 c.args.map.lanes.now c.args.i))
 
 abbrev lineOut : After-centerline → List Float
 lineOut c = c.centerline.new.out
 
 few : (c : After-centerline) → length (points_or (center c)) ≤ 256
-few c = lane_center_few c.args.coordinates.now c.args.boundaries.now c.args.lanes.now c.args.i c.requires.0 c.requires.1.0
+few c = lane_center_few c.args.map.coordinates.now c.args.map.boundaries.now c.args.map.lanes.now c.args.i c.args.map.drawable c.requires.0
 
 module _ (c : After-centerline) (a : ℕ) (n : Some a ≡ count_of (center c)) where
   within : a * 3 ≤ length (lineOut c)
-  within = omega (arith, side-small (center c) c.args.line.now (lineOut c) (few c) c.requires.1.1 c.centerline.ensures.1 a n, side-length (center c) c.args.line.now (lineOut c) (few c) c.requires.1.1 c.centerline.ensures.1, c.requires.1.1)
+  within = omega (arith, side-small (center c) c.args.line.now (lineOut c) (few c) c.requires.1 c.centerline.ensures.1 a n, side-length (center c) c.args.line.now (lineOut c) (few c) c.requires.1 c.centerline.ensures.1, c.requires.1)
 
   small : a ≤ 256
-  small = side-small (center c) c.args.line.now (lineOut c) (few c) c.requires.1.1 c.centerline.ensures.1 a n
+  small = side-small (center c) c.args.line.now (lineOut c) (few c) c.requires.1 c.centerline.ensures.1 a n
 
   there : center c ≡ Some (points (take (a * 3) (lineOut c)))
-  there = side-there (center c) c.args.line.now (lineOut c) (few c) c.requires.1.1 c.centerline.ensures.1 a n
+  there = side-there (center c) c.args.line.now (lineOut c) (few c) c.requires.1 c.centerline.ensures.1 a n
 
 pub returns-in_err-n : goal.returns-in_err-n
 returns-in_err-n c = (c.from_residual.ensures ∙ length_none (center (goal.at.returns-in_err-n c).After-centerline) (count_none (center (goal.at.returns-in_err-n c).After-centerline) (sym c.in_err-n.was ∙ c.centerline.ensures.0)), c.centerline.ensures.1)

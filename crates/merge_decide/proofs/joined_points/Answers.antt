@@ -6,40 +6,40 @@ use Rattle.merge_plan.proofs.Laws.{met-few, joined-long, first-long, second-long
 use Rattle.merge_decide.proofs.joined_points.Goals as goal
 
 pub overflow_mul-one : goal.overflow_mul-one
-overflow_mul-one c = omega (arith, first-row c.args.lanes.now c.args.i c.args.j c.args.side c.args.boundaries.now c.args.x c.args.y c.args.coordinates.now c.requires, second-row c.args.lanes.now c.args.i c.args.j c.args.side c.args.boundaries.now c.args.x c.args.y c.args.coordinates.now c.requires)
+overflow_mul-one c = omega (arith, first-row c.args.map.lanes.now c.args.i c.args.j c.args.side c.args.map.boundaries.now c.args.x c.args.y c.args.map.coordinates.now c.requires, second-row c.args.map.lanes.now c.args.i c.args.j c.args.side c.args.map.boundaries.now c.args.x c.args.y c.args.map.coordinates.now c.requires)
 
 pub overflow_add-one : goal.overflow_add-one
-overflow_add-one c = omega (arith, first-row c.args.lanes.now c.args.i c.args.j c.args.side c.args.boundaries.now c.args.x c.args.y c.args.coordinates.now c.requires, second-row c.args.lanes.now c.args.i c.args.j c.args.side c.args.boundaries.now c.args.x c.args.y c.args.coordinates.now c.requires)
+overflow_add-one c = omega (arith, first-row c.args.map.lanes.now c.args.i c.args.j c.args.side c.args.map.boundaries.now c.args.x c.args.y c.args.map.coordinates.now c.requires, second-row c.args.map.lanes.now c.args.i c.args.j c.args.side c.args.map.boundaries.now c.args.x c.args.y c.args.map.coordinates.now c.requires)
 
 pub overflow_add-one-2 : goal.overflow_add-one-2
-overflow_add-one-2 c = omega (arith, first-row c.args.lanes.now c.args.i c.args.j c.args.side c.args.boundaries.now c.args.x c.args.y c.args.coordinates.now c.requires, second-row c.args.lanes.now c.args.i c.args.j c.args.side c.args.boundaries.now c.args.x c.args.y c.args.coordinates.now c.requires)
+overflow_add-one-2 c = omega (arith, first-row c.args.map.lanes.now c.args.i c.args.j c.args.side c.args.map.boundaries.now c.args.x c.args.y c.args.map.coordinates.now c.requires, second-row c.args.map.lanes.now c.args.i c.args.j c.args.side c.args.map.boundaries.now c.args.x c.args.y c.args.map.coordinates.now c.requires)
 
-pub offset_bounds-boundaries-x : goal.offset_bounds-boundaries-x
-offset_bounds-boundaries-x c = omega (arith, first-row c.args.lanes.now c.args.i c.args.j c.args.side c.args.boundaries.now c.args.x c.args.y c.args.coordinates.now c.requires, second-row c.args.lanes.now c.args.i c.args.j c.args.side c.args.boundaries.now c.args.x c.args.y c.args.coordinates.now c.requires)
+pub offset_bounds-map-x : goal.offset_bounds-map-x
+offset_bounds-map-x c = omega (arith, first-row c.args.map.lanes.now c.args.i c.args.j c.args.side c.args.map.boundaries.now c.args.x c.args.y c.args.map.coordinates.now c.requires, second-row c.args.map.lanes.now c.args.i c.args.j c.args.side c.args.map.boundaries.now c.args.x c.args.y c.args.map.coordinates.now c.requires)
 
-pub bounds-boundaries-x : goal.bounds-boundaries-x
-bounds-boundaries-x c = omega (arith, first-row c.args.lanes.now c.args.i c.args.j c.args.side c.args.boundaries.now c.args.x c.args.y c.args.coordinates.now c.requires, second-row c.args.lanes.now c.args.i c.args.j c.args.side c.args.boundaries.now c.args.x c.args.y c.args.coordinates.now c.requires)
+pub bounds-map-x : goal.bounds-map-x
+bounds-map-x c = omega (arith, first-row c.args.map.lanes.now c.args.i c.args.j c.args.side c.args.map.boundaries.now c.args.x c.args.y c.args.map.coordinates.now c.requires, second-row c.args.map.lanes.now c.args.i c.args.j c.args.side c.args.map.boundaries.now c.args.x c.args.y c.args.map.coordinates.now c.requires)
 
 pub overflow_mul-two : goal.overflow_mul-two
-overflow_mul-two c = omega (arith, first-row c.args.lanes.now c.args.i c.args.j c.args.side c.args.boundaries.now c.args.x c.args.y c.args.coordinates.now c.requires, second-row c.args.lanes.now c.args.i c.args.j c.args.side c.args.boundaries.now c.args.x c.args.y c.args.coordinates.now c.requires)
+overflow_mul-two c = omega (arith, first-row c.args.map.lanes.now c.args.i c.args.j c.args.side c.args.map.boundaries.now c.args.x c.args.y c.args.map.coordinates.now c.requires, second-row c.args.map.lanes.now c.args.i c.args.j c.args.side c.args.map.boundaries.now c.args.x c.args.y c.args.map.coordinates.now c.requires)
 
 pub overflow_add-two : goal.overflow_add-two
-overflow_add-two c = omega (arith, first-row c.args.lanes.now c.args.i c.args.j c.args.side c.args.boundaries.now c.args.x c.args.y c.args.coordinates.now c.requires, second-row c.args.lanes.now c.args.i c.args.j c.args.side c.args.boundaries.now c.args.x c.args.y c.args.coordinates.now c.requires)
+overflow_add-two c = omega (arith, first-row c.args.map.lanes.now c.args.i c.args.j c.args.side c.args.map.boundaries.now c.args.x c.args.y c.args.map.coordinates.now c.requires, second-row c.args.map.lanes.now c.args.i c.args.j c.args.side c.args.map.boundaries.now c.args.x c.args.y c.args.map.coordinates.now c.requires)
 
 pub overflow_add-two-2 : goal.overflow_add-two-2
-overflow_add-two-2 c = omega (arith, first-row c.args.lanes.now c.args.i c.args.j c.args.side c.args.boundaries.now c.args.x c.args.y c.args.coordinates.now c.requires, second-row c.args.lanes.now c.args.i c.args.j c.args.side c.args.boundaries.now c.args.x c.args.y c.args.coordinates.now c.requires)
+overflow_add-two-2 c = omega (arith, first-row c.args.map.lanes.now c.args.i c.args.j c.args.side c.args.map.boundaries.now c.args.x c.args.y c.args.map.coordinates.now c.requires, second-row c.args.map.lanes.now c.args.i c.args.j c.args.side c.args.map.boundaries.now c.args.x c.args.y c.args.map.coordinates.now c.requires)
 
-pub offset_bounds-boundaries-y : goal.offset_bounds-boundaries-y
-offset_bounds-boundaries-y c = omega (arith, first-row c.args.lanes.now c.args.i c.args.j c.args.side c.args.boundaries.now c.args.x c.args.y c.args.coordinates.now c.requires, second-row c.args.lanes.now c.args.i c.args.j c.args.side c.args.boundaries.now c.args.x c.args.y c.args.coordinates.now c.requires)
+pub offset_bounds-map-y : goal.offset_bounds-map-y
+offset_bounds-map-y c = omega (arith, first-row c.args.map.lanes.now c.args.i c.args.j c.args.side c.args.map.boundaries.now c.args.x c.args.y c.args.map.coordinates.now c.requires, second-row c.args.map.lanes.now c.args.i c.args.j c.args.side c.args.map.boundaries.now c.args.x c.args.y c.args.map.coordinates.now c.requires)
 
-pub bounds-boundaries-y : goal.bounds-boundaries-y
-bounds-boundaries-y c = omega (arith, first-row c.args.lanes.now c.args.i c.args.j c.args.side c.args.boundaries.now c.args.x c.args.y c.args.coordinates.now c.requires, second-row c.args.lanes.now c.args.i c.args.j c.args.side c.args.boundaries.now c.args.x c.args.y c.args.coordinates.now c.requires)
+pub bounds-map-y : goal.bounds-map-y
+bounds-map-y c = omega (arith, first-row c.args.map.lanes.now c.args.i c.args.j c.args.side c.args.map.boundaries.now c.args.x c.args.y c.args.map.coordinates.now c.requires, second-row c.args.map.lanes.now c.args.i c.args.j c.args.side c.args.map.boundaries.now c.args.x c.args.y c.args.map.coordinates.now c.requires)
 
 pub overflow_add-result : goal.overflow_add-result
-overflow_add-result c = omega (arith, both-few c.args.lanes.now c.args.i c.args.j c.args.side c.args.boundaries.now c.args.x c.args.y c.args.coordinates.now c.requires)
+overflow_add-result c = omega (arith, both-few c.args.map.lanes.now c.args.i c.args.j c.args.side c.args.map.boundaries.now c.args.x c.args.y c.args.map.coordinates.now c.requires)
 
 pub overflow_sub-result : goal.overflow_sub-result
-overflow_sub-result c = omega (arith, met-few c.args.join (side_line c.args.coordinates.now c.args.lanes.now c.args.boundaries.now c.args.i c.args.side) (side_line c.args.coordinates.now c.args.lanes.now c.args.boundaries.now c.args.j c.args.side) _ _ (first-long c.args.lanes.now c.args.i c.args.j c.args.side c.args.boundaries.now c.args.x c.args.y c.args.coordinates.now c.requires) (second-long c.args.lanes.now c.args.i c.args.j c.args.side c.args.boundaries.now c.args.x c.args.y c.args.coordinates.now c.requires) c.oriented_last-end.result c.oriented_first-start.result c.oriented_last-end.ensures c.oriented_first-start.ensures c.meeting.result c.meeting.ensures)
+overflow_sub-result c = omega (arith, met-few c.args.join (side_line c.args.map.coordinates.now c.args.map.lanes.now c.args.map.boundaries.now c.args.i c.args.side) (side_line c.args.map.coordinates.now c.args.map.lanes.now c.args.map.boundaries.now c.args.j c.args.side) _ _ (first-long c.args.map.lanes.now c.args.i c.args.j c.args.side c.args.map.boundaries.now c.args.x c.args.y c.args.map.coordinates.now c.requires) (second-long c.args.map.lanes.now c.args.i c.args.j c.args.side c.args.map.boundaries.now c.args.x c.args.y c.args.map.coordinates.now c.requires) c.oriented_last-end.result c.oriented_first-start.result c.oriented_last-end.ensures c.oriented_first-start.ensures c.meeting.result c.meeting.ensures)
 
 pub returns : goal.returns
-returns c = joined-long c.args.join (side_line c.args.coordinates.now c.args.lanes.now c.args.boundaries.now c.args.i c.args.side) (side_line c.args.coordinates.now c.args.lanes.now c.args.boundaries.now c.args.j c.args.side) _ _ (first-long c.args.lanes.now c.args.i c.args.j c.args.side c.args.boundaries.now c.args.x c.args.y c.args.coordinates.now c.requires) (second-long c.args.lanes.now c.args.i c.args.j c.args.side c.args.boundaries.now c.args.x c.args.y c.args.coordinates.now c.requires) c.oriented_last-end.result c.oriented_first-start.result c.oriented_last-end.ensures c.oriented_first-start.ensures c.meeting.result c.meeting.ensures
+returns c = joined-long c.args.join (side_line c.args.map.coordinates.now c.args.map.lanes.now c.args.map.boundaries.now c.args.i c.args.side) (side_line c.args.map.coordinates.now c.args.map.lanes.now c.args.map.boundaries.now c.args.j c.args.side) _ _ (first-long c.args.map.lanes.now c.args.i c.args.j c.args.side c.args.map.boundaries.now c.args.x c.args.y c.args.map.coordinates.now c.requires) (second-long c.args.map.lanes.now c.args.i c.args.j c.args.side c.args.map.boundaries.now c.args.x c.args.y c.args.map.coordinates.now c.requires) c.oriented_last-end.result c.oriented_first-start.result c.oriented_last-end.ensures c.oriented_first-start.ensures c.meeting.result c.meeting.ensures

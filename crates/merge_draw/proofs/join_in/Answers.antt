@@ -29,10 +29,10 @@ abbrev join : AtAfterPointsM → Float
 join c = c.args.join
 
 abbrev one : AtAfterPointsM → Option Line
-one c = side_line c.args.coordinates.now c.args.lanes.now c.args.boundaries.now c.args.i c.args.side
+one c = side_line c.args.map.coordinates.now c.args.map.lanes.now c.args.map.boundaries.now c.args.i c.args.side
 
 abbrev two : AtAfterPointsM → Option Line
-two c = side_line c.args.coordinates.now c.args.lanes.now c.args.boundaries.now c.args.j c.args.side
+two c = side_line c.args.map.coordinates.now c.args.map.lanes.now c.args.map.boundaries.now c.args.j c.args.side
 
 abbrev a : AtAfterPointsM → Line
 a c = points_or (one c)
@@ -53,10 +53,10 @@ abbrev qs : AtAfterPointsM → Line
 qs c = points (take (c.unwrap_or-m.result * 3) (twoOut c))
 
 few-one : (c : AtAfterPointsM) → length (a c) ≤ 256
-few-one c = oriented-few c.args.coordinates.now c.args.boundaries.now (row_at 52 c.args.lanes.now c.args.i) c.args.side c.requires.0.drawable.boundaries_short
+few-one c = oriented-few c.args.map.coordinates.now c.args.map.boundaries.now (row_at 52 c.args.map.lanes.now c.args.i) c.args.side c.requires.0.drawable.boundaries_short
 
 few-two : (c : AtAfterPointsM) → length (b c) ≤ 256
-few-two c = oriented-few c.args.coordinates.now c.args.boundaries.now (row_at 52 c.args.lanes.now c.args.j) c.args.side c.requires.0.drawable.boundaries_short
+few-two c = oriented-few c.args.map.coordinates.now c.args.map.boundaries.now (row_at 52 c.args.map.lanes.now c.args.j) c.args.side c.requires.0.drawable.boundaries_short
 
 small_one : (c : AtAfterPointsM) → c.unwrap_or-n.result * 3 ≤ 768
 small_one c = side-small (one c) c.args.one.now (oneOut c) (few-one c) c.requires.1.0 c.oriented_boundary.ensures.1 c.oriented_boundary.result c.oriented_boundary.ensures.0 c.unwrap_or-n.result c.unwrap_or-n.ensures
@@ -123,7 +123,7 @@ pub slice_bounds-put_line-end-2 : goal.slice_bounds-put_line-end-2
 slice_bounds-put_line-end-2 c = sym (length-take-le (c.concat-size.result * 3) (lineOut c.before.before.before) (room-line c.before.before.before))
 
 pub put_line-requires : goal.put_line-requires
-put_line-requires c = fits_line c.before.before.before.before
+put_line-requires c = fits_line c.before.before.before
 
 pub returns : goal.returns
 returns c = line-drawn (concat (join c.before.before.before.before.before.before.before.before.before) (a c.before.before.before.before.before.before.before.before.before) (b c.before.before.before.before.before.before.before.before.before)) (points (take (c.concat-size.result * 3) (lineOut c.before.before.before.before.before.before.before))) (back-line c.before.before.before.before.before.before.before) c.args.back c.put_line.result c.args.out.now c.put_line.new.out c.put_line.ensures.0 c.put_line.ensures.1

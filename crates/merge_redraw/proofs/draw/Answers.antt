@@ -7,7 +7,7 @@ use Rattle.merge_redraw.proofs.draw.Goals as goal
 pub draw_side-requires-2 : goal.draw_side-requires-2
 draw_side-requires-2 c =
     let p = c.requires in
-    (p.drawable, (p.first, (p.second, omega (arith, c.draw_side.auto.work, c.side_points-right_at.ensures, p.left_few, p.room))))
+    (p.first, (p.second, omega (arith, c.draw_side.auto.work, c.side_points-right_at.ensures, p.left_few, p.room)))
 
 pub draw_center-requires : goal.draw_center-requires
 draw_center-requires c =
@@ -24,6 +24,6 @@ draw_center-requires c =
 pub returns : goal.returns
 returns c =
     let a = c.args in
-    all-drawn a.join a.coordinates.now a.lanes.now a.boundaries.now a.i a.j a.plan c.side_points-right_at.result c.side_points.result
+    all-drawn a.join a.map.coordinates.now a.map.lanes.now a.map.boundaries.now a.i a.j a.plan c.side_points-right_at.result c.side_points.result
     c.side_points-right_at.ensures c.side_points.ensures a.work.now c.draw_side.new.work
     c.draw_side-2.new.work c.draw_center.new.work c.draw_side.ensures c.draw_side-2.ensures c.draw_center.ensures

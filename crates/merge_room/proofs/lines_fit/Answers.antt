@@ -1,5 +1,4 @@
 -- `merge_room::lines_fit` meets its contract. Assumes nothing.
-use borrow.Author.Rules.{rules}
 use Rattle.merge_room.proofs.lines_fit.Goals as goal
 
 pub returns : goal.returns

@@ -1,5 +1,4 @@
 -- `merge_room::sides_of` meets its contract. Assumes nothing.
-use borrow.Author.Rules.{rules}
 use Rattle.merge_room.proofs.sides_of.Goals as goal
 
 pub returns : goal.returns

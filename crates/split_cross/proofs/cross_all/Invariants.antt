@@ -13,4 +13,4 @@ use Rattle.split_plan.proofs.Turns.{first_rows, cross-begins, cross-none, cross-
 use Rattle.split_cross.proofs.cross_all.Given as goal
 
 abbrev pub invariant-loop-j : goal.invariant-loop-j
-invariant-loop-j l = (l.j ≤ word 0 l.lanes) × (all_pass (row_crosses l.coordinates l.boundaries l.point) (first_rows l.seen l.lanes l.j) ≡ Ok passed)
+invariant-loop-j l = (l.j ≤ word 0 l.map.lanes.now) × (all_pass (row_crosses l.map.coordinates.now l.map.boundaries.now l.point) (first_rows l.seen l.map.lanes.now l.j) ≡ Ok passed)

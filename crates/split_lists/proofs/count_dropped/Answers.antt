@@ -1,9 +1,7 @@
 -- `split_lists::count_dropped` meets its contract. The invariant: the warnings of the marked rows before row i are counted, and `second` is the next one's
 -- second half. Assumes nothing.
-use mathlib.Core.Logic.{⊎_elim}
-use Prim.Native.Nat.{◌-◌}
 use native.Mathlib.Omega.{arith}
-use Rattle.split_lists.proofs.Dropped.{Numbers, Counted, numbers-begin, count-begins, beside-some, beside-few, beside-room, number-below, numbers-one, numbers-none, count-one, count_none, count-ends}
+use Rattle.split_lists.proofs.Dropped.{numbers-begin, count-begins, beside-some, beside-few, beside-room, number-below, numbers-one, numbers-none, count-one, count_none, count-ends}
 use Rattle.split_lists.proofs.count_dropped.Goals as goal
 
 pub bounds-lanes-0 : goal.bounds-lanes-0

@@ -1,6 +1,5 @@
 -- `split_lists::count_pieces` meets its contract. The invariant: the warnings of the first j pieces are counted. Assumes nothing.
 use mathlib.Core.Path.{◌≡◌, ◌∙◌, ap}
-use Prim.Native.Nat.{◌-◌, ◌≤◌}
 use native.Mathlib.Omega.{arith}
 use lib.ListN.{length}
 use Rattle.report.proofs.Warnings.{few}

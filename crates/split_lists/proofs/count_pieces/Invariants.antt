@@ -1,11 +1,8 @@
 -- `split_lists::count_pieces` meets its contract. The invariant: the warnings of the first j pieces are counted. Assumes nothing.
-use mathlib.Core.Path.{◌≡◌, ◌∙◌, ap}
-use Prim.Native.Nat.{◌-◌, ◌≤◌}
-use native.Mathlib.Omega.{arith}
+use mathlib.Core.Path.{◌≡◌}
+use Prim.Native.Nat.{◌≤◌}
 use lib.ListN.{length}
-use Rattle.report.proofs.Warnings.{few}
 use Rattle.split_lists.specs.Changes.{pieces_issues}
-use Rattle.split_lists.proofs.Noted.{count-piece, piece-at}
 use Rattle.split_lists.proofs.count_pieces.Given as goal
 
 abbrev pub invariant-loop-j : goal.invariant-loop-j

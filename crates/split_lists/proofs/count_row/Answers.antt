@@ -1,5 +1,4 @@
 -- `split_lists::count_row` meets its contract: one warning a slot at most. Assumes nothing.
-use borrow.Author.Rules.{rules}
 use native.Mathlib.Omega.{arith}
 use Rattle.split_lists.proofs.Dropped.{row-counted}
 use Rattle.split_lists.proofs.count_row.Goals as goal

@@ -1,5 +1,4 @@
 -- `split_lists::count_warnings` meets its contract. Assumes nothing.
-use borrow.Author.Rules.{rules}
 use native.Mathlib.Omega.{arith}
 use lib.ListN.{length-append}
 use Rattle.split_plan.specs.Placing.{marked_rows}

@@ -1,5 +1,4 @@
 -- `split_lists::list_created` meets its contract: the second halves, and the pieces behind them. Assumes nothing.
-use borrow.Author.Rules.{rules}
 use native.Mathlib.Omega.{arith}
 use Rattle.split_lists.proofs.Entities.{created-listed}
 use Rattle.split_lists.proofs.list_created.Goals as goal

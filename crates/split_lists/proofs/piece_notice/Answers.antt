@@ -1,5 +1,4 @@
 -- `split_lists::piece_notice` meets its contract. Assumes nothing.
-use borrow.Author.Rules.{rules}
 use Rattle.split_lists.proofs.Noted.{piece-kept, piece-new}
 use Rattle.split_lists.proofs.piece_notice.Goals as goal
 

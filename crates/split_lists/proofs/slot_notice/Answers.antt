@@ -1,5 +1,4 @@
 -- `split_lists::slot_notice` meets its contract. Assumes nothing.
-use borrow.Author.Rules.{rules}
 use native.Mathlib.Omega.{arith}
 use Rattle.lists.proofs.Rows.{keys-one, there}
 use mathlib.Core.Path.{ap}

@@ -1,5 +1,4 @@
 -- `split_lists::warn` meets its contract: the neighbours behind the pieces. Assumes nothing.
-use borrow.Author.Rules.{rules}
 use Rattle.split_plan.specs.Placing.{marked_rows}
 use Rattle.split_lists.specs.Changes.{rows_dropped}
 use Rattle.split_lists.proofs.Noted.{pieces-fit, others-fit, all-warned}

@@ -1,9 +1,7 @@
 -- `split_lists::warn_dropped` meets its contract. The invariant: the warnings of the marked rows before row i stand from row `from` on, and `second` is the
 -- next one's second half. Assumes nothing.
-use mathlib.Core.Logic.{⊎_elim}
-use Prim.Native.Nat.{◌-◌}
 use native.Mathlib.Omega.{arith}
-use Rattle.split_lists.proofs.Dropped.{Numbers, Warned, numbers-begin, warned-begins, beside-some, beside-few, beside-room, number-below, numbers-one, numbers-none, warned-room, warned-one, warned-none, warned-ends, warned-length}
+use Rattle.split_lists.proofs.Dropped.{numbers-begin, warned-begins, beside-some, beside-room, number-below, numbers-one, numbers-none, warned-room, warned-one, warned-none, warned-ends, warned-length}
 use Rattle.split_lists.proofs.warn_dropped.Goals as goal
 
 pub bounds-lanes-0 : goal.bounds-lanes-0

@@ -1,8 +1,7 @@
 -- `split_lists::warn_pieces` meets its contract. The invariant: the warnings of the first j pieces stand in the first rows. Assumes nothing.
-use Prim.Native.Nat.{◌-◌, ◌≤◌}
-use native.Mathlib.Omega.{arith}
+use Prim.Native.Nat.{◌≤◌}
 use Rattle.split_lists.specs.Changes.{pieces_issues}
-use Rattle.split_lists.proofs.Noted.{Stand, none-noted, piece-at, piece-room, piece-noted, pieces-done}
+use Rattle.split_lists.proofs.Noted.{Stand}
 use Rattle.split_lists.proofs.warn_pieces.Given as goal
 
 abbrev pub invariant-loop-j : goal.invariant-loop-j

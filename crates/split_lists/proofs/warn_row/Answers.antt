@@ -1,5 +1,4 @@
 -- `split_lists::warn_row` meets its contract: left before right. Assumes nothing.
-use borrow.Author.Rules.{rules}
 use Rattle.split_lists.proofs.Dropped.{left-room, right-room, row-noted}
 use Rattle.split_lists.proofs.warn_row.Goals as goal
 

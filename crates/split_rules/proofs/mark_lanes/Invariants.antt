@@ -6,4 +6,4 @@ use Rattle.split_rules.proofs.Passing.{Listed}
 use Rattle.split_rules.proofs.mark_lanes.Given as goal
 
 abbrev pub invariant-loop-p : goal.invariant-loop-p
-invariant-loop-p l = (l.p ≤ length l.ids) × Listed (lane_past l.join l.coordinates l.lanes l.boundaries l.point l.cut l.stations l.anchor) l.ids l.initial.past l.p l.past
+invariant-loop-p l = (l.p ≤ length l.ids) × Listed (lane_past l.join l.map.coordinates.now l.map.lanes.now l.map.boundaries.now l.point l.cut l.stations l.anchor) l.ids l.initial.past l.p l.past

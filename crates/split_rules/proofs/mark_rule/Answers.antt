@@ -11,7 +11,7 @@ use Rattle.split_rules.proofs.Passing.{rule-there, rule-few, ids-lent, ids_few, 
 use Rattle.split_rules.proofs.mark_rule.Goals as goal
 
 pub returns-in_default : goal.returns-in_default
-returns-in_default c = let a = c.args in rule-none a.join a.coordinates.now a.lanes.now a.boundaries.now a.point a.cut.now a.stations.now (anchor_of a.coordinates.now a.stop_lines.now a.crosswalks.now a.cut.now (row_at 330 a.rules.now a.i)) (ids_at 5 (row_at 330 a.rules.now a.i)) a.past.now c.anchor_of-found.result c.anchor_of-found.ensures c.in_default.is
+returns-in_default c = let a = c.args in rule-none a.join a.map.coordinates.now a.map.lanes.now a.map.boundaries.now a.point a.cut.now a.stations.now (anchor_of a.map.coordinates.now a.stop_lines.now a.crosswalks.now a.cut.now (row_at 330 a.rules.now a.i)) (ids_at 5 (row_at 330 a.rules.now a.i)) a.past.now c.anchor_of-found.result c.anchor_of-found.ensures c.in_default.is
 
 pub overflow_mul-from : goal.overflow_mul-from
 overflow_mul-from c = let a = c.args in let p = c.requires in omega (arith, table-few 512 330 a.rules.now p.counts, p.row, rule-there a.rules.now p.counts a.i p.row p.formed, rule-few a.rules.now p.counts a.i p.row p.formed)
@@ -41,7 +41,7 @@ pub slice_bounds-mark_lanes-end : goal.slice_bounds-mark_lanes-end
 slice_bounds-mark_lanes-end c = let a = c.args in let p = c.requires in omega (arith, table-few 512 330 a.rules.now p.counts, p.row, rule-there a.rules.now p.counts a.i p.row p.formed, rule-few a.rules.now p.counts a.i p.row p.formed)
 
 pub mark_lanes-requires : goal.mark_lanes-requires
-mark_lanes-requires c = let a = c.args in let p = c.requires in let n = get_or a.rules.now (1 + a.i * 330 + 5 + 1 - 1) 0 in (p.drawable, (p.ascend, (p.stationed, omega (arith, ap length (ids-lent a.rules.now p.counts a.i p.row p.formed n refl), ids_few a.rules.now p.counts a.i p.row p.formed, p.marks))))
+mark_lanes-requires c = let a = c.args in let p = c.requires in let n = get_or a.rules.now (1 + a.i * 330 + 5 + 1 - 1) 0 in (p.ascend, (p.stationed, omega (arith, ap length (ids-lent a.rules.now p.counts a.i p.row p.formed n refl), ids_few a.rules.now p.counts a.i p.row p.formed, p.marks)))
 
 pub returns : goal.returns
-returns c = let a = c.args in let p = c.requires in rule-some a.join a.coordinates.now a.lanes.now a.boundaries.now a.point a.cut.now a.stations.now (anchor_of a.coordinates.now a.stop_lines.now a.crosswalks.now a.cut.now (row_at 330 a.rules.now a.i)) (ids_at 5 (row_at 330 a.rules.now a.i)) a.past.now c.anchor_of-found.result c.anchor_of-found.ensures c.in-Some.anchor c.in-Some.is _ _ c.mark_lanes.ensures (ids-lent a.rules.now p.counts a.i p.row p.formed _ refl)
+returns c = let a = c.args in let p = c.requires in rule-some a.join a.map.coordinates.now a.map.lanes.now a.map.boundaries.now a.point a.cut.now a.stations.now (anchor_of a.map.coordinates.now a.stop_lines.now a.crosswalks.now a.cut.now (row_at 330 a.rules.now a.i)) (ids_at 5 (row_at 330 a.rules.now a.i)) a.past.now c.anchor_of-found.result c.anchor_of-found.ensures c.in-Some.anchor c.in-Some.is _ _ c.mark_lanes.ensures (ids-lent a.rules.now p.counts a.i p.row p.formed _ refl)

@@ -14,4 +14,4 @@ use Rattle.split_plan.proofs.Turns.{Written, written_none, at_told, refused-told
 use Rattle.split_stations.proofs.plan_lanes.Given as goal
 
 abbrev pub invariant-loop-j : goal.invariant-loop-j
-invariant-loop-j l = (l.j ≤ word 0 l.lanes) × ((l.count ≤ l.j) × ((length l.cut ≡ length l.initial.cut) × ((length l.stations ≡ length l.initial.stations) × Written (row_station l.piece l.coordinates l.boundaries l.own l.place) l.seen l.lanes l.initial.cut l.initial.stations l.cut l.stations l.count l.j)))
+invariant-loop-j l = (l.j ≤ word 0 l.map.lanes.now) × ((l.count ≤ l.j) × ((length l.cut ≡ length l.initial.cut) × ((length l.stations ≡ length l.initial.stations) × Written (row_station l.piece l.map.coordinates.now l.map.boundaries.now l.own l.place) l.seen l.map.lanes.now l.initial.cut l.initial.stations l.cut l.stations l.count l.j)))

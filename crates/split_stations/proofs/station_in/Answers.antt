@@ -6,28 +6,28 @@ use Rattle.split_plan.proofs.Lines.{line_small, line-within, line-lent, statione
 use Rattle.split_stations.proofs.station_in.Goals as goal
 
 pub overflow_mul-lane : goal.overflow_mul-lane
-overflow_mul-lane c = omega (arith, sorted-row 1024 52 c.args.lanes.now c.requires.0.lanes_are_sorted c.args.j c.requires.1.0)
+overflow_mul-lane c = omega (arith, sorted-row 1024 52 c.args.map.lanes.now c.args.map.drawable.lanes_are_sorted c.args.j c.requires.0)
 
 pub overflow_add-lane : goal.overflow_add-lane
-overflow_add-lane c = omega (arith, sorted-row 1024 52 c.args.lanes.now c.requires.0.lanes_are_sorted c.args.j c.requires.1.0)
+overflow_add-lane c = omega (arith, sorted-row 1024 52 c.args.map.lanes.now c.args.map.drawable.lanes_are_sorted c.args.j c.requires.0)
 
-pub offset_bounds-lanes-j : goal.offset_bounds-lanes-j
-offset_bounds-lanes-j c = omega (arith, sorted-row 1024 52 c.args.lanes.now c.requires.0.lanes_are_sorted c.args.j c.requires.1.0)
+pub offset_bounds-map-j : goal.offset_bounds-map-j
+offset_bounds-map-j c = omega (arith, sorted-row 1024 52 c.args.map.lanes.now c.args.map.drawable.lanes_are_sorted c.args.j c.requires.0)
 
-pub bounds-lanes-j : goal.bounds-lanes-j
-bounds-lanes-j c = omega (arith, sorted-row 1024 52 c.args.lanes.now c.requires.0.lanes_are_sorted c.args.j c.requires.1.0)
+pub bounds-map-j : goal.bounds-map-j
+bounds-map-j c = omega (arith, sorted-row 1024 52 c.args.map.lanes.now c.args.map.drawable.lanes_are_sorted c.args.j c.requires.0)
 
 pub returns-in_default : goal.returns-in_default
-returns-in_default c = (stationed-gone c.args.coordinates.now c.args.boundaries.now c.args.lanes.now c.args.j c.centerline-found.result c.centerline-found.ensures.0 c.in_default.is c.args.piece c.args.own c.args.cut, c.centerline-found.ensures.1)
+returns-in_default c = (stationed-gone c.args.map.coordinates.now c.args.map.boundaries.now c.args.map.lanes.now c.args.j c.centerline-found.result c.centerline-found.ensures.0 c.in_default.is c.args.piece c.args.own c.args.cut, c.centerline-found.ensures.1)
 
 pub overflow_mul-end : goal.overflow_mul-end
-overflow_mul-end c = omega (arith, line_small c.args.coordinates.now c.args.boundaries.now c.args.lanes.now c.args.j c.requires.0 c.requires.1.0 c.args.line.now c.centerline-found.new.out c.requires.1.1 c.centerline-found.ensures.1 c.centerline-found.result c.centerline-found.ensures.0 c.in-Some.n c.in-Some.is)
+overflow_mul-end c = omega (arith, line_small c.args.map.coordinates.now c.args.map.boundaries.now c.args.map.lanes.now c.args.j c.args.map.drawable c.requires.0 c.args.line.now c.centerline-found.new.out c.requires.1 c.centerline-found.ensures.1 c.centerline-found.result c.centerline-found.ensures.0 c.in-Some.n c.in-Some.is)
 
 pub slice_bounds-station_on-end : goal.slice_bounds-station_on-end
-slice_bounds-station_on-end c = line-within c.args.coordinates.now c.args.boundaries.now c.args.lanes.now c.args.j c.requires.0 c.requires.1.0 c.args.line.now c.centerline-found.new.out c.requires.1.1 c.centerline-found.ensures.1 c.centerline-found.result c.centerline-found.ensures.0 c.in-Some.n c.in-Some.is
+slice_bounds-station_on-end c = line-within c.args.map.coordinates.now c.args.map.boundaries.now c.args.map.lanes.now c.args.j c.args.map.drawable c.requires.0 c.args.line.now c.centerline-found.new.out c.requires.1 c.centerline-found.ensures.1 c.centerline-found.result c.centerline-found.ensures.0 c.in-Some.n c.in-Some.is
 
 pub slice_bounds-station_on-end-2 : goal.slice_bounds-station_on-end-2
-slice_bounds-station_on-end-2 c = line-lent c.args.coordinates.now c.args.boundaries.now c.args.lanes.now c.args.j c.requires.0 c.requires.1.0 c.args.line.now c.centerline-found.new.out c.requires.1.1 c.centerline-found.ensures.1 c.centerline-found.result c.centerline-found.ensures.0 c.in-Some.n c.in-Some.is
+slice_bounds-station_on-end-2 c = line-lent c.args.map.coordinates.now c.args.map.boundaries.now c.args.map.lanes.now c.args.j c.args.map.drawable c.requires.0 c.args.line.now c.centerline-found.new.out c.requires.1 c.centerline-found.ensures.1 c.centerline-found.result c.centerline-found.ensures.0 c.in-Some.n c.in-Some.is
 
 pub returns : goal.returns
-returns c = (stationed-there c.args.coordinates.now c.args.boundaries.now c.args.lanes.now c.args.j c.requires.0 c.requires.1.0 c.args.line.now c.centerline-found.new.out c.requires.1.1 c.centerline-found.ensures.1 c.centerline-found.result c.centerline-found.ensures.0 c.in-Some.n c.in-Some.is c.args.piece c.args.own c.args.cut c.station_on.result c.station_on.ensures, c.centerline-found.ensures.1)
+returns c = (stationed-there c.args.map.coordinates.now c.args.map.boundaries.now c.args.map.lanes.now c.args.j c.args.map.drawable c.requires.0 c.args.line.now c.centerline-found.new.out c.requires.1 c.centerline-found.ensures.1 c.centerline-found.result c.centerline-found.ensures.0 c.in-Some.n c.in-Some.is c.args.piece c.args.own c.args.cut c.station_on.result c.station_on.ensures, c.centerline-found.ensures.1)
