@@ -176,35 +176,27 @@ fn list_table(
     list_ids(table, other, of.words, own, kept, of.kind, out, at)
 }
 
-// What stands in the tables and has a mark and stands in the others too, where `kept`, or else what the others lack: as a list of entities from its front on;
+// What stands in the tables and has a mark and stands at the job's other end too, where `kept`, or else what that end lacks: as a list of entities from its front on;
 // how many there are.
-fn list_all(map: MapView, other: MapView, marks: &[u64], kept: bool, out: &mut [u64]) -> usize
-    requires { (sorted_tables (view_rows map) ≡ true) × ((sorted_tables (view_rows other) ≡ true) × ((length marks.now ≡ 6784) × (13568 ≤ length out.old))) }
-    ensures { (result ≡ length (N.all_picked kept (view_rows map.entry) (view_rows other.entry) marks.now)) × (out.new ≡ listed out.old (N.all_picked kept (view_rows map.entry) (view_rows other.entry) marks.now)) }
+fn list_all(map: MapView, end: MapView, marks: &[u64], kept: bool, out: &mut [u64]) -> usize
+    requires { (sorted_tables (view_rows map) ≡ true) × ((sorted_tables (view_rows end) ≡ true) × ((length marks.now ≡ 6784) × (13568 ≤ length out.old))) }
+    ensures { (result ≡ length (N.all_picked kept (view_rows map.entry) (view_rows end.entry) marks.now)) × (out.new ≡ listed out.old (N.all_picked kept (view_rows map.entry) (view_rows end.entry) marks.now)) }
 {
-    let a = list_table(map.lanes, other.lanes, LANES, marks, kept, out, 0);
+    let a = list_table(map.lanes, end.lanes, LANES, marks, kept, out, 0);
     let b = list_table(
         map.boundaries,
-        other.boundaries,
+        end.boundaries,
         BOUNDARIES,
         marks,
         kept,
         out,
         a,
     );
-    let c = list_table(map.roads, other.roads, ROADS, marks, kept, out, b);
-    let d = list_table(
-        map.junctions,
-        other.junctions,
-        JUNCTIONS,
-        marks,
-        kept,
-        out,
-        c,
-    );
+    let c = list_table(map.roads, end.roads, ROADS, marks, kept, out, b);
+    let d = list_table(map.junctions, end.junctions, JUNCTIONS, marks, kept, out, c);
     let e = list_table(
         map.stop_lines,
-        other.stop_lines,
+        end.stop_lines,
         STOP_LINES,
         marks,
         kept,
@@ -213,14 +205,14 @@ fn list_all(map: MapView, other: MapView, marks: &[u64], kept: bool, out: &mut [
     );
     let f = list_table(
         map.crosswalks,
-        other.crosswalks,
+        end.crosswalks,
         CROSSWALKS,
         marks,
         kept,
         out,
         e,
     );
-    list_table(map.rules, other.rules, RULES, marks, kept, out, f)
+    list_table(map.rules, end.rules, RULES, marks, kept, out, f)
 }
 
 // The three net lists, each from its front on, and how many there are of each.

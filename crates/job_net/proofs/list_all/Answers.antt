@@ -18,7 +18,7 @@ abbrev held : Start → Tables
 held s = view_rows s.args.map
 
 abbrev other : Start → Tables
-other s = view_rows s.args.other
+other s = view_rows s.args.end
 
 -- ---- what is written behind each call
 module _ (s : Start) where
